@@ -13,7 +13,7 @@ import sys
 
 TOP = os.path.join(os.path.dirname(os.path.abspath(__file__)), '..')
 HEART = ['rg_theory/specs/Solves.antt', 'rg_theory/specs/Class.antt', 'rg_apt/specs/Spells.antt',
-         'rg_net/specs/NetText.antt', 'rg_cert/specs/Text.antt', 'rg_refuting/specs/Refutes.antt']
+         'rg_net/specs/NetText.antt', 'rg_cert/specs/Text.antt', 'rg_cert_meaning/specs/Refutes.antt']
 
 
 def file_of(module):

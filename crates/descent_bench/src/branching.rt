@@ -5,9 +5,9 @@ ghost use Rattle.rg_linear.specs.Dictionary.{numbers_from};
 
 use crate::boxes::column;
 use crate::counting::{Ending, add_rows, descend};
+use rg_branch_trees::{Side, turn};
 use rg_dictionary::RelationTable;
 use rg_linear::System;
-use rg_splits::{Side, turn};
 use std::alloc::{AllocError, Global};
 
 /// How a branching ended, its nodes, its exchanges, and the rows of the table that they renewed.

@@ -12,7 +12,7 @@ use std::alloc::{AllocError, Global};
 // What came of a row.
 #[derive(Clone, Copy)]
 enum Step {
-    Passed,
+    Satisfied,
     Stuck,
     Exchanged { renewed: u32 },
     Wide,
@@ -88,7 +88,7 @@ pub(crate) fn descend(
             }
         } else {
             match take_row(table, &stack, row) {
-                Step::Passed => row += 1,
+                Step::Satisfied => row += 1,
                 Step::Stuck => {
                     counted.ending = Ending::Refuted;
                     break;
@@ -115,11 +115,11 @@ fn take_row(table: &mut RelationTable, stack: &[u32], pivot: u32) -> Step
     ensures { table.new.columns ≡ table.old.columns }
 {
     if pivot >= table.variables() || table.contains(pivot) {
-        return Step::Passed;
+        return Step::Satisfied;
     }
     let numbers = table.numbers(pivot);
     if numbers[1] >= 0 {
-        return Step::Passed;
+        return Step::Satisfied;
     }
     let Some(index) = least_free(table.members(), stack, numbers) else {
         return Step::Stuck;

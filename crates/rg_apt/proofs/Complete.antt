@@ -5,11 +5,11 @@ use Rattle.std.proofs.lemmas.Bool.{or_cases}
 use Rattle.rg_lexer.specs.Lexeme.{Lexeme}
 use Rattle.rg_lexer.specs.declared.token.Kind.{Kind}
 use Rattle.rg_lexer.specs.declared.token.Kind.TheVariants.{Name, Word, Text, LeftBracket}
-use Rattle.rg_items.specs.Entry.{IsEntry, IsWord}
-use Rattle.rg_items.specs.ListPosition.{first_key}
-use Rattle.rg_items.specs.Grammar.{leads_all}
-use Rattle.rg_items.proofs.Complete.{Tail, tail_of_more, tail_more, After, after_of_more, after_of_list, entry_more, ListCompletes, list_token_in, same_bytes, other_bytes}
-use Rattle.rg_items.proofs.Complete as complete
+use Rattle.rg_grammar.specs.Entry.{IsEntry, IsWord}
+use Rattle.rg_grammar.specs.ListPosition.{first_key}
+use Rattle.rg_grammar.specs.Grammar.{leads_all}
+use Rattle.rg_grammar.proofs.Complete.{Tail, tail_of_more, tail_more, After, after_of_more, after_of_list, entry_more, ListCompletes, list_token_in, same_bytes, other_bytes}
+use Rattle.rg_grammar.proofs.Complete as complete
 use Rattle.rg_apt.specs.Item.{Triple, Item, IsTriple, AreItems, IsOtherWord, IsTypeName}
 use Rattle.rg_apt.specs.Item as item
 use Rattle.rg_apt.specs.Table.{Section, states, labels, arcs, Position, section, type_name, passed_text, in_section, after_entry, second, third, in_list, leads_by, after_word, after_name, is_type_name, may_end}

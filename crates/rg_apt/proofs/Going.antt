@@ -2,9 +2,9 @@
 use Rattle.std.proofs.Common.{◌≡◌, List, [], ◌∷◌, ◌++◌, Some, codes, refl}
 use Rattle.rg_lexer.specs.Lexeme.{Lexeme}
 use Rattle.rg_lexer.specs.declared.token.Kind.TheVariants.{Name, Text}
-use Rattle.rg_items.specs.Grammar.{leads_all}
-use Rattle.rg_items.specs.ListPosition.{first_key, next_key, after_key, value, after_value}
-use Rattle.rg_items.proofs.Going.{token, name, close, CanEnd, leads_on}
+use Rattle.rg_grammar.specs.Grammar.{leads_all}
+use Rattle.rg_grammar.specs.ListPosition.{first_key, next_key, after_key, value, after_value}
+use Rattle.rg_grammar.proofs.Going.{token, name, close, CanEnd, leads_on}
 use Rattle.rg_apt.specs.Item.{Item, AreItems}
 use Rattle.rg_apt.specs.Table.{Position, arcs, section, type_name, passed_text, in_section, after_entry, second, third, in_list}
 use Rattle.rg_apt.specs.Reading.{system_grammar}

@@ -1,9 +1,9 @@
 -- The table describes the items of a system file.
 use Rattle.std.proofs.Common.{◌≡◌, ℕ, ◌⊎◌, List}
 use Rattle.rg_lexer.specs.Lexeme.{Lexeme}
-use Rattle.rg_items.specs.declared.fault.ItemFault.{ItemFault}
-use Rattle.rg_items.proofs.Described.{Describes}
-use Rattle.rg_items.proofs.Described as described
+use Rattle.rg_grammar.specs.declared.fault.ItemFault.{ItemFault}
+use Rattle.rg_grammar.proofs.Described.{Describes}
+use Rattle.rg_grammar.proofs.Described as described
 use Rattle.rg_apt.specs.Item.{Item, AreItems}
 use Rattle.rg_apt.specs.Table.{Position}
 use Rattle.rg_apt.specs.Contents.{Declared, declared}

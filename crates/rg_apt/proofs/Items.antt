@@ -3,10 +3,10 @@ use Rattle.std.proofs.Common.{◌≡◌, ◌⊎◌, inl, inr, true, false, cond,
 use Rattle.std.specs.List.{list_any}
 use Rattle.rg_lexer.specs.Lexeme.{Lexeme}
 use Rattle.rg_lexer.specs.declared.token.Kind.TheVariants.{Name, Word, Text}
-use Rattle.rg_items.specs.Grammar.{Finds, read_on}
-use Rattle.rg_items.proofs.Moves.{take_all, each_move}
-use Rattle.rg_items.proofs.Words.{ItemPosition, word_moves, differ, or_false, or_true, or_assoc}
-use Rattle.rg_items.proofs.Words as words
+use Rattle.rg_grammar.specs.Grammar.{Finds, read_on}
+use Rattle.rg_grammar.proofs.Moves.{take_all, each_move}
+use Rattle.rg_grammar.proofs.Words.{ItemPosition, word_moves, differ, or_false, or_true, or_assoc}
+use Rattle.rg_grammar.proofs.Words as words
 use Rattle.rg_apt.specs.Item.{Item, IsItem, AreItems, IsOtherWord}
 use Rattle.rg_apt.specs.Item as item
 use Rattle.rg_apt.specs.Table.{Section, states, labels, arcs, Position, section, type_name, passed_text, in_section, after_entry, after_word, is_type_name}

@@ -9,10 +9,10 @@ use Rattle.rg_lexer.specs.declared.token.LexFault.{LexFault}
 use Rattle.rg_lexer.specs.declared.token.LexFault.TheVariants as lex
 use Rattle.rg_lexer.specs.Tokens.{FirstLexFault}
 use Rattle.rg_lexer.specs.Lexeme.{Lexeme}
-use Rattle.rg_items.specs.declared.fault.ItemFault.{ItemFault}
-use Rattle.rg_items.specs.declared.fault.ItemFault.TheVariants as item
-use Rattle.rg_items.specs.Text.{FirstItemFault, of_lexer, in_tokens, in_grammar}
-use Rattle.rg_items.specs.Grammar.{IsRefused}
+use Rattle.rg_grammar.specs.declared.fault.ItemFault.{ItemFault}
+use Rattle.rg_grammar.specs.declared.fault.ItemFault.TheVariants as item
+use Rattle.rg_grammar.specs.Text.{FirstItemFault, of_lexer, in_tokens, in_grammar}
+use Rattle.rg_grammar.specs.Grammar.{IsRefused}
 use Rattle.rg_apt.specs.Table.{Position, section, type_name, passed_text, in_section, after_entry, second, third, in_list, refusal_by}
 use Rattle.rg_apt.specs.Reading.{system_grammar}
 use Rattle.rg_apt.specs.declared.fault.TextFault.{TextFault}

@@ -11,8 +11,8 @@ use Rattle.rg_theory.specs.System.{System, IsArcInRange}
 use Rattle.rg_lexer.specs.Lexeme.{Lexeme}
 use Rattle.rg_lexer.specs.declared.token.Kind.TheVariants.{Name, Word, LeftBracket, RightBracket}
 use Rattle.rg_lexer.proofs.Printed.{Reads, Then, reads_lexemes, reads_same, reads_more, reads_end, reads_token, reads_blank, reads_name, reads_word, literal_name}
-use Rattle.rg_items.specs.Entry.{alone, Entry, IsEntry, AreEach}
-use Rattle.rg_items.proofs.Printed.{bare, NamesThen, reads_names}
+use Rattle.rg_grammar.specs.Entry.{alone, Entry, IsEntry, AreEach}
+use Rattle.rg_grammar.proofs.Printed.{bare, NamesThen, reads_names}
 use Rattle.rg_lts.specs.WellFormed.{IsWellFormed}
 use Rattle.rg_apt.specs.Item.{Triple, Item, IsTriple, AreItems}
 use Rattle.rg_apt.specs.Item as item

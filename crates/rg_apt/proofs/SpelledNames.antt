@@ -10,7 +10,7 @@ use Rattle.rg_lexer.specs.Piece.{IsToken}
 use Rattle.rg_lexer.specs.Tokens.{IsTokenOf}
 use Rattle.rg_lexer.specs.Lexeme.{Lexeme, lexeme, AreLexemes}
 use Rattle.rg_lexer.proofs.TokenSpans.{tokens_are_of}
-use Rattle.rg_items.specs.Entry.{Entry, IsEntry, AreEach}
+use Rattle.rg_grammar.specs.Entry.{Entry, IsEntry, AreEach}
 use Rattle.rg_apt.specs.Item.{Item, type, states, labels, arcs, other, IsItem, AreItems}
 use Rattle.rg_apt.specs.Contents.{StateEntry, states_in, labels_in, declared}
 use Rattle.rg_apt.specs.Built.{state_text, label_text}

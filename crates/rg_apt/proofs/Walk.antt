@@ -4,13 +4,13 @@ use Rattle.std.specs.List.{list_any}
 use Rattle.rg_lexer.specs.Lexeme.{Lexeme}
 use Rattle.rg_lexer.specs.declared.token.Kind.{Kind}
 use Rattle.rg_lexer.specs.declared.token.Kind.TheVariants.{Name, LeftBracket}
-use Rattle.rg_items.specs.Entry.{Setting, Entry, IsOptionally, IsEntry, AreEach}
-use Rattle.rg_items.specs.ListPosition.{first_key}
-use Rattle.rg_items.proofs.Last.{change_push}
-use Rattle.rg_items.proofs.Moves.{moves_both, moves_same, step, take_all, each_move}
-use Rattle.rg_items.proofs.Moves as moves
-use Rattle.rg_items.proofs.Lists.{HasLists, free_of, optional_move}
-use Rattle.rg_items.specs.declared.fault.ItemFault.{ItemFault}
+use Rattle.rg_grammar.specs.Entry.{Setting, Entry, IsOptionally, IsEntry, AreEach}
+use Rattle.rg_grammar.specs.ListPosition.{first_key}
+use Rattle.rg_grammar.proofs.Last.{change_push}
+use Rattle.rg_grammar.proofs.Moves.{moves_both, moves_same, step, take_all, each_move}
+use Rattle.rg_grammar.proofs.Moves as moves
+use Rattle.rg_grammar.proofs.Lists.{HasLists, free_of, optional_move}
+use Rattle.rg_grammar.specs.declared.fault.ItemFault.{ItemFault}
 use Rattle.rg_apt.specs.Item.{Triple, IsTriple}
 use Rattle.rg_apt.specs.Table.{Section, states, labels, arcs, Position, in_section, after_entry, second, third, in_list, leads_by}
 use Rattle.rg_apt.specs.Contents.{marks, StateEntry, ArcNames, Declared}

@@ -4,9 +4,9 @@ use Rattle.rg_text.specs.Faults.{IsFirst}
 use Rattle.rg_text.proofs.Left.{one_first, none_or_first, some_first}
 use Rattle.rg_theory.specs.System.{System}
 use Rattle.rg_lexer.specs.Lexeme.{Lexeme, AreLexemes}
-use Rattle.rg_items.specs.declared.fault.ItemFault.{ItemFault}
-use Rattle.rg_items.specs.Text.{FirstItemFault}
-use Rattle.rg_items.proofs.WholeTexts.{one_meaning, items_not_fault, one_first_fault as one_item_fault, items_or_fault}
+use Rattle.rg_grammar.specs.declared.fault.ItemFault.{ItemFault}
+use Rattle.rg_grammar.specs.Text.{FirstItemFault}
+use Rattle.rg_grammar.proofs.WholeTexts.{one_meaning, items_not_fault, one_first_fault as one_item_fault, items_or_fault}
 use Rattle.rg_apt.specs.declared.fault.TextFault.{TextFault}
 use Rattle.rg_apt.specs.Item.{Item, AreItems}
 use Rattle.rg_apt.specs.Reading.{system_grammar}

@@ -8,7 +8,7 @@ use Rattle.rg_theory.specs.System.{System, IsArcBefore}
 use Rattle.rg_lexer.specs.Lexeme.{Lexeme}
 use Rattle.rg_apt.specs.declared.fault.TextFault.{TextFault}
 use Rattle.rg_apt.specs.declared.fault.TextFault.TheVariants.{NoType, TwiceState, TwiceLabel, UnknownState, UnknownLabel, TwoInitial, NoInitial, TooManyStates, TooManyLabels, TooManyArcs}
-use Rattle.rg_items.specs.Entry.{Setting, alone, valued, Entry, value_text}
+use Rattle.rg_grammar.specs.Entry.{Setting, alone, valued, Entry, value_text}
 use Rattle.rg_text.specs.Faults.{faults_after, if_not}
 use Rattle.rg_apt.specs.Item.{Triple, Item, type, states, labels, arcs}
 

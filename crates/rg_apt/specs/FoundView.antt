@@ -2,7 +2,7 @@
 use Rattle.std.specs.Prelude.{ℕ, List, map, All}
 use Rattle.rg_lexer.specs.declared.token.Token.{Token}
 use Rattle.rg_lexer.specs.Lexeme.{Lexeme, lexeme}
-use Rattle.rg_items.specs.Entry.{IsNameOf}
+use Rattle.rg_grammar.specs.Entry.{IsNameOf}
 use Rattle.rg_apt.specs.declared.found.FoundState.{FoundState}
 use Rattle.rg_apt.specs.declared.found.FoundArc.{FoundArc}
 use Rattle.rg_apt.specs.declared.found.Found.{Found}

@@ -1,7 +1,7 @@
 -- The items of a system file.
 use Rattle.std.specs.Prelude.{◌≡◌, ◌≢◌, ◌⊎◌, List, [], ◌∷◌, codes}
 use Rattle.rg_lexer.specs.Lexeme.{Lexeme}
-use Rattle.rg_items.specs.Entry.{Setting, Entry, IsOptionally, IsEntry, AreEach, IsWord}
+use Rattle.rg_grammar.specs.Entry.{Setting, Entry, IsOptionally, IsEntry, AreEach, IsWord}
 use Rattle.rg_lexer.specs.declared.token.Kind.TheVariants.{Name, Word, Text}
 
 -- the three names of an arc, with its options

@@ -4,13 +4,13 @@ use Rattle.std.specs.Prelude.{ℕ, Bool, true, false, List, [], ◌∷◌, ◌++
 use Rattle.rg_lexer.specs.Lexeme.{Lexeme}
 use Rattle.rg_lexer.specs.declared.token.Kind.{Kind}
 use Rattle.rg_lexer.specs.declared.token.Kind.TheVariants.{Name}
-use Rattle.rg_items.specs.Entry.{Setting}
-use Rattle.rg_items.specs.ListPosition.{completed_by, with_completed}
-use Rattle.rg_items.specs.Grammar.{Grammar}
-use Rattle.rg_items.specs.Last.{change_last}
-use Rattle.rg_items.specs.Grammar as grammar
-use Rattle.rg_items.specs.declared.fault.ItemFault.{ItemFault}
-use Rattle.rg_items.specs.declared.fault.ItemFault.TheVariants.{Expected}
+use Rattle.rg_grammar.specs.Entry.{Setting}
+use Rattle.rg_grammar.specs.ListPosition.{completed_by, with_completed}
+use Rattle.rg_grammar.specs.Grammar.{Grammar}
+use Rattle.rg_grammar.specs.Last.{change_last}
+use Rattle.rg_grammar.specs.Grammar as grammar
+use Rattle.rg_grammar.specs.declared.fault.ItemFault.{ItemFault}
+use Rattle.rg_grammar.specs.declared.fault.ItemFault.TheVariants.{Expected}
 use Rattle.rg_apt.specs.Table.{Section, states, labels, arcs, Position, section, type_name, in_section, after_entry, third, in_list, wanted, may_end, leads, refusal_by}
 use Rattle.rg_apt.specs.Contents.{marks, StateEntry, Declared}
 

@@ -2,9 +2,9 @@
 use Rattle.std.specs.Prelude.{ℕ, List}
 use Rattle.rg_theory.specs.System.{System}
 use Rattle.rg_lexer.specs.Lexeme.{Lexeme, AreLexemes}
-use Rattle.rg_items.specs.declared.fault.ItemFault.{ItemFault}
-use Rattle.rg_items.specs.declared.fault.ItemFault.TheVariants as item
-use Rattle.rg_items.specs.Text.{FirstItemFault}
+use Rattle.rg_grammar.specs.declared.fault.ItemFault.{ItemFault}
+use Rattle.rg_grammar.specs.declared.fault.ItemFault.TheVariants as item
+use Rattle.rg_grammar.specs.Text.{FirstItemFault}
 use Rattle.rg_apt.specs.declared.fault.TextFault.{TextFault}
 use Rattle.rg_apt.specs.declared.fault.TextFault.TheVariants.{BadByte, OpenString, OpenComment, LongName, Expected, WrongType, NoMemory}
 use Rattle.rg_apt.specs.Item.{Item, AreItems}

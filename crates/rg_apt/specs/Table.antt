@@ -7,9 +7,9 @@ use Rattle.rg_lexer.specs.declared.token.Kind.{Kind}
 use Rattle.rg_lexer.specs.declared.token.Kind.TheVariants.{Name, Word, Text, LeftBracket}
 use Rattle.rg_lexer.specs.declared.token.Want.{Want}
 use Rattle.rg_lexer.specs.declared.token.Want.TheVariants as want
-use Rattle.rg_items.specs.ListPosition.{ListPosition, first_key, list_wanted, list_leads_by, list_to}
-use Rattle.rg_items.specs.declared.fault.ItemFault.{ItemFault}
-use Rattle.rg_items.specs.declared.fault.ItemFault.TheVariants.{Expected, WrongType}
+use Rattle.rg_grammar.specs.ListPosition.{ListPosition, first_key, list_wanted, list_leads_by, list_to}
+use Rattle.rg_grammar.specs.declared.fault.ItemFault.{ItemFault}
+use Rattle.rg_grammar.specs.declared.fault.ItemFault.TheVariants.{Expected, WrongType}
 
 pub data Section : Type 0 where
   states : Section

@@ -1,8 +1,8 @@
 -- How the code's positions are seen.
 use Rattle.std.specs.Prelude.{ℕ, List}
 use Rattle.rg_lexer.specs.Lexeme.{lexeme}
-use Rattle.rg_items.specs.Entry.{IsNameOf}
-use Rattle.rg_items.specs.ListView.{list_position_in, HoldsKey}
+use Rattle.rg_grammar.specs.Entry.{IsNameOf}
+use Rattle.rg_grammar.specs.ListView.{list_position_in, HoldsKey}
 use Rattle.rg_apt.specs.declared.position.Section.{Section}
 use Rattle.rg_apt.specs.declared.position.Section.TheVariants.{States, Labels, Arcs}
 use Rattle.rg_apt.specs.declared.position.Position.{Position}

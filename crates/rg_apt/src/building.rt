@@ -3,7 +3,7 @@ ghost use Rattle.std.specs.Prelude.{◌≡◌, ◌≢◌, ◌++◌, ◌∷◌, [
 ghost use Rattle.rg_text.specs.Byte.{IsName};
 ghost use Rattle.rg_theory.specs.declared.Arc.{Arc};
 ghost use Rattle.rg_lexer.specs.Lexeme.{Lexeme, lexeme};
-ghost use Rattle.rg_items.specs.Entry.{IsNameOf};
+ghost use Rattle.rg_grammar.specs.Entry.{IsNameOf};
 ghost use Rattle.rg_theory.specs.Limits.{most_states, most_labels};
 ghost use Rattle.rg_lts.specs.Draft.{Draft, blank, IsArcNamed, IsOtherInitial, IsStateNamed, AddsArc, IsWellFormedDraft};
 ghost use Rattle.rg_apt.specs.Contents.{StateEntry, ArcNames, Declared, state_fault, label_fault, arc_fault, faults, IsSystemOf};
@@ -14,7 +14,7 @@ ghost use Rattle.rg_apt.specs.declared.fault.TextFault.TheVariants as fault;
 
 use crate::fault::TextFault;
 use crate::found::{Found, FoundArc, FoundState};
-use rg_items::name_of;
+use rg_grammar::name_of;
 use rg_lexer::Token;
 use rg_lts::{Arc, BuildFault, Lts, LtsBuilder};
 use std::alloc::Global;

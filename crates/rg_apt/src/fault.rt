@@ -1,5 +1,5 @@
 //! Why a text spells no system.
-use rg_items::ItemFault;
+use rg_grammar::ItemFault;
 use rg_lexer::Want;
 
 /// The first fault of a text. Each position is the number of a byte, from 0.

@@ -2,21 +2,21 @@
 ghost use Rattle.std.specs.Prelude.{◌≡◌, ◌≤◌, ◌++◌, ◌∷◌, [], ◌&&◌, ℕ, List, length, map, All, IfErr, OnOk};
 ghost use Rattle.rg_lexer.specs.Lexeme.{lexeme};
 ghost use Rattle.rg_lexer.specs.Tokens.{IsTokenOf};
-ghost use Rattle.rg_items.specs.Entry.{IsNameOf};
+ghost use Rattle.rg_grammar.specs.Entry.{IsNameOf};
 ghost use Rattle.rg_apt.specs.Contents.{Declared, is_initial, is_true, marks};
-ghost use Rattle.rg_items.specs.ListView.{list_position_in, setting_in, HoldsKey, HoldsSetting};
+ghost use Rattle.rg_grammar.specs.ListView.{list_position_in, setting_in, HoldsKey, HoldsSetting};
 ghost use Rattle.rg_apt.specs.Reading.{marked, with_name, adds, mark_last, system_grammar};
 ghost use Rattle.rg_apt.specs.View.{section_in, position_in, HoldsTokens};
 ghost use Rattle.rg_apt.specs.Table.{type_name, in_section, after_entry, third, in_list};
 ghost use Rattle.rg_apt.specs.Table as table;
 ghost use Rattle.rg_apt.specs.FoundView.{state_in, states_in, labels_in, arcs_in, found_in, IsStateOf, HoldsNames};
-ghost use Rattle.rg_items.specs.declared.fault.ItemFault.TheVariants.{NoMemory};
+ghost use Rattle.rg_grammar.specs.declared.fault.ItemFault.TheVariants.{NoMemory};
 
 use crate::position::{
     Position, Section, from_entry, from_list, from_second, from_section, from_start, from_third,
     from_type, from_word, wanted,
 };
-use rg_items::{FoundSetting, ItemFault, ListPosition, Reader, completed, text_of, value_of};
+use rg_grammar::{FoundSetting, ItemFault, ListPosition, Reader, completed, text_of, value_of};
 use rg_lexer::{Kind, Token, Want};
 use std::alloc::Global;
 

@@ -1,10 +1,10 @@
 //! A text spells one system or has one first fault.
 ghost use Rattle.std.specs.Prelude.{◌≡◌, ℕ, ◌⊎◌, ◌++◌, List, Some, length};
-ghost use Rattle.rg_items.specs.Grammar.{leads_all};
+ghost use Rattle.rg_grammar.specs.Grammar.{leads_all};
 ghost use Rattle.rg_apt.specs.Table.{Position, section};
 ghost use Rattle.rg_theory.specs.System.{System};
 ghost use Rattle.rg_lexer.specs.Lexeme.{Lexeme};
-ghost use Rattle.rg_items.specs.declared.fault.ItemFault.{ItemFault};
+ghost use Rattle.rg_grammar.specs.declared.fault.ItemFault.{ItemFault};
 ghost use Rattle.rg_apt.specs.declared.fault.TextFault.{TextFault};
 ghost use Rattle.rg_apt.specs.declared.fault.TextFault.TheVariants.{NoMemory};
 ghost use Rattle.rg_apt.specs.Item.{Item, AreItems};

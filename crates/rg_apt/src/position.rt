@@ -5,10 +5,10 @@ ghost use Rattle.rg_apt.specs.Table.{wanted, after_word, is_type_name, after_nam
 ghost use Rattle.rg_apt.specs.Table as table;
 ghost use Rattle.rg_apt.specs.View.{section_in, position_in, HoldsTokens};
 ghost use Rattle.rg_lexer.specs.Tokens.{IsTokenOf};
-ghost use Rattle.rg_items.specs.Entry.{IsNameOf};
-ghost use Rattle.rg_items.specs.ListView.{list_position_in, HoldsKey};
+ghost use Rattle.rg_grammar.specs.Entry.{IsNameOf};
+ghost use Rattle.rg_grammar.specs.ListView.{list_position_in, HoldsKey};
 
-use rg_items::{ListPosition, ListStep, list_lead, list_wanted};
+use rg_grammar::{ListPosition, ListStep, list_lead, list_wanted};
 use rg_lexer::{Kind, Token, Want};
 
 /// The sections that declare.

@@ -7,7 +7,7 @@ ghost use Rattle.rg_apt.specs.declared.fault.TextFault.TheVariants.{NoMemory};
 use crate::building::build;
 use crate::fault::TextFault;
 use crate::found::Found;
-use rg_items::read;
+use rg_grammar::read;
 use rg_lts::Lts;
 use std::alloc::Global;
 

@@ -4,7 +4,7 @@ use Rattle.rg_theory.specs.System.{System, IsAllReachable}
 use Rattle.rg_theory.specs.Net.{Place}
 use Rattle.rg_theory.specs.declared.Problem.{Problem}
 use Rattle.rg_theory.specs.Problem.{IsProblem}
-use Rattle.rg_refuting.specs.Refutes.{Tree}
+use Rattle.rg_cert_meaning.specs.Refutes.{Tree}
 use Rattle.rg_outcome.specs.Solving.{Solved, Solved.refuted}
 use Rattle.rg_outcome.specs.Coming.{Separation.places, Separation.unsolvable, Separation.too_wide, IsFirstProblem, IsLeft, IsNext, IsDone, IsSound, ComesFrom, ComesFrom.keeps, ComesFrom.goes_on, ComesFrom.ends, ComesFrom.all_separated, ComesFrom.one_is_left}
 use Rattle.rg_outcome.specs.Blocks.{IsBlock, last_of, AfterBlock.kept_places, AfterBlock.refuted_one, TakenOver}

@@ -4,7 +4,7 @@ use Rattle.rg_theory.specs.System.{System}
 use Rattle.rg_theory.specs.Net.{Place}
 use Rattle.rg_theory.specs.declared.Problem.{Problem}
 use Rattle.rg_theory.specs.Problem.{IsProblem, SeparateAll}
-use Rattle.rg_refuting.specs.Refutes.{Tree}
+use Rattle.rg_cert_meaning.specs.Refutes.{Tree}
 use Rattle.rg_outcome.specs.Solving.{Solved, Solved.refuted, Solved.passed}
 use Rattle.rg_outcome.specs.Coming.{Separation, Separation.places, Separation.unsolvable, Separation.too_wide, IsFirstProblem, IsLeft, IsDone, ComesFrom, AllComeTo, PlacesSeparate, IsSound}
 use Rattle.rg_blocks.specs.declared.separation.SeparationOutcome.{SeparationOutcome}

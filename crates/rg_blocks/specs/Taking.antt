@@ -6,8 +6,8 @@ use Rattle.rg_theory.specs.declared.Problem.{Problem}
 use Rattle.rg_net.specs.Shown.{shown_place}
 use Rattle.rg_marks.specs.Tokens.{IsNarrow, AreTokens}
 use Rattle.rg_marks.specs.declared.region_place.RegionPlace.{RegionPlace}
-use Rattle.rg_refuting.specs.Refutes.{Tree}
-use Rattle.rg_order_of_work.specs.Shown.{Shown}
+use Rattle.rg_cert_meaning.specs.Refutes.{Tree}
+use Rattle.rg_case_folds.specs.Shown.{Shown}
 use Rattle.rg_outcome.specs.Solving.{Solved, Solved.placed, Solved.refuted, Solved.passed}
 use Rattle.rg_outcome.specs.Blocks.{AfterBlock.kept_places, AfterBlock.refuted_one, TakenOver}
 use Rattle.rg_blocks.specs.declared.solving.ProblemOutcome.{ProblemOutcome}

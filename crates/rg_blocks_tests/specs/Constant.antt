@@ -6,7 +6,7 @@ use Rattle.rg_theory.specs.declared.Problem.{Problem}
 use Rattle.rg_theory.specs.declared.Problem.TheVariants.{Event, States}
 use Rattle.rg_net.specs.Shown.{shown_place}
 use Rattle.rg_marks.specs.declared.region_place.RegionPlace.{RegionPlace}
-use Rattle.rg_order_of_work.specs.Shown.{Stage, Shown}
+use Rattle.rg_case_folds.specs.Shown.{Stage, Shown}
 use Rattle.rg_outcome.specs.Casing.{step_at}
 use Rattle.rg_outcome.specs.Solving.{Solved, Solved.placed, Solved.refuted, Solved.passed}
 

@@ -6,8 +6,8 @@ use Rattle.std.proofs.lemmas.List.Elements.{All-append, All-nil}
 use Rattle.rg_fraction.specs.declared.fraction.Fraction.{Fraction}
 use Rattle.rg_linear.specs.System.{LinearSystem}
 use Rattle.rg_linear.specs.Descent.{WideAt, Outcome.wide, DescentFromStart}
-use Rattle.rg_splits.specs.Trees.{Tree.split, low_side, high_side, Tree.leaf, TreeNode.leaf_node, TreeNode.split_node, preorder}
-use Rattle.rg_splits.specs.Turning.{turned_back, turned}
+use Rattle.rg_branch_trees.specs.Trees.{Tree.split, low_side, high_side, Tree.leaf, TreeNode.leaf_node, TreeNode.split_node, preorder}
+use Rattle.rg_branch_trees.specs.Turning.{turned_back, turned}
 use Rattle.rg_linear.specs.Branching.{Form, SplitSide, SplitTree, Weight, node_system, BranchOutcome}
 use Rattle.rg_linear.specs.Branching.{BranchOutcome.found, BranchOutcome.tree, BranchOutcome.stopped, IsEnd, BranchFrom, BranchFrom.passes, BranchFrom.refutes}
 use Rattle.rg_linear.specs.Branching.{BranchFrom.whole, BranchFrom.low_ends, BranchFrom.high_ends, BranchFrom.both_refuted, Branching, AreBounded, low_at, high_at}

@@ -13,7 +13,7 @@ use Rattle.rg_linear.proofs.Splits.{front_row, index-neg}
 use Rattle.rg_linear.specs.declared.row.Row.{Row}
 use Rattle.rg_linear.specs.View.{linear_row, IsWellFormed}
 use Rattle.rg_branch.specs.declared.bounded.Bounded.{Bounded}
-use Rattle.rg_splits.specs.Turning.{turned_back, turned}
+use Rattle.rg_branch_trees.specs.Turning.{turned_back, turned}
 use Rattle.rg_branch.specs.View.{form_of, forms_of}
 use Rattle.rg_branch.specs.Asked.{IsFormOf, CanBranch, IsSideOf, AreSidesOf}
 use Rattle.rg_branch.proofs.Orders.{product_between, high_constant}

@@ -1,6 +1,6 @@
 -- How much of a tree is left to do, a number that no code computes.
 use Rattle.std.specs.Prelude.{ℕ, ◌+◌, ◌^◌, if◌then◌else◌, List, [], ◌∷◌, ◌++◌, reverse}
-use Rattle.rg_splits.specs.Trees.{high_side}
+use Rattle.rg_branch_trees.specs.Trees.{high_side}
 use Rattle.rg_linear.specs.Branching.{Form, SplitSide}
 use Rattle.rg_linear.specs.Room.{room}
 

@@ -1,8 +1,8 @@
 //! The splits above a node.
 ghost use Rattle.std.specs.Prelude.{◌≡◌, ◌++◌, ◌∷◌, [], map, OnOk};
 ghost use Rattle.rg_linear.specs.System.{LinearSystem};
-ghost use Rattle.rg_splits.specs.Trees.{low_side};
-ghost use Rattle.rg_splits.specs.Turning.{turned};
+ghost use Rattle.rg_branch_trees.specs.Trees.{low_side};
+ghost use Rattle.rg_branch_trees.specs.Turning.{turned};
 ghost use Rattle.rg_linear.specs.Branching.{side_row};
 ghost use Rattle.rg_linear.specs.View.{linear_row};
 ghost use Rattle.rg_branch.specs.View.{forms_of};
@@ -10,9 +10,9 @@ ghost use Rattle.rg_branch.specs.Asked.{CanBranch, IsSideOf, AreSidesOf, HasRows
 
 use crate::bounded::Bounded;
 use crate::side::side_row;
+use rg_branch_trees::{Side, turn};
 use rg_linear::Row;
 use rg_memory::NoMemory;
-use rg_splits::{Side, turn};
 use std::alloc::Global;
 
 // The splits above a node, outermost first, and their rows.

@@ -2,10 +2,10 @@
 ghost use Rattle.std.specs.Prelude.{◌≡◌};
 ghost use Rattle.rg_branch.specs.declared.whole.BranchStop.TheVariants as stop;
 
+use rg_branch_trees::Side;
 use rg_feasible::PivotWide;
 use rg_fraction::Fraction;
 use rg_memory::NoMemory;
-use rg_splits::Side;
 use std::alloc::AllocFailed;
 
 /// A point with whole forms, or a tree that leaves none.

@@ -5,10 +5,10 @@ ghost use Rattle.rg_feasible.specs.Settling.{IsWhole, IsRefutation};
 
 use crate::systems::{Told, system};
 use rg_branch::{Bounded, RawNode, Whole};
+use rg_branch_trees::Side;
 use rg_feasible::{Dictionary, Settled};
 use rg_fraction::Fraction;
 use rg_linear::{Row, System};
-use rg_splits::Side;
 use std::alloc::{AllocError, Global};
 use std::test::Fail;
 

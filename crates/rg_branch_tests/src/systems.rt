@@ -4,8 +4,8 @@ ghost use Rattle.rg_integers.specs.Range.{InRange};
 ghost use Rattle.rg_linear.specs.View.{linear_row};
 
 use rg_branch::Bounded;
+use rg_branch_trees::Side;
 use rg_linear::{Row, System};
-use rg_splits::Side;
 use std::alloc::{AllocError, Global};
 use std::sync::ArcSlice;
 

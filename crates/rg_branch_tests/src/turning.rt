@@ -1,6 +1,6 @@
 //! The way from one node of a tree of splits to the next.
 use crate::systems::sides;
-use rg_splits::turn;
+use rg_branch_trees::turn;
 use std::test::Fail;
 
 // The splits above a node, outermost first.

@@ -12,8 +12,8 @@ use Rattle.rg_integers.specs.Sum.{number_at}
 use Rattle.rg_linear.specs.Dictionary.{numbers_from}
 use Rattle.rg_linear.specs.Cycle.{vector_at}
 use Rattle.rg_linear.proofs.Members.{length-numbers_from}
-use Rattle.rg_order_of_work.specs.Chords.{chord_vector, chord_vectors}
-use Rattle.rg_order_of_work.proofs.Potentials.{chord_is_arc}
+use Rattle.rg_case_folds.specs.Chords.{chord_vector, chord_vectors}
+use Rattle.rg_case_folds.proofs.Potentials.{chord_is_arc}
 use Rattle.rg_cycles.specs.Vectors.{numbers_in, AreVectors}
 
 numbers_next : (a n : ℕ) → numbers_from a (suc n) ≡ numbers_from a n ++ (a + n) ∷ []

@@ -6,11 +6,11 @@ use Rattle.std.proofs.lemmas.List.Elements.{All-head, All-tail}
 use Rattle.std.proofs.lemmas.Option.{same_Some, none-some}
 use Rattle.rg_theory.specs.declared.Arc.{Arc}
 use Rattle.rg_integers.specs.Range.{InRange}
-use Rattle.rg_refuting.specs.Expression.{Term as SumTerm, same_variable, coefficient_in}
-use Rattle.rg_refuting.specs.declared.Variable.{Variable}
-use Rattle.rg_order_of_work.specs.Rewriting.{variable_start, variable_count, start_of, count_of}
-use Rattle.rg_reasons.specs.declared.term.Term.{Term}
-use Rattle.rg_reasons.specs.Sums.{term_of, terms_in}
+use Rattle.rg_cert_meaning.specs.Expression.{Term as SumTerm, same_variable, coefficient_in}
+use Rattle.rg_cert_meaning.specs.declared.Variable.{Variable}
+use Rattle.rg_case_folds.specs.Rewriting.{variable_start, variable_count, start_of, count_of}
+use Rattle.rg_cert_data.specs.declared.term.Term.{Term}
+use Rattle.rg_cert_data.specs.Sums.{term_of, terms_in}
 
 part : (a b c : ℤ) → (a +ℤ b) +ℤ c ≡ a +ℤ (b +ℤ c)
 part a b c = omega (arith, ints)

@@ -4,7 +4,7 @@ use Rattle.std.proofs.lemmas.Bool.{cases_Bool, true≢false}
 use Rattle.std.proofs.lemmas.List.{take_more, get_or-set_other}
 use Rattle.std.proofs.lemmas.Grind.{get_or-set_at}
 use Rattle.rg_theory.specs.declared.Arc.{Arc}
-use Rattle.rg_order_of_work.specs.Rewriting.{has_label}
+use Rattle.rg_case_folds.specs.Rewriting.{has_label}
 
 -- one arc more
 label_more : (t : ℕ) (arcs : List Arc) (a : Arc) → has_label t (arcs ++ a ∷ []) ≡ (if a.label == t then true else has_label t arcs)

@@ -7,9 +7,9 @@ use Rattle.std.proofs.Math.Seq.{drop-cons}
 use Rattle.rg_theory.specs.declared.Class.{Class}
 use Rattle.rg_theory.specs.System.{System, labels}
 use Rattle.rg_linear.specs.Cycle.{CycleBasis}
-use Rattle.rg_order_of_work.specs.Fold.{Ratio, whole}
-use Rattle.rg_order_of_work.specs.Rewriting.{is_in, has_label, numbers_where, free_labels, free_columns, has_start, pick, coefficient_fold, substitute_fold, columns_of, column_count}
-use Rattle.rg_order_of_work.proofs.Items.{each_length}
+use Rattle.rg_case_folds.specs.Fold.{Ratio, whole}
+use Rattle.rg_case_folds.specs.Rewriting.{is_in, has_label, numbers_where, free_labels, free_columns, has_start, pick, coefficient_fold, substitute_fold, columns_of, column_count}
+use Rattle.rg_case_folds.proofs.Items.{each_length}
 use Rattle.rg_case_parts.specs.declared.columns.Columns.{Columns}
 use Rattle.rg_case_parts.specs.ColumnViews.{AreColumns}
 

@@ -9,9 +9,9 @@ use Rattle.rg_theory.specs.System.{System, states, IsArcBefore, IsInRange}
 use Rattle.rg_theory.proofs.Arcs.{arc_in_range}
 use Rattle.rg_linear.proofs.Counting.{same_members}
 use Rattle.rg_linear.proofs.Members.{Contains-here, Contains-there, Contains-cons_cases, Contains-nil, IsInOrder}
-use Rattle.rg_order_of_work.specs.Rewriting.{has_label_at, states_with}
-use Rattle.rg_order_of_work.proofs.Lists.{where_is, where_has}
-use Rattle.rg_order_of_work.proofs.Names.{found_at}
+use Rattle.rg_case_folds.specs.Rewriting.{has_label_at, states_with}
+use Rattle.rg_case_folds.proofs.Lists.{where_is, where_has}
+use Rattle.rg_case_folds.proofs.Names.{found_at}
 use Rattle.rg_cycles.proofs.Labels.{where_order}
 
 -- ---- one arc more

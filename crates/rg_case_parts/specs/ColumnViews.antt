@@ -2,7 +2,7 @@
 use Rattle.std.specs.Prelude.{◌≡◌, ℕ, ◌<◌, Bool, false, List, length, slice_index_or}
 use Rattle.rg_theory.specs.declared.Class.{Class}
 use Rattle.rg_theory.specs.System.{System, labels}
-use Rattle.rg_order_of_work.specs.Rewriting.{has_label, has_start}
+use Rattle.rg_case_folds.specs.Rewriting.{has_label, has_start}
 use Rattle.rg_case_parts.specs.declared.columns.Columns.{Columns}
 
 -- of each label whether it has an arc

@@ -1,6 +1,6 @@
 -- How a setting and a case of it that code holds are seen.
 use Rattle.rg_cycles.specs.View.{cycle_of}
-use Rattle.rg_order_of_work.specs.Setting.{Setting, CaseSetting, setting_at, case_at}
+use Rattle.rg_case_folds.specs.Setting.{Setting, CaseSetting, setting_at, case_at}
 use Rattle.rg_case_parts.specs.declared.setting.Setting.{Setting as HeldSetting}
 use Rattle.rg_case_parts.specs.declared.setting.CaseSetting.{CaseSetting as HeldCase}
 

@@ -1,8 +1,8 @@
 -- Which states terms may name.
 use Rattle.std.specs.Prelude.{ℕ, ◌<◌}
-use Rattle.rg_refuting.specs.Expression.{Term}
-use Rattle.rg_refuting.specs.declared.Variable.{Variable}
-use Rattle.rg_refuting.specs.declared.Variable.TheVariants.{Tokens, Effect}
+use Rattle.rg_cert_meaning.specs.Expression.{Term}
+use Rattle.rg_cert_meaning.specs.declared.Variable.{Variable}
+use Rattle.rg_cert_meaning.specs.declared.Variable.TheVariants.{Tokens, Effect}
 
 -- a state that the variable names is one of so many
 abbrev pub NamesStateBelow : ℕ → Variable → Type 0

@@ -1,5 +1,5 @@
 -- How numbers without denominators are seen.
-use Rattle.rg_order_of_work.specs.Rewriting.{Scaled as ScaledNumbers}
+use Rattle.rg_case_folds.specs.Rewriting.{Scaled as ScaledNumbers}
 use Rattle.rg_case_parts.specs.declared.scaled.Scaled.{Scaled}
 
 -- the multiple and the numbers

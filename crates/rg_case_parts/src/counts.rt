@@ -1,13 +1,13 @@
 //! How often Start and a label count in terms: the tokens at a state are Start and the effects on the way to it.
 ghost use Rattle.std.specs.Prelude.{◌≡◌, ◌<◌, ◌^◌, pos, negsuc, neg_ℤ, ◌*ℤ◌, ◌≤ℤ◌, ◌<ℤ◌, All};
 ghost use Rattle.rg_integers.specs.Range.{InRange};
-ghost use Rattle.rg_order_of_work.specs.Rewriting.{variable_start, variable_count, start_of, count_of};
-ghost use Rattle.rg_reasons.specs.Sums.{term_of, expression_of};
+ghost use Rattle.rg_case_folds.specs.Rewriting.{variable_start, variable_count, start_of, count_of};
+ghost use Rattle.rg_cert_data.specs.Sums.{term_of, expression_of};
 ghost use Rattle.rg_case_parts.specs.StatesNamed.{NamesStateBelow, TermNamesStateBelow};
 
-use rg_reasons::Expression;
-use rg_reasons::Term::{self, Minus, Plus};
-use rg_refuting::Variable;
+use rg_cert_data::Expression;
+use rg_cert_data::Term::{self, Minus, Plus};
+use rg_cert_meaning::Variable;
 use rg_spanning::Tree;
 
 /// How often Start, the tokens of the initial state, counts in the terms: once in the tokens at each state, and

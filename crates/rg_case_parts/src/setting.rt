@@ -1,9 +1,9 @@
 //! What all problems of a system share, and one case of a problem.
 ghost use Rattle.std.specs.Prelude.{◌≡◌};
 
+use rg_cert_data::ProblemCase;
 use rg_cycles::Basis;
 use rg_lts::Lts;
-use rg_reasons::ProblemCase;
 use rg_spanning::Tree;
 use rg_theory::{Class, Problem};
 

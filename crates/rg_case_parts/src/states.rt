@@ -1,6 +1,6 @@
 //! The states with an arc of a label.
 ghost use Rattle.std.specs.Prelude.{◌≡◌, IfOk};
-ghost use Rattle.rg_order_of_work.specs.Rewriting.{states_with};
+ghost use Rattle.rg_case_folds.specs.Rewriting.{states_with};
 
 use rg_lts::Lts;
 use std::alloc::{AllocError, Global};

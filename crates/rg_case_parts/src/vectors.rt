@@ -7,7 +7,7 @@ ghost use Rattle.rg_theory.specs.Tree.{chord_entry};
 ghost use Rattle.rg_integers.specs.Range.{InRange};
 ghost use Rattle.rg_linear.specs.Dictionary.{numbers_from};
 ghost use Rattle.rg_spanning.specs.Spanning.{IsTreeOf};
-ghost use Rattle.rg_order_of_work.specs.Chords.{chord_vectors};
+ghost use Rattle.rg_case_folds.specs.Chords.{chord_vectors};
 ghost use Rattle.rg_cycles.specs.Vectors.{numbers_in, AreVectors};
 
 use rg_lts::{Arc, Lts};

@@ -12,12 +12,12 @@ use Rattle.rg_theory.specs.declared.Class.{Class}
 use Rattle.rg_theory.specs.declared.Problem.TheVariants.{Event, States}
 use Rattle.rg_theory.specs.ClassWords.{NamesClass}
 use Rattle.rg_lts.specs.WellFormed.{AreNames, IsWellFormed}
-use Rattle.rg_refuting.specs.declared.Form.{Form}
-use Rattle.rg_refuting.specs.Refutes as refutes
-use Rattle.rg_splits.specs.Trees.{Tree.leaf, Tree.split, TreeNode.leaf_node, TreeNode.split_node, preorder}
-use Rattle.rg_refuting.specs.Refutes.{NamedRow, Tree}
-use Rattle.rg_reasons.specs.Trees.{TreeNode}
-use Rattle.rg_reasons.specs.Certificates.{Claim, IsMultiplierInRange, IsRowOf, IsNodeOf, IsTreeOf, IsReasonOf}
+use Rattle.rg_cert_meaning.specs.declared.Form.{Form}
+use Rattle.rg_cert_meaning.specs.Refutes as refutes
+use Rattle.rg_branch_trees.specs.Trees.{Tree.leaf, Tree.split, TreeNode.leaf_node, TreeNode.split_node, preorder}
+use Rattle.rg_cert_meaning.specs.Refutes.{NamedRow, Tree}
+use Rattle.rg_cert_data.specs.Trees.{TreeNode}
+use Rattle.rg_cert_data.specs.Certificates.{Claim, IsMultiplierInRange, IsRowOf, IsNodeOf, IsTreeOf, IsReasonOf}
 use Rattle.rg_cert.specs.Text.{Version, version_one, version_two, heading, class_version, splits_start, reason_nodes, asks_two, state_name, label_name}
 use Rattle.rg_cert.specs.Text.{Subject, of_none, of_arc, of_state, of_label, of_depth, word_and_subject, subject_fields, named_fields, form_fields, node_lines, case_lines, reason_lines, spaced, cert_lines}
 use Rattle.rg_cert.specs.Lines.{HasFieldForm, AreAsked, LineForm, heading_line, class_line, unreachable_line, fork_line, event_line, states_line, case_line}
@@ -29,7 +29,7 @@ use Rattle.rg_cert.specs.Drafts.{Head, of_unreachable, of_fork, of_event, of_sta
 use Rattle.rg_cert.proofs.Decimal.{written_numeral}
 use Rattle.rg_cert.proofs.LineTexts.{fields_are}
 use Rattle.rg_cert.proofs.Words.{IsSubjectOf, IsWordOf, word_of, subject_is}
-use Rattle.rg_refuting.specs.declared.Form.TheVariants as split_form
+use Rattle.rg_cert_meaning.specs.declared.Form.TheVariants as split_form
 
 -- the line with these texts is right in itself, and leads from a position to the next
 pub record TextsLead (lts : System) (position : Position) (texts : List (List ℕ)) (next : Position) : Type 0 where

@@ -8,18 +8,18 @@ use Rattle.std.proofs.lemmas.Grind.{flat_map-append}
 use Rattle.std.proofs.lemmas.List.{map-append}
 use Rattle.std.proofs.lemmas.List.Elements.{All-push, All-nil}
 use Rattle.rg_theory.specs.System.{System}
-use Rattle.rg_refuting.specs.declared.Form.{Form}
-use Rattle.rg_refuting.specs.Refutes.{NamedRow}
-use Rattle.rg_splits.specs.Trees.{TreeNode.leaf_node, TreeNode.split_node}
-use Rattle.rg_reasons.specs.Trees.{TreeNode}
-use Rattle.rg_reasons.specs.Certificates.{IsRowOf}
+use Rattle.rg_cert_meaning.specs.declared.Form.{Form}
+use Rattle.rg_cert_meaning.specs.Refutes.{NamedRow}
+use Rattle.rg_branch_trees.specs.Trees.{TreeNode.leaf_node, TreeNode.split_node}
+use Rattle.rg_cert_data.specs.Trees.{TreeNode}
+use Rattle.rg_cert_data.specs.Certificates.{IsRowOf}
 use Rattle.rg_cert.specs.Text.{Version, version_one, version_two, splits_start, named_fields, node_lines}
 use Rattle.rg_cert.specs.Lines.{word, HasFieldForm, AreAsked, LineForm, heading_line, class_line, unreachable_line, fork_line, event_line, states_line, case_line}
 use Rattle.rg_cert.specs.Lines.{split_tokens_line, split_effect_line, split_start_line, leaf_line, row_line, end_line, fields_of, Count, one, several, Position}
 use Rattle.rg_cert.specs.Lines.{at_heading, at_class, at_reason, at_last, at_one_case, at_cases, at_node, at_row, at_end, Next, to, long, if_two, follows}
 use Rattle.rg_cert.specs.Drafts.{Head, of_unreachable, of_fork, of_event, of_states, after_head, Draft, blank, leaf_closed, case_closed, with_split, IsSplitLine, Adds, nodes_lines, draft_lines, IsNodeIn, IsCase, IsCount, IsInTree, HasCases, IsDraftAt, due_at}
 use Rattle.rg_cert.proofs.Opened.{open_start, open_leaf, open_split, open_whole}
-use Rattle.rg_refuting.specs.declared.Form.TheVariants as split_form
+use Rattle.rg_cert_meaning.specs.declared.Form.TheVariants as split_form
 
 -- the draft is right at the position, and has these lines
 abbrev pub IsDrafted : System → Version → Head → Position → Draft → List (List (List ℕ)) → Type 0

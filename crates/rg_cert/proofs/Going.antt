@@ -6,7 +6,7 @@ use Rattle.rg_theory.specs.declared.Class.{Class}
 use Rattle.rg_theory.specs.ClassWords.{class_text}
 use Rattle.rg_theory.proofs.ClassWritten.{written}
 use Rattle.rg_lts.specs.WellFormed.{IsWellFormed}
-use Rattle.rg_reasons.specs.Certificates.{Claim}
+use Rattle.rg_cert_data.specs.Certificates.{Claim}
 use Rattle.rg_cert.specs.Text.{Version, version_one, spaced}
 use Rattle.rg_cert.specs.Spells.{Spells}
 use Rattle.rg_cert.specs.Lines.{leaf_line, case_line, Count, one, several, Position, at_heading, at_class, at_reason, at_last, at_one_case, at_cases, at_node, at_row, at_end, to, follows}

@@ -9,9 +9,9 @@ use Rattle.rg_theory.proofs.ClassBytes.{named_bound}
 use Rattle.rg_lts.specs.WellFormed.{IsWellFormed}
 use Rattle.rg_cert.specs.declared.fault.CertFault.{CertFault}
 use Rattle.rg_cert.specs.declared.fault.CertFault.TheVariants.{Expected}
-use Rattle.rg_reasons.specs.declared.certificate.Certificate.{Certificate}
-use Rattle.rg_reasons.specs.declared.certificate.Reason.{Reason}
-use Rattle.rg_reasons.specs.Certificates.{claim_of, reason_of, IsClaimOf, IsCertificateOf}
+use Rattle.rg_cert_data.specs.declared.certificate.Certificate.{Certificate}
+use Rattle.rg_cert_data.specs.declared.certificate.Reason.{Reason}
+use Rattle.rg_cert_data.specs.Certificates.{claim_of, reason_of, IsClaimOf, IsCertificateOf}
 use Rattle.rg_cert.specs.Text.{Version, heading, spaced, cert_lines, text_with}
 use Rattle.rg_cert.specs.Spells.{Spells}
 use Rattle.rg_cert.specs.Lines.{at_heading, at_class, at_reason}

@@ -15,12 +15,12 @@ use Rattle.rg_theory.specs.declared.Problem.TheVariants.{Event, States}
 use Rattle.rg_theory.specs.ClassWords.{NamesClass}
 use Rattle.rg_theory.proofs.ClassTold.{one_class}
 use Rattle.rg_lts.specs.WellFormed.{AreNames, IsWellFormed}
-use Rattle.rg_refuting.specs.declared.Form.{Form}
-use Rattle.rg_refuting.specs.declared.RowName.{RowName}
-use Rattle.rg_refuting.specs.Refutes as refutes
-use Rattle.rg_splits.specs.Trees.{Tree.leaf, Tree.split, TreeNode.leaf_node, TreeNode.split_node, preorder}
-use Rattle.rg_refuting.specs.Refutes.{NamedRow, Tree}
-use Rattle.rg_reasons.specs.Certificates.{Claim, IsRowNameOf, IsRowOf, IsFormOf, IsNodeOf, IsTreeOf, IsReasonOf, IsClaimOf}
+use Rattle.rg_cert_meaning.specs.declared.Form.{Form}
+use Rattle.rg_cert_meaning.specs.declared.RowName.{RowName}
+use Rattle.rg_cert_meaning.specs.Refutes as refutes
+use Rattle.rg_branch_trees.specs.Trees.{Tree.leaf, Tree.split, TreeNode.leaf_node, TreeNode.split_node, preorder}
+use Rattle.rg_cert_meaning.specs.Refutes.{NamedRow, Tree}
+use Rattle.rg_cert_data.specs.Certificates.{Claim, IsRowNameOf, IsRowOf, IsFormOf, IsNodeOf, IsTreeOf, IsReasonOf, IsClaimOf}
 use Rattle.rg_cert.specs.Text.{Version, state_name, label_name, row_fields, named_fields, form_fields, node_lines, case_lines, reason_lines, spaced, cert_lines, text_with, cert_text}
 use Rattle.rg_cert.specs.Spells.{Spells}
 use Rattle.rg_cert.specs.Numerals.{IsNumeral}
@@ -32,8 +32,8 @@ use Rattle.rg_cert.specs.declared.fault.CertFault.{CertFault}
 use Rattle.rg_cert.specs.Faults.{FirstFault}
 use Rattle.rg_cert.proofs.OneFault.{one_walk, no_fault}
 use Rattle.rg_cert.proofs.Printed.{text_spells}
-use Rattle.rg_refuting.specs.declared.RowName.TheVariants as row_name
-use Rattle.rg_refuting.specs.declared.Form.TheVariants as split_form
+use Rattle.rg_cert_meaning.specs.declared.RowName.TheVariants as row_name
+use Rattle.rg_cert_meaning.specs.declared.Form.TheVariants as split_form
 
 told_back : (xs : List (List (List ℕ))) → All IsTold xs → map fields (map spaced xs) ≡ xs
 told_back [] told = refl

@@ -2,10 +2,10 @@
 use Rattle.std.proofs.Common.{ℕ, suc, List, [], ◌∷◌, ◌++◌, append-nil, append_assoc, refl, sym, ap, ◌∙◌, arith}
 use Rattle.std.specs.List.{flat_map}
 use Rattle.std.specs.Prelude.{ℤ}
-use Rattle.rg_refuting.specs.declared.Form.{Form}
-use Rattle.rg_splits.specs.Trees.{Tree.leaf, Tree.split, TreeNode.leaf_node, TreeNode.split_node, preorder}
-use Rattle.rg_refuting.specs.Refutes.{NamedRow, Tree}
-use Rattle.rg_reasons.specs.Trees.{TreeNode, IsWholeTree}
+use Rattle.rg_cert_meaning.specs.declared.Form.{Form}
+use Rattle.rg_branch_trees.specs.Trees.{Tree.leaf, Tree.split, TreeNode.leaf_node, TreeNode.split_node, preorder}
+use Rattle.rg_cert_meaning.specs.Refutes.{NamedRow, Tree}
+use Rattle.rg_cert_data.specs.Trees.{TreeNode, IsWholeTree}
 use Rattle.rg_cert.specs.Drafts.{IsOpen}
 
 -- no node yet, and one tree due

@@ -8,11 +8,11 @@ use Rattle.rg_text.specs.Line.{fed}
 use Rattle.rg_theory.specs.System.{System}
 use Rattle.rg_theory.specs.ClassWords.{class_text}
 use Rattle.rg_theory.proofs.ClassWritten.{written}
-use Rattle.rg_reasons.specs.declared.certificate.Case.{Case}
-use Rattle.rg_reasons.specs.declared.certificate.Reason.{Reason}
-use Rattle.rg_reasons.specs.declared.certificate.Reason.TheVariants.{Unreachable, Fork, Event, States}
-use Rattle.rg_reasons.specs.Trees.{nodes_of}
-use Rattle.rg_reasons.specs.Certificates.{Claim, reason_of, case_tree, IsWhole, HasWholeCases, IsNodeOf, IsTreeOf, IsReasonOf, IsClaimOf}
+use Rattle.rg_cert_data.specs.declared.certificate.Case.{Case}
+use Rattle.rg_cert_data.specs.declared.certificate.Reason.{Reason}
+use Rattle.rg_cert_data.specs.declared.certificate.Reason.TheVariants.{Unreachable, Fork, Event, States}
+use Rattle.rg_cert_data.specs.Trees.{nodes_of}
+use Rattle.rg_cert_data.specs.Certificates.{Claim, reason_of, case_tree, IsWhole, HasWholeCases, IsNodeOf, IsTreeOf, IsReasonOf, IsClaimOf}
 use Rattle.rg_cert.specs.Text.{Version, version_one, version_two, heading, version_of, asks_two, reason_lines, spaced, cert_lines, text_with, cert_text}
 use Rattle.rg_cert.specs.Spells.{Spells}
 use Rattle.rg_cert.specs.Drafts.{head_fields, IsHeadOf, nodes_lines, IsNodeIn, IsCase}

@@ -13,14 +13,14 @@ use Rattle.rg_theory.specs.declared.Problem.TheVariants.{Event, States}
 use Rattle.rg_theory.specs.ClassWords.{NamesClass}
 use Rattle.rg_theory.proofs.ClassBytes.{named_bound}
 use Rattle.rg_theory.proofs.ClassDecided.{Decided}
-use Rattle.rg_refuting.specs.declared.Form.{Form}
-use Rattle.rg_refuting.specs.Refutes as refutes
-use Rattle.rg_refuting.specs.Refutes.{NamedRow, Tree}
+use Rattle.rg_cert_meaning.specs.declared.Form.{Form}
+use Rattle.rg_cert_meaning.specs.Refutes as refutes
+use Rattle.rg_cert_meaning.specs.Refutes.{NamedRow, Tree}
 use Rattle.rg_cert.specs.declared.fault.CertFault.{CertFault}
 use Rattle.rg_cert.specs.declared.fault.CertFault.TheVariants.{Expected, UnknownName, NumberPasses, TreeShort, TreeLong}
-use Rattle.rg_splits.specs.Trees.{preorder}
-use Rattle.rg_reasons.specs.Trees.{TreeNode}
-use Rattle.rg_reasons.specs.Certificates.{Claim, IsMultiplierInRange, IsSplitInRange, IsRowOf, IsNodeOf, IsTreeOf, IsReasonOf}
+use Rattle.rg_branch_trees.specs.Trees.{preorder}
+use Rattle.rg_cert_data.specs.Trees.{TreeNode}
+use Rattle.rg_cert_data.specs.Certificates.{Claim, IsMultiplierInRange, IsSplitInRange, IsRowOf, IsNodeOf, IsTreeOf, IsReasonOf}
 use Rattle.rg_cert.specs.Text.{Version, version_one, version_two, heading, splits_start, reason_nodes, asks_two, Subject, of_none, of_arc, of_state, of_label, of_depth, subject_fields, named_fields, node_lines, case_lines, reason_lines, spaced, cert_lines, text_with}
 use Rattle.rg_cert.specs.Spells.{Spells}
 use Rattle.rg_cert.specs.Lines.{multiplier, split_value, depth, word, state, label, number, HasFieldForm, IsFieldInRange, IsFieldKnown, AreAsked, RowForm, lone_form, arc_form, state_form, label_form, depth_form, one_of, lone_words, state_words, label_words}
@@ -39,8 +39,8 @@ use Rattle.rg_cert.proofs.ClassLines.{class_texts}
 use Rattle.rg_cert.proofs.Walks.{start, fault_before}
 use Rattle.rg_cert.proofs.DraftSteps.{drafted}
 use Rattle.rg_cert.proofs.Deciding.{forms_decided, ranges_decided, names_decided, IsCut, cut_or_not}
-use Rattle.rg_refuting.specs.declared.RowName.TheVariants as row_name
-use Rattle.rg_refuting.specs.declared.Form.TheVariants as split_form
+use Rattle.rg_cert_meaning.specs.declared.RowName.TheVariants as row_name
+use Rattle.rg_cert_meaning.specs.declared.Form.TheVariants as split_form
 
 other_default : (xs : List (List ℕ)) (k : ℕ) (d e : List ℕ) → k < length xs → get_or xs k d ≡ get_or xs k e
 other_default [] k d e less = absurd (omega arith)

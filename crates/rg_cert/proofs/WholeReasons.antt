@@ -4,16 +4,16 @@ use Rattle.std.specs.List.{flat_map, list_any}
 use Rattle.std.proofs.lemmas.List.Folds.{list_any-append, list_any_none}
 use Rattle.std.proofs.lemmas.List.Elements.{All-nil, All-cons, All-head, All-tail, All-weaker}
 use Rattle.rg_theory.specs.System.{System}
-use Rattle.rg_reasons.specs.declared.certificate.Case.{Case}
-use Rattle.rg_reasons.specs.declared.certificate.Reason.{Reason}
-use Rattle.rg_reasons.specs.declared.certificate.Reason.TheVariants.{Unreachable, Fork, Event, States}
-use Rattle.rg_splits.specs.Trees.{preorder}
-use Rattle.rg_reasons.specs.Trees.{TreeNode, IsWholeTree, tree_of, nodes_of}
-use Rattle.rg_reasons.specs.Certificates.{case_tree, reason_of, IsWhole, HasWholeCases, IsNodeOf, IsTreeOf, IsReasonOf}
+use Rattle.rg_cert_data.specs.declared.certificate.Case.{Case}
+use Rattle.rg_cert_data.specs.declared.certificate.Reason.{Reason}
+use Rattle.rg_cert_data.specs.declared.certificate.Reason.TheVariants.{Unreachable, Fork, Event, States}
+use Rattle.rg_branch_trees.specs.Trees.{preorder}
+use Rattle.rg_cert_data.specs.Trees.{TreeNode, IsWholeTree, tree_of, nodes_of}
+use Rattle.rg_cert_data.specs.Certificates.{case_tree, reason_of, IsWhole, HasWholeCases, IsNodeOf, IsTreeOf, IsReasonOf}
 use Rattle.rg_cert.specs.Text.{Version, version_one, splits_start, reason_nodes, node_lines, case_lines, reason_lines}
 use Rattle.rg_cert.specs.Drafts.{head_fields, IsHeadOf, nodes_lines, IsNodeIn, IsCase}
 use Rattle.rg_cert.specs.View.{reason_head, reason_cases}
-use Rattle.rg_reasons.proofs.Trees.{whole_is}
+use Rattle.rg_cert_data.proofs.Trees.{whole_is}
 
 -- the nodes of a case are those of its tree
 pub whole_nodes : (lts : System) (version : Version) (nodes : List TreeNode) → IsCase lts version nodes → IsWholeTree nodes (tree_of nodes)

@@ -5,9 +5,9 @@ use Rattle.std.proofs.lemmas.Slice.Eq.{bytes_eq-Decides}
 use Rattle.std.proofs.lemmas.List.{take_all}
 use Rattle.rg_theory.specs.System.{System, states, labels}
 use Rattle.rg_theory.proofs.Lists.{Contains-cons_cases}
-use Rattle.rg_refuting.specs.declared.RowName.{RowName}
-use Rattle.rg_refuting.specs.declared.RowName.TheVariants as row_name
-use Rattle.rg_reasons.specs.Certificates.{IsRowNameOf}
+use Rattle.rg_cert_meaning.specs.declared.RowName.{RowName}
+use Rattle.rg_cert_meaning.specs.declared.RowName.TheVariants as row_name
+use Rattle.rg_cert_data.specs.Certificates.{IsRowNameOf}
 use Rattle.rg_cert.specs.Text.{Subject, of_none, of_arc, of_state, of_label, of_depth, word_and_subject}
 use Rattle.rg_cert.specs.Lines.{lone_words, state_words, label_words}
 use Rattle.rg_cert.specs.View.{texts_in}

@@ -4,11 +4,11 @@ use Rattle.std.specs.List.{flat_map}
 use Rattle.std.specs.Fmt.{signed_decimal}
 use Rattle.rg_theory.specs.System.{System, states, labels}
 use Rattle.rg_theory.specs.declared.Class.{Class}
-use Rattle.rg_refuting.specs.declared.Form.{Form}
-use Rattle.rg_refuting.specs.Refutes.{NamedRow, Tree}
-use Rattle.rg_splits.specs.Trees.{TreeNode.leaf_node, TreeNode.split_node, preorder}
-use Rattle.rg_reasons.specs.Trees.{TreeNode, IsWholeTree}
-use Rattle.rg_reasons.specs.Certificates.{IsRowOf, IsFormOf, IsSplitInRange, IsNodeOf}
+use Rattle.rg_cert_meaning.specs.declared.Form.{Form}
+use Rattle.rg_cert_meaning.specs.Refutes.{NamedRow, Tree}
+use Rattle.rg_branch_trees.specs.Trees.{TreeNode.leaf_node, TreeNode.split_node, preorder}
+use Rattle.rg_cert_data.specs.Trees.{TreeNode, IsWholeTree}
+use Rattle.rg_cert_data.specs.Certificates.{IsRowOf, IsFormOf, IsSplitInRange, IsNodeOf}
 use Rattle.rg_text.specs.Line.{fed}
 use Rattle.rg_cert.specs.Text.{Version, version_one, class_version, splits_start, spaced, state_name, label_name, named_fields, form_fields, node_lines}
 use Rattle.rg_cert.specs.declared.fault.CertFault.{CertFault}

@@ -4,7 +4,7 @@ use Rattle.rg_text.specs.Byte.{IsName}
 use Rattle.rg_theory.specs.System.{System}
 use Rattle.rg_theory.specs.declared.Class.{Class}
 use Rattle.rg_theory.specs.ClassWords.{NamesClass}
-use Rattle.rg_reasons.specs.Certificates.{IsMultiplierInRange, IsSplitInRange}
+use Rattle.rg_cert_data.specs.Certificates.{IsMultiplierInRange, IsSplitInRange}
 use Rattle.rg_cert.specs.Numerals.{IsNumeral}
 use Rattle.rg_cert.specs.Text.{Version, version_one, version_two, version_digits, class_version, spaced}
 

@@ -2,7 +2,7 @@
 use Rattle.std.specs.Prelude.{◌≡◌, ℕ, false, List}
 use Rattle.rg_theory.specs.System.{System}
 use Rattle.rg_theory.specs.ClassWords.{NamesClass}
-use Rattle.rg_reasons.specs.Certificates.{Claim, IsClaimOf}
+use Rattle.rg_cert_data.specs.Certificates.{Claim, IsClaimOf}
 use Rattle.rg_cert.specs.Text.{Version, version_one, asks_two, text_with}
 
 -- the bytes are a text of the claim for the system, in a version that has it; its class may be named by any text that names it

@@ -20,9 +20,9 @@ use Rattle.rg_cert.specs.declared.position.Next.TheVariants as next
 use Rattle.rg_cert.specs.declared.draft.Head.{Head}
 use Rattle.rg_cert.specs.declared.draft.Head.TheVariants as head
 use Rattle.rg_cert.specs.declared.draft.Draft.{Draft}
-use Rattle.rg_reasons.specs.declared.certificate.Reason.{Reason}
-use Rattle.rg_reasons.specs.declared.certificate.Reason.TheVariants as reason
-use Rattle.rg_reasons.specs.Trees.{TreeNode, named_row, node_of, nodes_of}
+use Rattle.rg_cert_data.specs.declared.certificate.Reason.{Reason}
+use Rattle.rg_cert_data.specs.declared.certificate.Reason.TheVariants as reason
+use Rattle.rg_cert_data.specs.Trees.{TreeNode, named_row, node_of, nodes_of}
 use Rattle.rg_cert.specs.Text as text
 use Rattle.rg_cert.specs.Lines as line
 use Rattle.rg_cert.specs.Drafts as draft

@@ -2,8 +2,8 @@
 ghost use Rattle.std.specs.Prelude.{◌≡◌, ◌<◌, ◌++◌, ◌∷◌, [], length, slice_index_or, Contains};
 ghost use Rattle.std.specs.Fmt.{signed_decimal};
 ghost use Rattle.rg_theory.specs.System.{states, labels};
-ghost use Rattle.rg_reasons.specs.Trees.{named_row};
-ghost use Rattle.rg_reasons.specs.Certificates.{IsMultiplierInRange, IsSplitInRange, IsRowNameOf, IsRowOf};
+ghost use Rattle.rg_cert_data.specs.Trees.{named_row};
+ghost use Rattle.rg_cert_data.specs.Certificates.{IsMultiplierInRange, IsSplitInRange, IsRowNameOf, IsRowOf};
 ghost use Rattle.rg_cert.specs.Text.{Version, Subject.of_none, Subject.of_state, Subject.of_label, state_name, label_name, word_and_subject, row_fields, named_fields};
 ghost use Rattle.rg_cert.specs.Lines.{lone_words, state_words, label_words, Position.at_reason, Next.to, follows, Field.state as state_field, Field.label as label_field, Field.number as number_field, Range.multiplier as multiplier_range, Range.split_value as split_range, Range.depth as depth_range};
 ghost use Rattle.rg_cert.specs.Drafts.{IsGoodAt, IsGood, IsSplitLine, head_fields, IsHeadOf, IsHeadForm, after_head};
@@ -14,8 +14,8 @@ use crate::draft::Head;
 use crate::names::{label_of, state_of};
 use crate::numerals::{depth, multiplier, split_value};
 use crate::table::{LineForm, RowForm};
+use rg_cert_meaning::{Form, RowName};
 use rg_lts::Lts;
-use rg_refuting::{Form, RowName};
 use rg_theory::Arc;
 
 // A field.

@@ -8,10 +8,10 @@ use crate::decode::{effect_split, row_of, start_split, tokens_split};
 use crate::position::Position;
 use crate::table::{LineForm, RowForm};
 use crate::version::Version;
+use rg_cert_data::{Case, Node};
+use rg_cert_meaning::{Form, RowName};
 use rg_lts::Lts;
 use rg_memory::NoMemory;
-use rg_reasons::{Case, Node};
-use rg_refuting::{Form, RowName};
 use std::alloc::Global;
 use std::mem;
 

@@ -3,7 +3,7 @@ ghost use Rattle.std.specs.Prelude.{◌≡◌, ◌⊎◌, ◌++◌, ℕ, List};
 ghost use Rattle.rg_text.specs.Line.{fed};
 ghost use Rattle.rg_theory.specs.System.{System};
 ghost use Rattle.rg_lts.specs.WellFormed.{IsWellFormed};
-ghost use Rattle.rg_reasons.specs.Certificates.{Claim, IsClaimOf};
+ghost use Rattle.rg_cert_data.specs.Certificates.{Claim, IsClaimOf};
 ghost use Rattle.rg_cert.specs.Text.{cert_text};
 ghost use Rattle.rg_cert.specs.Spells.{Spells};
 ghost use Rattle.rg_cert.specs.Lines.{Position, Position.at_heading};

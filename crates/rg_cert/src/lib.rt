@@ -19,6 +19,6 @@ pub use fault::CertFault;
 pub use laws::{certificate_is_told, lines_go_on, one_answer, spelled_is_in_range};
 pub use printing::print;
 pub use reading::read;
+pub use rg_cert_data::{Case, Certificate, Node, Problem, Reason};
+pub use rg_cert_meaning::{Form, RowName};
 pub use rg_memory::NoMemory;
-pub use rg_reasons::{Case, Certificate, Node, Problem, Reason};
-pub use rg_refuting::{Form, RowName};

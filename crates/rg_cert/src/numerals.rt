@@ -2,7 +2,7 @@
 ghost use Rattle.std.specs.Prelude.{◌≡◌, ◌<◌, ◌≤◌, ◌^◌, IsTrue, ◌↔◌, IfSome, IfNone, List, [], ◌∷◌, length, slice_index, decimal, ℤ, nat_abs};
 ghost use Rattle.std.specs.Fmt.{signed_decimal};
 ghost use Rattle.rg_cert.specs.Numerals.{IsPlain, IsNumeral};
-ghost use Rattle.rg_reasons.specs.Certificates.{IsMultiplierInRange, IsSplitInRange};
+ghost use Rattle.rg_cert_data.specs.Certificates.{IsMultiplierInRange, IsSplitInRange};
 ghost use Rattle.rg_cert.specs.Lines.{IsFieldInRange, Field.number as number_field, Range.multiplier as multiplier_range, Range.split_value as split_range, Range.depth as depth_range};
 
 use rg_text::are_digits;

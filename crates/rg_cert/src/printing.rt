@@ -4,19 +4,19 @@ ghost use Rattle.std.specs.List.{flat_map, list_any};
 ghost use Rattle.std.specs.Fmt.{signed_decimal};
 ghost use Rattle.rg_text.specs.Line.{fed};
 ghost use Rattle.rg_theory.specs.System.{states, labels};
-ghost use Rattle.rg_splits.specs.Trees.{TreeNode.split_node};
-ghost use Rattle.rg_reasons.specs.Trees.{named_row, node_of, nodes_of};
-ghost use Rattle.rg_reasons.specs.Certificates.{claim_of, HasWholeCases, IsCertificateOf, IsRowNameOf, IsFormOf, IsRowOf, IsNodeOf};
+ghost use Rattle.rg_branch_trees.specs.Trees.{TreeNode.split_node};
+ghost use Rattle.rg_cert_data.specs.Trees.{named_row, node_of, nodes_of};
+ghost use Rattle.rg_cert_data.specs.Certificates.{claim_of, HasWholeCases, IsCertificateOf, IsRowNameOf, IsFormOf, IsRowOf, IsNodeOf};
 ghost use Rattle.rg_cert.specs.Text.{version_one, version_two, heading, splits_start, asks_two, state_name, label_name, row_fields, named_fields, form_fields, node_lines, spaced, cert_text};
 ghost use Rattle.rg_cert.specs.Spells.{Spells};
 ghost use Rattle.rg_cert.specs.Drafts.{head_fields, IsHeadOf, nodes_lines, IsCase};
 ghost use Rattle.rg_cert.specs.View.{reason_head, reason_cases};
 
 use itoa::Buffer;
+use rg_cert_data::{Case, Certificate, Node, Reason};
+use rg_cert_meaning::{Form, RowName};
 use rg_lts::Lts;
 use rg_memory::NoMemory;
-use rg_reasons::{Case, Certificate, Node, Reason};
-use rg_refuting::{Form, RowName};
 use rg_theory::class_text;
 use std::alloc::Global;
 

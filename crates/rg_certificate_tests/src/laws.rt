@@ -20,8 +20,8 @@ fn laws_of_the_theory(_rt: HostRuntime) {
 #[test]
 fn laws_of_trees_and_certificates(_rt: HostRuntime) {
     rg_spanning::each_state_once();
-    rg_refuting::accepted_is_no_net();
-    rg_refuting::rows_are_exact();
+    rg_cert_meaning::accepted_is_no_net();
+    rg_cert_meaning::rows_are_exact();
     rg_cert::one_answer();
     rg_cert::lines_go_on();
     rg_cert::certificate_is_told();

@@ -10,7 +10,7 @@ use Rattle.std.specs.declared.alloc.Global.{Global}
 use Rattle.std.specs.Ordering.{int_eq}
 use Rattle.std.specs.Cmp.Lexicographic.{pointwise}
 use Rattle.rg_linear.specs.Dictionary.{numbers_from}
-use Rattle.rg_linear.specs.Firsts.{KeepsFirsts}
+use Rattle.rg_linear.specs.Firsts.{KeepsEqualRows}
 use Rattle.rg_linear.specs.Cycle.{vector_at, IsZeroVector, KeepsVectors}
 use Rattle.rg_linear.proofs.Members.{Contains-cons_cases}
 use Rattle.rg_cycles.specs.Vectors.{vectors_by}
@@ -19,13 +19,13 @@ use Rattle.rg_cycles.specs.Vectors.{vectors_by}
 pub record KeptSoFar {N : Type 0} (numbers : List N → List ℤ) (vectors : List (List ℤ)) (has : List N → Bool) (i : ℕ) (kept : List ℕ) : Type 0 where
   pub seen : List (List ℤ)
   pub tells : (q : List N) → Decides (has q) (Contains seen (numbers q))
-  pub rest : (more : List ℕ) → KeepsFirsts (vector_at vectors) (λ k. IsZeroVector (vector_at vectors k)) seen (numbers_from i (length vectors - i)) more → KeepsVectors vectors (kept ++ more)
+  pub rest : (more : List ℕ) → KeepsEqualRows (vector_at vectors) (λ k. IsZeroVector (vector_at vectors k)) seen (numbers_from i (length vectors - i)) more → KeepsVectors vectors (kept ++ more)
 
 pub kept-start : {N : Type 0} (numbers : List N → List ℤ) (vectors : List (List ℤ)) (has : List N → Bool) → ((q : List N) → has q ≡ false) → KeptSoFar numbers vectors has 0 []
 kept-start numbers vectors has none = record {
   seen = [];
   tells = λ q. (λ e. absurd (false≢true (sym (none q) ∙ e)), λ (k, lt, e). absurd (omega arith));
-  rest = λ more h. subst (λ n. KeepsFirsts (vector_at vectors) (λ k. IsZeroVector (vector_at vectors k)) [] (numbers_from 0 n) more) (same (length vectors)) h;
+  rest = λ more h. subst (λ n. KeepsEqualRows (vector_at vectors) (λ k. IsZeroVector (vector_at vectors k)) [] (numbers_from 0 n) more) (same (length vectors)) h;
 }
   where
     same : (n : ℕ) → n - 0 ≡ n
@@ -34,7 +34,7 @@ kept-start numbers vectors has none = record {
 pub kept-end : {N : Type 0} (numbers : List N → List ℤ) (vectors : List (List ℤ)) (has : List N → Bool) (i : ℕ) (kept : List ℕ)
     → KeptSoFar numbers vectors has i kept → length vectors ≤ i → KeepsVectors vectors kept
 kept-end numbers vectors has i kept k past = subst (KeepsVectors vectors) (append-nil kept)
-    (k.rest [] (subst (λ n. KeepsFirsts (vector_at vectors) (λ j. IsZeroVector (vector_at vectors j)) k.seen (numbers_from i n) []) (none (length vectors) past) refl))
+    (k.rest [] (subst (λ n. KeepsEqualRows (vector_at vectors) (λ j. IsZeroVector (vector_at vectors j)) k.seen (numbers_from i n) []) (none (length vectors) past) refl))
   where
     none : (n : ℕ) → n ≤ i → 0 ≡ n - i
     none n h = omega arith
@@ -50,7 +50,7 @@ module _ {N : Type 0} (numbers : List N → List ℤ) (vectors : List (List ℤ)
   kept-drop drops same = subst (λ j. KeptSoFar numbers vectors has' j kept) (sym (add-one i)) (record {
     seen = k.seen;
     tells = λ q. (λ e. (k.tells q).0 (sym (same q) ∙ e), λ h. same q ∙ (k.tells q).1 h);
-    rest = λ more h. k.rest more (subst (λ n. KeepsFirsts (vector_at vectors) (λ j. IsZeroVector (vector_at vectors j)) k.seen (numbers_from i n) more)
+    rest = λ more h. k.rest more (subst (λ n. KeepsEqualRows (vector_at vectors) (λ j. IsZeroVector (vector_at vectors j)) k.seen (numbers_from i n) more)
         (sym (next (length vectors) i lt))
         (inl (⊎_elim (λ z. inl z) (λ (v, is, e). inr (subst (Contains k.seen) is ((k.tells v).0 e))) drops, h)));
   })
@@ -63,7 +63,7 @@ module _ {N : Type 0} (numbers : List N → List ℤ) (vectors : List (List ℤ)
     seen = vector_at vectors i ∷ k.seen;
     tells = λ q. (λ e. found q (same_slice v q) refl (sym (same q) ∙ e), λ h. same q ∙ there q h);
     rest = λ more h. subst (KeepsVectors vectors) (sym (append_assoc kept (i ∷ []) more))
-        (k.rest (i ∷ more) (subst (λ n. KeepsFirsts (vector_at vectors) (λ j. IsZeroVector (vector_at vectors j)) k.seen (numbers_from i n) (i ∷ more))
+        (k.rest (i ∷ more) (subst (λ n. KeepsEqualRows (vector_at vectors) (λ j. IsZeroVector (vector_at vectors j)) k.seen (numbers_from i n) (i ∷ more))
         (sym (next (length vectors) i lt)) (inr (subst (λ x. ¬ IsZeroVector x) (sym is) nonzero, unseen, (more, refl, h)))));
   })
     where

@@ -17,7 +17,7 @@ use Rattle.rg_integers.specs.Sum.{number_at}
 use Rattle.rg_linear.specs.System.{LinearRow}
 use Rattle.rg_linear.specs.Dictionary.{Relation as LinearRelation, DictionaryRow, numbers_from}
 use Rattle.rg_linear.specs.Table.{ShowsRow}
-use Rattle.rg_linear.specs.Firsts.{KeepsFirsts}
+use Rattle.rg_linear.specs.Firsts.{KeepsEqualRows}
 use Rattle.rg_linear.specs.Cycle.{IsHomogeneous, vector_at, IsZeroVector, KeepsVectors, vector_system, CycleBasis, IsCycleBasis, no_relation}
 use Rattle.rg_linear.proofs.Members.{Contains-here, Contains-there, Contains-cons_cases, Contains-nil, IsInOrder, order_from_increasing, equal_or_not, numbers_from-Contains}
 use Rattle.rg_linear.proofs.Firsts.{kept_is}
@@ -25,7 +25,7 @@ use Rattle.rg_linear.proofs.Columns.{below_test, past_test}
 use Rattle.rg_linear.proofs.Cycles.{no_constant}
 use Rattle.rg_linear.specs.Table.{number_beside}
 use Rattle.rg_linear.proofs.TableLemmas.{beside_map}
-use Rattle.rg_order_of_work.specs.Rewriting.{is_in, free_labels}
+use Rattle.rg_case_folds.specs.Rewriting.{is_in, free_labels}
 use Rattle.rg_cycles.specs.declared.relation.Relation.{Relation}
 use Rattle.rg_cycles.specs.Basis.{vector_numbers, ShowsRelation, IsRelationInRange, number_with, row_number, relation_of, cycle_basis, AreRelations}
 use Rattle.rg_cycles.specs.Reading.{HasNumbers, IsRead, AreRead}
@@ -38,7 +38,7 @@ use Rattle.rg_cycles.proofs.Labels.{in_set, not_in_set, filter_has, filter_from,
 -- ---- the kept indices
 
 -- they are in order, and each is the index of a vector
-pub kept_order : (key : ℕ → List ℤ) (Drops : ℕ → Type 0) (seen : List (List ℤ)) (a n : ℕ) (kept : List ℕ) → KeepsFirsts key Drops seen (numbers_from a n) kept → IsInOrder kept
+pub kept_order : (key : ℕ → List ℤ) (Drops : ℕ → Type 0) (seen : List (List ℤ)) (a n : ℕ) (kept : List ℕ) → KeepsEqualRows key Drops seen (numbers_from a n) kept → IsInOrder kept
 kept_order key Drops seen a zero kept is = subst IsInOrder (sym is) tt
 kept_order key Drops seen a (suc n) kept (inl (gone, k)) = kept_order key Drops seen (suc a) n kept k
 kept_order key Drops seen a (suc n) kept (inr (stays, fresh, (rest, is, k))) = subst IsInOrder (sym is) ((λ m has. (numbers_from-Contains (suc a) n m (kept_is key Drops (key a ∷ seen) (numbers_from (suc a) n) rest m k has)).0), kept_order key Drops (key a ∷ seen) (suc a) n rest k)

@@ -8,7 +8,7 @@ use Rattle.std.proofs.lemmas.List.Elements.{Contains-append_cases, All-head, All
 use Rattle.rg_theory.specs.System.{System, states, labels}
 use Rattle.rg_theory.specs.Net.{Net}
 use Rattle.rg_lts.specs.WellFormed.{IsWellFormed}
-use Rattle.rg_firsts.proofs.Things.{pigeons, at_number}
+use Rattle.rg_line_formats.proofs.Things.{pigeons, at_number}
 use Rattle.rg_product.specs.Product.{Factor, IsFactorAt, IsLabelAt, ShareLabels, name_at}
 use Rattle.rg_product.specs.Factoring.{AreFactors, IsFactoring, IsFactoring.of_factors, Factoring.factors as of_all, choices}
 use Rattle.rg_product.specs.Beside.{widened, places_beside}

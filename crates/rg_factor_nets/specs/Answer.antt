@@ -8,14 +8,14 @@ use Rattle.rg_theory.specs.Solves.{Solves}
 use Rattle.rg_theory.specs.declared.Class.{Class}
 use Rattle.rg_theory.specs.Class.{IsBounded, InClass, NoNet}
 use Rattle.rg_net.specs.Range.{IsNetInRange}
-use Rattle.rg_reasons.specs.declared.certificate.Certificate.{Certificate}
-use Rattle.rg_reasons.specs.Certificates.{reason_of}
-use Rattle.rg_order_of_work.specs.Shown.{ShownWide}
+use Rattle.rg_cert_data.specs.declared.certificate.Certificate.{Certificate}
+use Rattle.rg_cert_data.specs.Certificates.{reason_of}
+use Rattle.rg_case_folds.specs.Shown.{ShownWide}
 use Rattle.rg_outcome.specs.Outcome.{Out, Answer.net as of_net, Answer.unsolvable as of_reason, Answer.too_wide as of_term}
 use Rattle.rg_product.specs.Product.{Factor, IsFactorAt}
 use Rattle.rg_product.specs.Beside.{net_beside}
 use Rattle.rg_separate.specs.View.{shown_of}
-use Rattle.rg_reasons.specs.declared.wide_at.WideAt.{WideAt}
+use Rattle.rg_cert_data.specs.declared.wide_at.WideAt.{WideAt}
 use Rattle.rg_synth.specs.Answer.{IsOpen, IsSolvingNet, IsRightCertificate}
 use Rattle.rg_factor_nets.specs.declared.answer.FactorsAnswer.{FactorsAnswer}
 use Rattle.rg_factor_nets.specs.declared.answer.FactorsAnswer.TheVariants as answer

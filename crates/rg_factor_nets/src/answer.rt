@@ -1,7 +1,7 @@
 //! What is answered for the factors of a system and a class.
 
+use rg_cert_data::{Certificate, WideAt};
 use rg_net::Net;
-use rg_reasons::{Certificate, WideAt};
 
 /// The answer for the factors of a system and a class.
 #[derive(Drop)]

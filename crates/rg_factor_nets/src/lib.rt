@@ -9,5 +9,5 @@ mod nets;
 
 pub use answer::FactorsAnswer;
 pub use nets::synthesize_factors;
+pub use rg_cert_data::{Stage, WideAt};
 pub use rg_memory::NoMemory;
-pub use rg_reasons::{Stage, WideAt};

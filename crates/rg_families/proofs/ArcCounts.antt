@@ -7,7 +7,7 @@ use Rattle.std.proofs.lemmas.List.FromFn.{length-range_with_len, length-map-rang
 use Rattle.rg_theory.specs.declared.Arc.{Arc}
 use Rattle.rg_theory.specs.System.{System, IsArcBefore}
 use Rattle.rg_lts.proofs.OrderedArcs.{before_itself}
-use Rattle.rg_firsts.proofs.Things.{pigeons}
+use Rattle.rg_line_formats.proofs.Things.{pigeons}
 use Rattle.rg_families.specs.declared.Kind.TheVariants.{Grid, Doubling}
 use Rattle.rg_families.specs.declared.grid.Direction.{Direction}
 use Rattle.rg_families.specs.declared.grid.Direction.TheVariants.{Right, Up}

@@ -8,10 +8,10 @@ use Rattle.rg_theory.specs.Limits.{most_arcs}
 use Rattle.rg_lts.specs.Draft.{Draft, HasNames, IsArcNamed, AddsArc, finished}
 use Rattle.rg_lts.specs.WellFormed.{AreNames, IsWellFormed}
 use Rattle.rg_lts.proofs.OrderedArcs.{has_from, contains_from, ordered_from}
-use Rattle.rg_firsts.specs.First.{same_arc}
-use Rattle.rg_firsts.proofs.Counted.{how_many}
-use Rattle.rg_firsts.proofs.Numbers.{number_is}
-use Rattle.rg_firsts.proofs.Things.{firsts_short, last_there, there_one}
+use Rattle.rg_line_formats.specs.First.{same_arc}
+use Rattle.rg_line_formats.proofs.Counted.{how_many}
+use Rattle.rg_line_formats.proofs.Numbers.{number_is}
+use Rattle.rg_line_formats.proofs.Things.{firsts_short, last_there, there_one}
 use Rattle.rg_families.proofs.Pushed.{get_or_shown}
 use Rattle.rg_families.specs.Named.{Triple, Drawing, arc_of, drawing, IsSystemOf, IsKnown, IsSound, HasArcs}
 

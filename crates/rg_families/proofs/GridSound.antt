@@ -11,7 +11,7 @@ use Rattle.rg_families.specs.declared.grid.Direction.TheVariants.{Right, Up}
 use Rattle.rg_families.specs.Named.{Triple, IsKnown, IsSound, row}
 use Rattle.rg_families.specs.Grid.{point, points, move, moves, grid}
 use Rattle.rg_families.proofs.Lists.{Differ, differ_nil, differ_cons, differ_each, differ_row, each_from, each_has, row_from, row_has, flat_short, all_members}
-use Rattle.rg_firsts.proofs.Things.{there_one}
+use Rattle.rg_line_formats.proofs.Things.{there_one}
 use Rattle.rg_families.proofs.Texts.{pair_is_name, name_of_letters, same_pair}
 
 point_is_name : (i j : ℕ) → i < 100 → j < 100 → IsName (point i j)

@@ -6,10 +6,10 @@ use Rattle.std.proofs.lemmas.Option.{slice_get-get_or}
 use Rattle.rg_theory.specs.declared.Arc.{Arc}
 use Rattle.rg_theory.specs.System.{System, IsReachable, IsAllReachable, IsForkFree}
 use Rattle.rg_theory.proofs.Closed.{reached_more}
-use Rattle.rg_firsts.specs.First.{number_of}
-use Rattle.rg_firsts.proofs.Numbers.{number_is, number_at}
-use Rattle.rg_firsts.proofs.Parts.{one_with}
-use Rattle.rg_firsts.proofs.Things.{map_there, map_from}
+use Rattle.rg_line_formats.specs.First.{number_of}
+use Rattle.rg_line_formats.proofs.Numbers.{number_is, number_at}
+use Rattle.rg_line_formats.proofs.Parts.{one_with}
+use Rattle.rg_line_formats.proofs.Things.{map_there, map_from}
 use Rattle.rg_families.specs.Named.{Triple, Drawing, arc_of, IsSystemOf, IsSound}
 
 pub one_system : (d : Drawing) (a b : System) → IsSystemOf d a → IsSystemOf d b → a ≡ b

@@ -8,8 +8,8 @@ use Rattle.rg_theory.specs.System.{System}
 use Rattle.rg_theory.specs.Limits.{most_states, most_labels, most_arcs}
 use Rattle.rg_lts.specs.WellFormed.{AreNames}
 use Rattle.rg_lts.specs.Draft.{Draft}
-use Rattle.rg_firsts.specs.First.{number_of}
-use Rattle.rg_firsts.specs.Parts.{IsSystemWith}
+use Rattle.rg_line_formats.specs.First.{number_of}
+use Rattle.rg_line_formats.specs.Parts.{IsSystemWith}
 use Rattle.rg_families.specs.declared.named.NamedArc.{NamedArc}
 
 -- an arc by names: those of the state that it leaves, of its label and of the state that it enters

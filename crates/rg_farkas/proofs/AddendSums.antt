@@ -3,18 +3,18 @@ use Rattle.std.proofs.Common.{◌≡◌, ◌≢◌, ⊎_elim, set, slice_index_o
 use Rattle.std.specs.Prelude.{ℤ, pos, neg_ℤ, ◌+ℤ◌, ◌-ℤ◌, ◌*ℤ◌, unsigned_abs}
 use Rattle.std.proofs.lemmas.Int.{ints}
 use Rattle.std.proofs.lemmas.Bool.{cases_eq}
-use Rattle.rg_order_of_work.proofs.Items.{from_index}
-use Rattle.rg_refuting.specs.Expression.{same_variable, coefficient_in}
-use Rattle.rg_reasons.specs.declared.term.Term.{Term}
-use Rattle.rg_reasons.specs.Sums.{term_of, terms_in}
+use Rattle.rg_case_folds.proofs.Items.{from_index}
+use Rattle.rg_cert_meaning.specs.Expression.{same_variable, coefficient_in}
+use Rattle.rg_cert_data.specs.declared.term.Term.{Term}
+use Rattle.rg_cert_data.specs.Sums.{term_of, terms_in}
 use Rattle.std.proofs.lemmas.List.{drop_all}
 use Rattle.std.proofs.lemmas.Option.{none-some}
 use Rattle.rg_integers.proofs.Ring.{ring}
 use Rattle.rg_integers.specs.Range.{InRange}
 use Rattle.rg_integers.proofs.Ranges.{in_range-neg}
-use Rattle.rg_order_of_work.specs.Fold.{further, whole_sum, whole_product}
-use Rattle.rg_order_of_work.specs.Spreading.{ArcTimes, Addend, Addend.number, Addend.product, addend_fold, leaving}
-use Rattle.rg_refuting.specs.declared.Variable.TheVariants.{Tokens}
+use Rattle.rg_case_folds.specs.Fold.{further, whole_sum, whole_product}
+use Rattle.rg_case_folds.specs.Spreading.{ArcTimes, Addend, Addend.number, Addend.product, addend_fold, leaving}
+use Rattle.rg_cert_meaning.specs.declared.Variable.TheVariants.{Tokens}
 use Rattle.rg_farkas.specs.declared.multiplied.Row.{Row}
 use Rattle.rg_farkas.specs.View.{size_fold, coefficient_at, row_addend}
 use Rattle.rg_farkas.specs.Addends.{addend_value, total}

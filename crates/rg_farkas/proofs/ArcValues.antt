@@ -8,26 +8,26 @@ use Rattle.rg_theory.specs.Tree.{KeepsArcs, parikh}
 use Rattle.rg_integers.specs.Sum.{sum_below, dot}
 use Rattle.rg_linear.specs.Cycle.{FollowsRelations}
 use Rattle.rg_linear.proofs.Firsts.{kept_is}
-use Rattle.rg_refuting.specs.Expression.{Term, value_in}
-use Rattle.rg_refuting.specs.declared.Variable.{Variable}
-use Rattle.rg_refuting.specs.Row.{row_expression}
-use Rattle.rg_refuting.specs.declared.RowName.{RowName}
-use Rattle.rg_order_of_work.specs.Setting.{CaseSetting}
-use Rattle.rg_order_of_work.specs.Chords.{chord_system}
-use Rattle.rg_order_of_work.specs.Rewriting.{has_label, has_start, names_of, KeptRow, IsIdle, row_fold, CaseSystem, system_fold}
-use Rattle.rg_order_of_work.specs.Values.{numbers_along, column_values, UnusedAreZero}
-use Rattle.rg_order_of_work.specs.Shown.{IsLive}
-use Rattle.rg_order_of_work.proofs.SystemRows.{made_from}
-use Rattle.rg_order_of_work.proofs.ExactRows.{row_value_is}
-use Rattle.rg_order_of_work.specs.Meaning.{IsCaseOver, AreEffects, value_over}
-use Rattle.rg_order_of_work.proofs.Given.{own_number, own_effects}
-use Rattle.rg_order_of_work.proofs.LeftOut.{finds_label}
-use Rattle.rg_order_of_work.proofs.Names.{names_stand, names_labels}
-use Rattle.rg_order_of_work.proofs.CaseRows.{name_no_tokens}
-use Rattle.rg_order_of_work.proofs.Shifts.{same_value}
+use Rattle.rg_cert_meaning.specs.Expression.{Term, value_in}
+use Rattle.rg_cert_meaning.specs.declared.Variable.{Variable}
+use Rattle.rg_cert_meaning.specs.Row.{row_expression}
+use Rattle.rg_cert_meaning.specs.declared.RowName.{RowName}
+use Rattle.rg_case_folds.specs.Setting.{CaseSetting}
+use Rattle.rg_case_folds.specs.Chords.{chord_system}
+use Rattle.rg_case_folds.specs.Rewriting.{has_label, has_start, names_of, KeptRow, IsIdle, row_fold, CaseSystem, system_fold}
+use Rattle.rg_case_folds.specs.Values.{numbers_along, column_values, UnusedAreZero}
+use Rattle.rg_case_folds.specs.Shown.{IsLive}
+use Rattle.rg_case_folds.proofs.SystemRows.{made_from}
+use Rattle.rg_case_folds.proofs.ExactRows.{row_value_is}
+use Rattle.rg_case_folds.specs.Meaning.{IsCaseOver, AreEffects, value_over}
+use Rattle.rg_case_folds.proofs.Given.{own_number, own_effects}
+use Rattle.rg_case_folds.proofs.LeftOut.{finds_label}
+use Rattle.rg_case_folds.proofs.Names.{names_stand, names_labels}
+use Rattle.rg_case_folds.proofs.CaseRows.{name_no_tokens}
+use Rattle.rg_case_folds.proofs.Shifts.{same_value}
 use Rattle.rg_farkas.specs.Refuting.{KeepsEachArc}
 use Rattle.rg_farkas.proofs.Names.{IsUsed, NamesUsed, names_used}
-use Rattle.rg_refuting.specs.declared.Variable.TheVariants.{Tokens, Effect}
+use Rattle.rg_cert_meaning.specs.declared.Variable.TheVariants.{Tokens, Effect}
 
 -- ---- the rows of a case's system
 

@@ -10,14 +10,14 @@ use Rattle.rg_theory.specs.System.{System, states, labels, IsInRange, IsArcInRan
 use Rattle.rg_integers.specs.Range.{InRange}
 use Rattle.rg_fraction.specs.declared.fraction.Fraction.{Fraction}
 use Rattle.rg_linear.specs.Cycle.{CycleBasis}
-use Rattle.rg_refuting.specs.Expression.{Expression}
-use Rattle.rg_refuting.specs.Row.{RowStands, row_expression, Side}
-use Rattle.rg_refuting.specs.declared.RowName.{RowName}
-use Rattle.rg_refuting.specs.Refutes.{NamedRow, IsSeparationProblem}
-use Rattle.rg_reasons.specs.Trees.{named_row}
-use Rattle.rg_reasons.specs.Certificates.{IsFormOf, IsRowNameOf, IsRowOf, IsTermWithin}
-use Rattle.rg_reasons.proofs.Within.{row_within}
-use Rattle.rg_order_of_work.specs.Spreading.{Share, arc_name, named_from, multiplier_among, chord_arcs, leaf_fold}
+use Rattle.rg_cert_meaning.specs.Expression.{Expression}
+use Rattle.rg_cert_meaning.specs.Row.{RowStands, row_expression, Side}
+use Rattle.rg_cert_meaning.specs.declared.RowName.{RowName}
+use Rattle.rg_cert_meaning.specs.Refutes.{NamedRow, IsSeparationProblem}
+use Rattle.rg_cert_data.specs.Trees.{named_row}
+use Rattle.rg_cert_data.specs.Certificates.{IsFormOf, IsRowNameOf, IsRowOf, IsTermWithin}
+use Rattle.rg_cert_data.proofs.Within.{row_within}
+use Rattle.rg_case_folds.specs.Spreading.{Share, arc_name, named_from, multiplier_among, chord_arcs, leaf_fold}
 use Rattle.rg_farkas.specs.Leaves.{share_of}
 use Rattle.rg_farkas.specs.View.{AreRowsWithin}
 use Rattle.rg_farkas.proofs.LeafSteps.{not_zero_all}

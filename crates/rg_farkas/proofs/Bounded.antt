@@ -8,12 +8,12 @@ use Rattle.rg_integers.specs.Sign.{size}
 use Rattle.rg_integers.proofs.Ranges.{in_range-neg}
 use Rattle.rg_integers.proofs.Signs.{abs-plus}
 use Rattle.rg_integers.specs.declared.term.Wide.{Wide}
-use Rattle.rg_refuting.specs.Expression.{same_variable, coefficient_in}
-use Rattle.rg_refuting.specs.declared.Variable.{Variable}
-use Rattle.rg_reasons.specs.declared.term.Term.{Term}
-use Rattle.rg_reasons.specs.declared.term.Term.TheVariants.{Plus, Minus}
-use Rattle.rg_reasons.specs.Sums.{term_of, terms_in}
-use Rattle.rg_order_of_work.specs.Fold.{each, further, whole_sum, whole_product}
+use Rattle.rg_cert_meaning.specs.Expression.{same_variable, coefficient_in}
+use Rattle.rg_cert_meaning.specs.declared.Variable.{Variable}
+use Rattle.rg_cert_data.specs.declared.term.Term.{Term}
+use Rattle.rg_cert_data.specs.declared.term.Term.TheVariants.{Plus, Minus}
+use Rattle.rg_cert_data.specs.Sums.{term_of, terms_in}
+use Rattle.rg_case_folds.specs.Fold.{each, further, whole_sum, whole_product}
 use Rattle.rg_farkas.specs.declared.multiplied.Row.{Row}
 use Rattle.rg_farkas.specs.View.{size_fold, coefficient_at}
 

@@ -4,7 +4,7 @@ use Rattle.std.specs.Prelude.{ℤ, pos, neg_ℤ, ◌+ℤ◌, ◌*ℤ◌, ◌<ℤ
 use Rattle.std.proofs.lemmas.Int.{ints}
 use Rattle.std.proofs.lemmas.List.Elements.{All-contains, Contains-append_cases}
 use Rattle.rg_theory.proofs.Lists.{Contains-cons_cases}
-use Rattle.rg_order_of_work.proofs.Lists.{Contains-of_map}
+use Rattle.rg_case_folds.proofs.Lists.{Contains-of_map}
 use Rattle.rg_theory.specs.declared.Arc.{Arc}
 use Rattle.rg_theory.specs.System.{System, IsInRange, states, labels}
 use Rattle.rg_theory.specs.Tree.{IsTree}
@@ -13,23 +13,23 @@ use Rattle.rg_integers.proofs.Ring.{ring, mul-add, add-mul, mul-neg, mul_assoc, 
 use Rattle.rg_integers.proofs.Order.{mul-cancel, mul-cancel_left, mul_positive, positive_differs}
 use Rattle.rg_integers.proofs.ListSums.{sum_over-same, sum_over-append, sum_over-map, sum_over-plus, sum_over-times, sum_over-swap}
 use Rattle.rg_integers.specs.declared.term.Wide.{Wide}
-use Rattle.rg_refuting.specs.Expression.{Expression, value_in}
-use Rattle.rg_refuting.specs.declared.Variable.{Variable}
-use Rattle.rg_refuting.specs.declared.RowName.{RowName}
-use Rattle.rg_refuting.specs.Refutes.{NamedRow}
+use Rattle.rg_cert_meaning.specs.Expression.{Expression, value_in}
+use Rattle.rg_cert_meaning.specs.declared.Variable.{Variable}
+use Rattle.rg_cert_meaning.specs.declared.RowName.{RowName}
+use Rattle.rg_cert_meaning.specs.Refutes.{NamedRow}
 use Rattle.rg_linear.specs.Cycle.{CycleBasis}
-use Rattle.rg_order_of_work.specs.Fold.{each, further, joined, Ratio, whole, add}
-use Rattle.rg_order_of_work.specs.Potentials.{chord_sum}
-use Rattle.rg_order_of_work.specs.Chords.{IsBasis}
-use Rattle.rg_order_of_work.specs.Rewriting.{start_of, count_of, dependent_labels}
-use Rattle.rg_order_of_work.specs.Values.{NamesLabels, numbers_along}
-use Rattle.rg_order_of_work.specs.Spreading.{Share, Pair, pairs_of, pair_fold, used_chords, chord_fold}
-use Rattle.rg_order_of_work.proofs.RowValues.{IsOver, rewritten, quotient_over}
-use Rattle.rg_order_of_work.proofs.Scaling.{Divides, AllDivide}
-use Rattle.rg_order_of_work.proofs.ChordRows.{effects_exact}
+use Rattle.rg_case_folds.specs.Fold.{each, further, joined, Ratio, whole, add}
+use Rattle.rg_case_folds.specs.Potentials.{chord_sum}
+use Rattle.rg_case_folds.specs.Chords.{IsBasis}
+use Rattle.rg_case_folds.specs.Rewriting.{start_of, count_of, dependent_labels}
+use Rattle.rg_case_folds.specs.Values.{NamesLabels, numbers_along}
+use Rattle.rg_case_folds.specs.Spreading.{Share, Pair, pairs_of, pair_fold, used_chords, chord_fold}
+use Rattle.rg_case_folds.proofs.RowValues.{IsOver, rewritten, quotient_over}
+use Rattle.rg_case_folds.proofs.Scaling.{Divides, AllDivide}
+use Rattle.rg_case_folds.proofs.ChordRows.{effects_exact}
 use Rattle.rg_farkas.specs.Refuting.{KeepsEachArc, terms_sum, RefuteOnArcs, AreShares}
 use Rattle.rg_farkas.specs.View.{AreRowsWithin, arc_times}
-use Rattle.rg_reasons.specs.Certificates.{IsTermWithin}
+use Rattle.rg_cert_data.specs.Certificates.{IsTermWithin}
 use Rattle.rg_farkas.proofs.Fractions.{product_over, whole_over_one, joined_sum, negated_over, whole_in, whole_in_over}
 use Rattle.rg_farkas.proofs.Relations.{used_chord, taken, taken_follows, chords_at, counts_away}
 use Rattle.rg_farkas.proofs.Variables.{within_names}

@@ -8,16 +8,16 @@ use Rattle.rg_theory.specs.Tree.{Grows, IsTree, is_among, arcs_without, chords}
 use Rattle.rg_theory.proofs.Lists.{Contains-cons_cases}
 use Rattle.rg_theory.proofs.Trees.{tree_arcs}
 use Rattle.rg_linear.specs.Dictionary.{numbers_from}
-use Rattle.rg_linear.specs.Firsts.{KeepsFirsts}
+use Rattle.rg_linear.specs.Firsts.{KeepsEqualRows}
 use Rattle.rg_linear.specs.Cycle.{vector_at, IsZeroVector, CycleBasis}
 use Rattle.rg_linear.proofs.Firsts.{kept_is}
 use Rattle.rg_linear.proofs.Members.{numbers_from-Contains}
-use Rattle.rg_order_of_work.specs.Chords.{chord_vectors, IsBasis}
-use Rattle.rg_order_of_work.specs.Rewriting.{is_in, numbers_where}
-use Rattle.rg_order_of_work.specs.Spreading.{used_chords, chord_arcs}
-use Rattle.rg_order_of_work.proofs.Potentials.{chord_is_arc}
+use Rattle.rg_case_folds.specs.Chords.{chord_vectors, IsBasis}
+use Rattle.rg_case_folds.specs.Rewriting.{is_in, numbers_where}
+use Rattle.rg_case_folds.specs.Spreading.{used_chords, chord_arcs}
+use Rattle.rg_case_folds.proofs.Potentials.{chord_is_arc}
 use Rattle.rg_spanning.proofs.TreeTables.{among}
-use Rattle.rg_order_of_work.proofs.Lists.{Contains-of_map, where_is}
+use Rattle.rg_case_folds.proofs.Lists.{Contains-of_map, where_is}
 use Rattle.rg_farkas.proofs.Listed.{Differ}
 use Rattle.rg_farkas.proofs.Relations.{used_chord, kept_index}
 
@@ -68,7 +68,7 @@ differ_at (x ∷ xs) (suc i) zero d differ lt below e = omega arith
 differ_at (x ∷ xs) (suc i) (suc j) d (lacks, differ) lt below e = differ_at xs i j d differ (omega arith) (omega arith) e
 
 -- the kept indices rise
-pub kept_rises : {K : Type 0} (key : ℕ → K) (Drops : ℕ → Type 0) (seen : List K) (a n : ℕ) (kept : List ℕ) (i j : ℕ) → KeepsFirsts key Drops seen (numbers_from a n) kept → i < j → j < length kept → slice_index_or kept i 0 < slice_index_or kept j 0
+pub kept_rises : {K : Type 0} (key : ℕ → K) (Drops : ℕ → Type 0) (seen : List K) (a n : ℕ) (kept : List ℕ) (i j : ℕ) → KeepsEqualRows key Drops seen (numbers_from a n) kept → i < j → j < length kept → slice_index_or kept i 0 < slice_index_or kept j 0
 kept_rises key Drops seen a zero kept i j e lt below = absurd (nothing kept e below)
   where
     nothing : (l : List ℕ) → l ≡ [] → j < length l → ⊥

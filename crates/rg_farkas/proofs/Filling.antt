@@ -9,11 +9,11 @@ use Rattle.rg_theory.specs.declared.Arc.{Arc}
 use Rattle.rg_integers.specs.Range.{InRange}
 use Rattle.rg_integers.specs.Sign.{size}
 use Rattle.rg_integers.specs.declared.term.Wide.{Wide}
-use Rattle.rg_refuting.specs.Expression.{Expression}
-use Rattle.rg_refuting.specs.declared.RowName.{RowName}
-use Rattle.rg_order_of_work.specs.Fold.{further, whole_sum}
-use Rattle.rg_order_of_work.specs.Spreading.{ArcTimes, addend_fold, leaving, tree_fold}
-use Rattle.rg_order_of_work.proofs.Items.{from_index}
+use Rattle.rg_cert_meaning.specs.Expression.{Expression}
+use Rattle.rg_cert_meaning.specs.declared.RowName.{RowName}
+use Rattle.rg_case_folds.specs.Fold.{further, whole_sum}
+use Rattle.rg_case_folds.specs.Spreading.{ArcTimes, addend_fold, leaving, tree_fold}
+use Rattle.rg_case_folds.proofs.Items.{from_index}
 use Rattle.rg_farkas.specs.declared.multiplied.Row.{Row}
 use Rattle.rg_farkas.specs.View.{named_of, Tells, arc_times, row_addend, size_fold}
 use Rattle.rg_farkas.specs.Addends.{total}

@@ -10,12 +10,12 @@ use Rattle.rg_integers.proofs.Ring.{ring}
 use Rattle.rg_integers.proofs.Order.{mul-cancel}
 use Rattle.rg_integers.proofs.Divisors.{exact}
 use Rattle.rg_integers.specs.declared.term.Wide.{Wide}
-use Rattle.rg_order_of_work.specs.Fold.{each, further, joined, Ratio, whole, add, mul}
-use Rattle.rg_order_of_work.specs.Placing.{negated}
-use Rattle.rg_order_of_work.specs.Rewriting.{Scaled, scaled_fold}
-use Rattle.rg_order_of_work.proofs.RowValues.{IsOver, add_over}
-use Rattle.rg_order_of_work.proofs.Scaling.{Divides, AllDivide, all_divide, product_whole}
-use Rattle.rg_order_of_work.proofs.Signs.{AllPositive, all_multiple}
+use Rattle.rg_case_folds.specs.Fold.{each, further, joined, Ratio, whole, add, mul}
+use Rattle.rg_case_folds.specs.Placing.{negated}
+use Rattle.rg_case_folds.specs.Rewriting.{Scaled, scaled_fold}
+use Rattle.rg_case_folds.proofs.RowValues.{IsOver, add_over}
+use Rattle.rg_case_folds.proofs.Scaling.{Divides, AllDivide, all_divide, product_whole}
+use Rattle.rg_case_folds.proofs.Signs.{AllPositive, all_multiple}
 
 -- the product of x over b and y over c
 pub product_over : (b c : ℤ) (f g h : Ratio) (x y : ℤ) → mul f g (Ok h) → IsOver b f x → IsOver c g y → IsOver (b *ℤ c) h (x *ℤ y)

@@ -9,18 +9,18 @@ use Rattle.rg_theory.specs.System.{System, labels}
 use Rattle.rg_theory.specs.Tree.{arcs_without, is_among, chords, same_arc}
 use Rattle.rg_lts.specs.WellFormed.{IsWellFormed}
 use Rattle.rg_integers.specs.Range.{InRange}
-use Rattle.rg_order_of_work.proofs.Lists.{where_is}
+use Rattle.rg_case_folds.proofs.Lists.{where_is}
 use Rattle.rg_linear.specs.Cycle.{CycleBasis}
 use Rattle.rg_integers.specs.declared.term.Wide.{Wide}
 use Rattle.rg_fraction.specs.declared.fraction.Fraction.{Fraction}
-use Rattle.rg_refuting.specs.Expression.{Expression}
-use Rattle.rg_refuting.specs.declared.RowName.{RowName}
-use Rattle.rg_refuting.specs.Refutes.{NamedRow}
-use Rattle.rg_reasons.specs.Trees.{named_row}
-use Rattle.rg_order_of_work.specs.Fold.{each, joined, add, whole, Ratio, ratio_of}
-use Rattle.rg_order_of_work.specs.Chords.{IsBasis, chord_vectors, chord_at}
-use Rattle.rg_order_of_work.specs.Rewriting.{is_in, dependent_labels, scaled_fold, Scaled as ScaledNumbers}
-use Rattle.rg_order_of_work.specs.Spreading.{Share, Pair, pairs_of, used_chords, chord_fold, chord_arcs, named_from, arc_name, ArcTimes, tree_fold, IsParts, multiplier_among, not_zero, checked_leaf, leaf_fold}
+use Rattle.rg_cert_meaning.specs.Expression.{Expression}
+use Rattle.rg_cert_meaning.specs.declared.RowName.{RowName}
+use Rattle.rg_cert_meaning.specs.Refutes.{NamedRow}
+use Rattle.rg_cert_data.specs.Trees.{named_row}
+use Rattle.rg_case_folds.specs.Fold.{each, joined, add, whole, Ratio, ratio_of}
+use Rattle.rg_case_folds.specs.Chords.{IsBasis, chord_vectors, chord_at}
+use Rattle.rg_case_folds.specs.Rewriting.{is_in, dependent_labels, scaled_fold, Scaled as ScaledNumbers}
+use Rattle.rg_case_folds.specs.Spreading.{Share, Pair, pairs_of, used_chords, chord_fold, chord_arcs, named_from, arc_name, ArcTimes, tree_fold, IsParts, multiplier_among, not_zero, checked_leaf, leaf_fold}
 use Rattle.rg_cycles.proofs.Equations.{kept_few}
 use Rattle.rg_cycles.proofs.Labels.{in_set}
 use Rattle.rg_farkas.specs.Leaves.{share_of}
@@ -29,7 +29,7 @@ use Rattle.rg_farkas.specs.View.{LabelCount, pair_count, count_fold, counts_fold
 use Rattle.rg_farkas.proofs.ChordSums.{in_pairs}
 use Rattle.rg_farkas.proofs.ChordNumbers.{IsDependent}
 use Rattle.rg_farkas.proofs.Listed.{zeros-append}
-use Rattle.rg_order_of_work.proofs.Items.{each_length}
+use Rattle.rg_case_folds.proofs.Items.{each_length}
 use Rattle.rg_farkas.proofs.Steps.{joined-map}
 use Rattle.rg_farkas.proofs.Told.{each_told}
 

@@ -11,10 +11,10 @@ use Rattle.rg_theory.proofs.Lists.{Contains-cons_cases}
 use Rattle.rg_integers.specs.Sum.{sum_over}
 use Rattle.rg_integers.proofs.Ring.{ring}
 use Rattle.rg_integers.proofs.ListSums.{sum_over-same, sum_over-zero, sum_over-append, sum_over-map, sum_over-plus}
-use Rattle.rg_refuting.specs.declared.RowName.{RowName}
-use Rattle.rg_refuting.specs.Refutes.{NamedRow}
-use Rattle.rg_order_of_work.specs.Spreading.{named_from, not_zero, multiplier_among, arc_name}
-use Rattle.rg_order_of_work.proofs.Potentials.{among_is}
+use Rattle.rg_cert_meaning.specs.declared.RowName.{RowName}
+use Rattle.rg_cert_meaning.specs.Refutes.{NamedRow}
+use Rattle.rg_case_folds.specs.Spreading.{named_from, not_zero, multiplier_among, arc_name}
+use Rattle.rg_case_folds.proofs.Potentials.{among_is}
 use Rattle.rg_farkas.specs.View.{arc_times}
 
 -- what g of the rows' names adds up to, each times its multiplier

@@ -12,9 +12,9 @@ use Rattle.rg_theory.specs.System.{IsArcBefore}
 use Rattle.rg_theory.specs.Tree.{same_arc}
 use Rattle.std.specs.Ordering.{nat_cmp, ordering_then, is_lt}
 use Rattle.rg_lts.proofs.OrderedArcs.{before_itself, before_back}
-use Rattle.rg_refuting.specs.Refutes.{NamedRow}
-use Rattle.rg_order_of_work.specs.Spreading.{multiplier_among, not_zero, arc_name}
-use Rattle.rg_order_of_work.proofs.Items.{from_index}
+use Rattle.rg_cert_meaning.specs.Refutes.{NamedRow}
+use Rattle.rg_case_folds.specs.Spreading.{multiplier_among, not_zero, arc_name}
+use Rattle.rg_case_folds.proofs.Items.{from_index}
 use Rattle.rg_farkas.proofs.Listed.{Differ, arc_is, same_arc_refl, zero_of}
 
 -- ---- the order

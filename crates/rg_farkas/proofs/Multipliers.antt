@@ -14,33 +14,33 @@ use Rattle.rg_linear.specs.System.{LinearRow, LinearSystem, row_at, entry, AreFa
 use Rattle.rg_linear.specs.Branching.{weights_from, Form, form_at, SplitSide, side_row, node_system}
 use Rattle.rg_linear.proofs.Columns.{below_test, past_test}
 use Rattle.rg_linear.proofs.Splits.{index-front}
-use Rattle.rg_refuting.specs.Expression.{Expression, plus, minus, sum_of, value_in}
-use Rattle.rg_refuting.specs.declared.Variable.{Variable}
-use Rattle.rg_refuting.specs.Row.{form_variable, step_of, FormStands, RowStands, row_expression, side_expression, Side}
-use Rattle.rg_refuting.specs.declared.Form.{Form as SplitForm}
-use Rattle.rg_refuting.specs.declared.RowName.{RowName}
-use Rattle.rg_refuting.specs.Refutes.{NamedRow, constant_sum}
-use Rattle.rg_order_of_work.specs.Setting.{CaseSetting}
-use Rattle.rg_order_of_work.specs.Fold.{each, whole, Ratio}
-use Rattle.rg_order_of_work.specs.Rewriting.{has_start, split_forms, form_fold, KeptRow, CaseSystem, rows_of}
-use Rattle.rg_order_of_work.specs.Values.{numbers_along, column_values}
-use Rattle.rg_order_of_work.specs.Shown.{IsLive, named_side, named_sides}
-use Rattle.rg_order_of_work.specs.Spreading.{Share, kept_at, side_at, named_at, split_factor, name_of, factor_of, share_fold}
-use Rattle.rg_order_of_work.proofs.Signs.{factor_is_positive}
-use Rattle.rg_order_of_work.specs.Meaning.{IsCaseOver}
-use Rattle.rg_order_of_work.proofs.Names.{names_stand}
-use Rattle.rg_order_of_work.proofs.ColumnValues.{row_sum}
-use Rattle.rg_order_of_work.proofs.Forms.{form_named, form_value, form_positive, step_positive}
-use Rattle.rg_order_of_work.proofs.FormRows.{start_scale}
-use Rattle.rg_reasons.specs.Certificates.{IsRowNameOf}
+use Rattle.rg_cert_meaning.specs.Expression.{Expression, plus, minus, sum_of, value_in}
+use Rattle.rg_cert_meaning.specs.declared.Variable.{Variable}
+use Rattle.rg_cert_meaning.specs.Row.{form_variable, step_of, FormStands, RowStands, row_expression, side_expression, Side}
+use Rattle.rg_cert_meaning.specs.declared.Form.{Form as SplitForm}
+use Rattle.rg_cert_meaning.specs.declared.RowName.{RowName}
+use Rattle.rg_cert_meaning.specs.Refutes.{NamedRow, constant_sum}
+use Rattle.rg_case_folds.specs.Setting.{CaseSetting}
+use Rattle.rg_case_folds.specs.Fold.{each, whole, Ratio}
+use Rattle.rg_case_folds.specs.Rewriting.{has_start, split_forms, form_fold, KeptRow, CaseSystem, rows_of}
+use Rattle.rg_case_folds.specs.Values.{numbers_along, column_values}
+use Rattle.rg_case_folds.specs.Shown.{IsLive, named_side, named_sides}
+use Rattle.rg_case_folds.specs.Spreading.{Share, kept_at, side_at, named_at, split_factor, name_of, factor_of, share_fold}
+use Rattle.rg_case_folds.proofs.Signs.{factor_is_positive}
+use Rattle.rg_case_folds.specs.Meaning.{IsCaseOver}
+use Rattle.rg_case_folds.proofs.Names.{names_stand}
+use Rattle.rg_case_folds.proofs.ColumnValues.{row_sum}
+use Rattle.rg_case_folds.proofs.Forms.{form_named, form_value, form_positive, step_positive}
+use Rattle.rg_case_folds.proofs.FormRows.{start_scale}
+use Rattle.rg_cert_data.specs.Certificates.{IsRowNameOf}
 use Rattle.rg_farkas.specs.Refuting.{KeepsEachArc, AreShares, SharesRefute}
 use Rattle.rg_farkas.proofs.Names.{IsUsed, names_in_range}
 use Rattle.rg_farkas.proofs.ArcValues.{IsRowOf, kept_row, own_start, own_effect, own_given, same_used, kept_value}
 use Rattle.rg_farkas.proofs.Shares.{names_all, shares_positive, shares_sum}
 use Rattle.rg_farkas.proofs.Sides.{same_expression, stands_below, above_expression, above_stands, get-map, dot-neg, form_used}
-use Rattle.rg_refuting.specs.declared.RowName.TheVariants as row_name
-use Rattle.rg_refuting.specs.declared.Form.TheVariants as split_form
-use Rattle.rg_refuting.specs.declared.Variable.TheVariants.{Tokens}
+use Rattle.rg_cert_meaning.specs.declared.RowName.TheVariants as row_name
+use Rattle.rg_cert_meaning.specs.declared.Form.TheVariants as split_form
+use Rattle.rg_cert_meaning.specs.declared.Variable.TheVariants.{Tokens}
 
 -- ---- the rows of a node
 

@@ -6,19 +6,19 @@ use Rattle.rg_theory.specs.declared.Problem.{Problem}
 use Rattle.rg_theory.specs.declared.Problem.TheVariants.{Event, States}
 use Rattle.rg_theory.specs.System.{System, states, labels}
 use Rattle.rg_theory.proofs.Lists.{Contains-cons_cases}
-use Rattle.rg_refuting.specs.Expression.{Term, plus, minus}
-use Rattle.rg_refuting.specs.declared.Variable.{Variable}
-use Rattle.rg_refuting.specs.Row.{row_expression, apart_expression, order_of}
-use Rattle.rg_refuting.specs.declared.RowName.{RowName}
-use Rattle.rg_refuting.specs.Refutes.{IsSeparationProblem}
-use Rattle.rg_order_of_work.specs.Rewriting.{has_label, has_label_at, states_with, names_of}
-use Rattle.rg_order_of_work.specs.Shown.{IsLive}
-use Rattle.rg_order_of_work.proofs.Lists.{nothing, where_is}
-use Rattle.rg_order_of_work.proofs.Names.{each_problem_name, each_name}
-use Rattle.rg_order_of_work.proofs.Kept.{live_label}
-use Rattle.rg_reasons.specs.Certificates.{IsRowNameOf}
-use Rattle.rg_refuting.specs.declared.RowName.TheVariants as row_name
-use Rattle.rg_refuting.specs.declared.Variable.TheVariants.{Tokens, Effect}
+use Rattle.rg_cert_meaning.specs.Expression.{Term, plus, minus}
+use Rattle.rg_cert_meaning.specs.declared.Variable.{Variable}
+use Rattle.rg_cert_meaning.specs.Row.{row_expression, apart_expression, order_of}
+use Rattle.rg_cert_meaning.specs.declared.RowName.{RowName}
+use Rattle.rg_cert_meaning.specs.Refutes.{IsSeparationProblem}
+use Rattle.rg_case_folds.specs.Rewriting.{has_label, has_label_at, states_with, names_of}
+use Rattle.rg_case_folds.specs.Shown.{IsLive}
+use Rattle.rg_case_folds.proofs.Lists.{nothing, where_is}
+use Rattle.rg_case_folds.proofs.Names.{each_problem_name, each_name}
+use Rattle.rg_case_folds.proofs.Kept.{live_label}
+use Rattle.rg_cert_data.specs.Certificates.{IsRowNameOf}
+use Rattle.rg_cert_meaning.specs.declared.RowName.TheVariants as row_name
+use Rattle.rg_cert_meaning.specs.declared.Variable.TheVariants.{Tokens, Effect}
 
 -- a state, or a label with an arc
 abbrev pub IsUsed : System → Variable → Type 0

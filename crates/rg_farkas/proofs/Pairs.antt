@@ -6,19 +6,19 @@ use Rattle.std.proofs.lemmas.List.Elements.{All-from_get_or, Contains-get_or}
 use Rattle.rg_theory.specs.declared.Arc.{Arc}
 use Rattle.rg_theory.specs.System.{System, states, labels}
 use Rattle.rg_linear.specs.Cycle.{CycleBasis}
-use Rattle.rg_order_of_work.proofs.Lists.{where_is}
+use Rattle.rg_case_folds.proofs.Lists.{where_is}
 use Rattle.rg_fraction.specs.declared.fraction.Fraction.{Fraction}
-use Rattle.rg_refuting.specs.Expression.{Expression}
-use Rattle.rg_refuting.specs.declared.RowName.{RowName}
-use Rattle.rg_order_of_work.specs.Fold.{ratio_of}
-use Rattle.rg_order_of_work.specs.Rewriting.{is_in, dependent_labels}
-use Rattle.rg_order_of_work.specs.Spreading.{pairs_of}
+use Rattle.rg_cert_meaning.specs.Expression.{Expression}
+use Rattle.rg_cert_meaning.specs.declared.RowName.{RowName}
+use Rattle.rg_case_folds.specs.Fold.{ratio_of}
+use Rattle.rg_case_folds.specs.Rewriting.{is_in, dependent_labels}
+use Rattle.rg_case_folds.specs.Spreading.{pairs_of}
 use Rattle.rg_farkas.specs.Leaves.{share_of}
-use Rattle.rg_reasons.specs.declared.sum.Expression.{Expression as CodeExpression}
-use Rattle.rg_reasons.specs.Sums.{expression_of}
+use Rattle.rg_cert_data.specs.declared.sum.Expression.{Expression as CodeExpression}
+use Rattle.rg_cert_data.specs.Sums.{expression_of}
 use Rattle.rg_farkas.specs.View.{LabelCount, pair_count, label_count, AreRowsWithin}
-use Rattle.rg_reasons.specs.Certificates.{IsTermWithin}
-use Rattle.rg_order_of_work.proofs.Items.{from_index}
+use Rattle.rg_cert_data.specs.Certificates.{IsTermWithin}
+use Rattle.rg_case_folds.proofs.Items.{from_index}
 
 -- labels that aren't free are labels, and no members
 pub dependent_at : (n : ℕ) (basis : CycleBasis) (ts : List ℕ) (i : ℕ) → ts ≡ dependent_labels n basis → i < length ts → (not (is_in basis.members (slice_index_or ts i 0)) ≡ true) × (slice_index_or ts i 0 < n)

@@ -8,7 +8,7 @@ use Rattle.rg_integers.specs.Range.{InRange}
 use Rattle.rg_integers.specs.Sum.{number_at}
 use Rattle.rg_integers.proofs.Ring.{one-mul}
 use Rattle.rg_fraction.specs.Rows.{IsPrimitivePart, IsRowGcd}
-use Rattle.rg_order_of_work.specs.Spreading.{IsParts}
+use Rattle.rg_case_folds.specs.Spreading.{IsParts}
 
 -- lists that agree at each index
 same_numbers : (f : ℤ → ℤ) (a b : List ℤ) → length b ≡ length a → ((k : ℕ) → k < length a → number_at a k ≡ f (number_at b k)) → a ≡ map f b

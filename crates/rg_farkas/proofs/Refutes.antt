@@ -11,7 +11,7 @@ use Rattle.rg_theory.specs.System.{System, IsInRange, IsAllReachable, states, la
 use Rattle.rg_theory.specs.Tree.{Grows, IsTree, parikh}
 use Rattle.rg_theory.proofs.Arcs.{arc_in_range}
 use Rattle.rg_theory.proofs.Lists.{Contains-cons_cases}
-use Rattle.rg_order_of_work.proofs.Lists.{Contains-map}
+use Rattle.rg_case_folds.proofs.Lists.{Contains-map}
 use Rattle.rg_theory.proofs.Trees.{reachable_is_met}
 use Rattle.rg_lts.specs.WellFormed.{IsWellFormed}
 use Rattle.rg_integers.specs.Range.{InRange}
@@ -22,23 +22,23 @@ use Rattle.rg_integers.proofs.Sums.{sum_below-zero, sum_below-only}
 use Rattle.rg_integers.proofs.ListSums.{sum_over-same, sum_over-zero, sum_over-append, sum_over-map}
 use Rattle.rg_linear.specs.Cycle.{CycleBasis}
 use Rattle.rg_linear.proofs.Unique.{sum_one}
-use Rattle.rg_refuting.specs.Expression.{Expression, plus, minus, coefficient_in, value_in}
-use Rattle.rg_refuting.specs.declared.Variable.{Variable}
-use Rattle.rg_refuting.specs.declared.RowName.{RowName}
-use Rattle.rg_refuting.specs.Refutes.{NamedRow, IsMultiplier, LeafRefutes, coefficient_sum, constant_sum}
-use Rattle.rg_order_of_work.specs.Fold.{each, Ratio}
-use Rattle.rg_order_of_work.specs.Potentials.{chord_sum, potential}
-use Rattle.rg_order_of_work.specs.Chords.{IsBasis}
-use Rattle.rg_order_of_work.specs.Rewriting.{dependent_labels}
-use Rattle.rg_order_of_work.specs.Values.{numbers_along}
-use Rattle.rg_order_of_work.specs.Spreading.{tree_fold, checked_leaf, Share, ArcTimes, arc_name, named_from, not_zero, multiplier_among, chord_fold, chord_arcs, used_chords, leaf_fold}
-use Rattle.rg_order_of_work.proofs.Potentials.{arc_sum, tree_sum, arc_label}
-use Rattle.rg_order_of_work.proofs.Scaling.{Divides, AllDivide}
-use Rattle.rg_order_of_work.proofs.Signs.{AllPositive}
-use Rattle.rg_order_of_work.proofs.ExactRows.{common_bottom}
+use Rattle.rg_cert_meaning.specs.Expression.{Expression, plus, minus, coefficient_in, value_in}
+use Rattle.rg_cert_meaning.specs.declared.Variable.{Variable}
+use Rattle.rg_cert_meaning.specs.declared.RowName.{RowName}
+use Rattle.rg_cert_meaning.specs.Refutes.{NamedRow, IsMultiplier, LeafRefutes, coefficient_sum, constant_sum}
+use Rattle.rg_case_folds.specs.Fold.{each, Ratio}
+use Rattle.rg_case_folds.specs.Potentials.{chord_sum, potential}
+use Rattle.rg_case_folds.specs.Chords.{IsBasis}
+use Rattle.rg_case_folds.specs.Rewriting.{dependent_labels}
+use Rattle.rg_case_folds.specs.Values.{numbers_along}
+use Rattle.rg_case_folds.specs.Spreading.{tree_fold, checked_leaf, Share, ArcTimes, arc_name, named_from, not_zero, multiplier_among, chord_fold, chord_arcs, used_chords, leaf_fold}
+use Rattle.rg_case_folds.proofs.Potentials.{arc_sum, tree_sum, arc_label}
+use Rattle.rg_case_folds.proofs.Scaling.{Divides, AllDivide}
+use Rattle.rg_case_folds.proofs.Signs.{AllPositive}
+use Rattle.rg_case_folds.proofs.ExactRows.{common_bottom}
 use Rattle.rg_farkas.specs.Refuting.{terms_sum, RefuteOnArcs, SharesRefute}
 use Rattle.rg_farkas.specs.View.{AreRowsWithin, arc_times}
-use Rattle.rg_reasons.specs.Certificates.{IsTermWithin}
+use Rattle.rg_cert_data.specs.Certificates.{IsTermWithin}
 use Rattle.rg_farkas.proofs.Fractions.{part_is, whole_in, scaled_are, scaled_divide, scaled_positive, divide_both}
 use Rattle.rg_farkas.proofs.Relations.{used_chord, relation_row}
 use Rattle.rg_farkas.proofs.ChordSums.{weighted, are_shares, divides_share, chord_bottom, rows_cancel}
@@ -47,9 +47,9 @@ use Rattle.rg_farkas.proofs.TreeSums.{SaysArcs, Runs, tree_runs, arc_at, arc_coe
 use Rattle.rg_farkas.proofs.Variables.{RowsWithin, by_variable, terms_split, outside_sum}
 use Rattle.rg_farkas.proofs.Distinct.{given_differ, given_inside}
 use Rattle.rg_farkas.proofs.Small.{is_small}
-use Rattle.rg_order_of_work.proofs.Items.{each_length}
-use Rattle.rg_refuting.specs.declared.RowName.TheVariants as row_name
-use Rattle.rg_refuting.specs.declared.Variable.TheVariants.{Tokens, Effect}
+use Rattle.rg_case_folds.proofs.Items.{each_length}
+use Rattle.rg_cert_meaning.specs.declared.RowName.TheVariants as row_name
+use Rattle.rg_cert_meaning.specs.declared.Variable.TheVariants.{Tokens, Effect}
 
 -- ---- what holds of all rows of a leaf
 

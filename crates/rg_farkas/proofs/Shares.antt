@@ -10,12 +10,12 @@ use Rattle.rg_integers.proofs.Ring.{ring, mul-add}
 use Rattle.rg_integers.proofs.Order.{mul-cancel, mul_positive, positive_differs, factor_positive}
 use Rattle.rg_integers.proofs.Sums.{sum_below-same, sum_below-first}
 use Rattle.rg_linear.specs.Branching.{weights_from, SplitSide}
-use Rattle.rg_refuting.specs.declared.RowName.{RowName}
-use Rattle.rg_refuting.specs.Row.{Side}
-use Rattle.rg_refuting.specs.Refutes.{NamedRow}
-use Rattle.rg_order_of_work.specs.Fold.{each}
-use Rattle.rg_order_of_work.specs.Rewriting.{CaseSystem}
-use Rattle.rg_order_of_work.specs.Spreading.{Share, name_of, factor_of, share_fold}
+use Rattle.rg_cert_meaning.specs.declared.RowName.{RowName}
+use Rattle.rg_cert_meaning.specs.Row.{Side}
+use Rattle.rg_cert_meaning.specs.Refutes.{NamedRow}
+use Rattle.rg_case_folds.specs.Fold.{each}
+use Rattle.rg_case_folds.specs.Rewriting.{CaseSystem}
+use Rattle.rg_case_folds.specs.Spreading.{Share, name_of, factor_of, share_fold}
 use Rattle.rg_farkas.specs.Refuting.{AreShares}
 use Rattle.rg_farkas.proofs.Listed.{rows_sum, zero_of}
 

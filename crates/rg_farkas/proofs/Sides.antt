@@ -8,14 +8,14 @@ use Rattle.rg_theory.specs.declared.Problem.TheVariants.{Event, States}
 use Rattle.rg_theory.specs.System.{System, states}
 use Rattle.rg_integers.specs.Sum.{dot}
 use Rattle.rg_integers.proofs.Ring.{ring}
-use Rattle.rg_refuting.specs.Row.{form_variable, FormStands, SideStands, RowStands, row_expression, Side, side_expression}
-use Rattle.rg_refuting.specs.declared.Form.{Form}
-use Rattle.rg_refuting.specs.declared.RowName.{RowName}
-use Rattle.rg_order_of_work.specs.Rewriting.{has_start, split_forms}
-use Rattle.rg_order_of_work.proofs.Forms.{IsSplitOf, split_is, split_starts, start_split}
+use Rattle.rg_cert_meaning.specs.Row.{form_variable, FormStands, SideStands, RowStands, row_expression, Side, side_expression}
+use Rattle.rg_cert_meaning.specs.declared.Form.{Form}
+use Rattle.rg_cert_meaning.specs.declared.RowName.{RowName}
+use Rattle.rg_case_folds.specs.Rewriting.{has_start, split_forms}
+use Rattle.rg_case_folds.proofs.Forms.{IsSplitOf, split_is, split_starts, start_split}
 use Rattle.rg_farkas.proofs.Names.{IsUsed}
-use Rattle.rg_refuting.specs.declared.RowName.TheVariants as row_name
-use Rattle.rg_refuting.specs.declared.Form.TheVariants as split_form
+use Rattle.rg_cert_meaning.specs.declared.RowName.TheVariants as row_name
+use Rattle.rg_cert_meaning.specs.declared.Form.TheVariants as split_form
 
 -- ---- expressions below sides
 

@@ -11,18 +11,18 @@ use Rattle.rg_integers.specs.Range.{InRange, greatest}
 use Rattle.rg_integers.specs.Sign.{size}
 use Rattle.rg_integers.specs.Sum.{sum_over}
 use Rattle.rg_integers.specs.declared.term.Wide.{Wide}
-use Rattle.rg_refuting.specs.Expression.{Expression, coefficient_in}
-use Rattle.rg_refuting.specs.declared.Variable.{Variable}
-use Rattle.rg_refuting.specs.declared.RowName.{RowName}
-use Rattle.rg_refuting.specs.Refutes.{NamedRow, IsSmall}
-use Rattle.rg_order_of_work.specs.Fold.{and_then, gives, each, further, whole_sum, whole_product}
-use Rattle.rg_order_of_work.specs.Rewriting.{all_numbers}
-use Rattle.rg_order_of_work.specs.Spreading.{sizes_fold, variables_of, checked_leaf}
-use Rattle.rg_order_of_work.proofs.Lists.{Contains-map, where_has}
-use Rattle.rg_reasons.specs.Certificates.{IsVariableWithin, IsTermWithin}
+use Rattle.rg_cert_meaning.specs.Expression.{Expression, coefficient_in}
+use Rattle.rg_cert_meaning.specs.declared.Variable.{Variable}
+use Rattle.rg_cert_meaning.specs.declared.RowName.{RowName}
+use Rattle.rg_cert_meaning.specs.Refutes.{NamedRow, IsSmall}
+use Rattle.rg_case_folds.specs.Fold.{and_then, gives, each, further, whole_sum, whole_product}
+use Rattle.rg_case_folds.specs.Rewriting.{all_numbers}
+use Rattle.rg_case_folds.specs.Spreading.{sizes_fold, variables_of, checked_leaf}
+use Rattle.rg_case_folds.proofs.Lists.{Contains-map, where_has}
+use Rattle.rg_cert_data.specs.Certificates.{IsVariableWithin, IsTermWithin}
 use Rattle.rg_farkas.proofs.TreeSums.{whole_product_is, joined_whole}
 use Rattle.rg_farkas.proofs.Variables.{outside, RowsWithin}
-use Rattle.rg_refuting.specs.declared.Variable.TheVariants.{Tokens, Effect}
+use Rattle.rg_cert_meaning.specs.declared.Variable.TheVariants.{Tokens, Effect}
 
 pub each_made : {A X : Type 0} (make : A → Result X Wide → Type 0) (items : List A) (ys : List X) (a : A) → each make items (Ok ys) → Contains items a → (y : X) × make a (Ok y)
 each_made make [] ys a e (k, lt, at) = absurd (omega arith)

@@ -3,10 +3,10 @@ use Rattle.std.proofs.Common.{◌≡◌, ℕ, suc, ◌+◌, ◌-◌, ◌<◌, �
 use Rattle.std.specs.Prelude.{slice_index_or}
 use Rattle.std.proofs.lemmas.List.{drop_all, append-nil}
 use Rattle.rg_integers.specs.declared.term.Wide.{Wide}
-use Rattle.rg_order_of_work.specs.Fold.{further, joined}
-use Rattle.rg_order_of_work.specs.Rewriting.{numbers_where}
-use Rattle.rg_order_of_work.proofs.Folding.{further_next, further_unmade, further_unjoined}
-use Rattle.rg_order_of_work.proofs.Items.{from_index}
+use Rattle.rg_case_folds.specs.Fold.{further, joined}
+use Rattle.rg_case_folds.specs.Rewriting.{numbers_where}
+use Rattle.rg_case_folds.proofs.Folding.{further_next, further_unmade, further_unjoined}
+use Rattle.rg_case_folds.proofs.Items.{from_index}
 
 -- ---- a sum, item by item
 

@@ -7,14 +7,14 @@ use Rattle.std.proofs.lemmas.List.Elements.{All-head, All-tail}
 use Rattle.rg_integers.specs.Sum.{sum_below}
 use Rattle.rg_integers.proofs.Ring.{add-mul, mul-add, mul_assoc}
 use Rattle.rg_integers.proofs.Sums.{sum_below-same, sum_below-zero, sum_below-plus, sum_below-times, sum_below-only}
-use Rattle.rg_refuting.specs.Expression.{Term, Expression, same_variable, coefficient_in, value_in}
-use Rattle.rg_refuting.specs.declared.Variable.{Variable}
-use Rattle.rg_refuting.specs.declared.RowName.{RowName}
-use Rattle.rg_refuting.specs.Refutes.{NamedRow, coefficient_sum}
-use Rattle.rg_order_of_work.specs.Values.{NamesLabels}
+use Rattle.rg_cert_meaning.specs.Expression.{Term, Expression, same_variable, coefficient_in, value_in}
+use Rattle.rg_cert_meaning.specs.declared.Variable.{Variable}
+use Rattle.rg_cert_meaning.specs.declared.RowName.{RowName}
+use Rattle.rg_cert_meaning.specs.Refutes.{NamedRow, coefficient_sum}
+use Rattle.rg_case_folds.specs.Values.{NamesLabels}
 use Rattle.rg_farkas.specs.Refuting.{terms_sum}
-use Rattle.rg_reasons.specs.Certificates.{IsVariableWithin, IsTermWithin}
-use Rattle.rg_refuting.specs.declared.Variable.TheVariants.{Tokens, Effect}
+use Rattle.rg_cert_data.specs.Certificates.{IsVariableWithin, IsTermWithin}
+use Rattle.rg_cert_meaning.specs.declared.Variable.TheVariants.{Tokens, Effect}
 
 -- terms within name labels
 pub within_names : (n l : ℕ) (terms : List Term) → All (IsTermWithin n l) terms → NamesLabels l terms

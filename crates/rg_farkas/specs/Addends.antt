@@ -1,7 +1,7 @@
 -- What addends add up to.
 use Rattle.std.specs.Prelude.{List, ℤ, ◌*ℤ◌}
 use Rattle.rg_integers.specs.Sum.{sum_over}
-use Rattle.rg_order_of_work.specs.Spreading.{Addend, Addend.number, Addend.product}
+use Rattle.rg_case_folds.specs.Spreading.{Addend, Addend.number, Addend.product}
 
 -- the number, or the product
 abbrev pub addend_value : Addend → ℤ

@@ -1,23 +1,23 @@
 -- How the call's list is seen, and what is said of a node that is a leaf.
 use Rattle.std.specs.Prelude.{◌≡◌, ◌^◌, ◌<◌, List, length, map, All}
 use Rattle.rg_theory.specs.System.{labels, IsAllReachable}
-use Rattle.rg_refuting.specs.Expression.{Expression}
-use Rattle.rg_refuting.specs.Row.{RowStands, row_expression, cases_of, Side}
-use Rattle.rg_refuting.specs.Refutes.{NamedRow, IsSeparationProblem}
+use Rattle.rg_cert_meaning.specs.Expression.{Expression}
+use Rattle.rg_cert_meaning.specs.Row.{RowStands, row_expression, cases_of, Side}
+use Rattle.rg_cert_meaning.specs.Refutes.{NamedRow, IsSeparationProblem}
 use Rattle.rg_spanning.specs.Spanning.{IsTreeOf}
 use Rattle.rg_fraction.specs.declared.fraction.Fraction.{Fraction}
-use Rattle.rg_splits.specs.Trees.{TreeNode.leaf_node, TreeNode.split_node}
-use Rattle.rg_reasons.specs.Trees.{TreeNode}
-use Rattle.rg_reasons.specs.Certificates.{IsFormOf, IsRowNameOf}
+use Rattle.rg_branch_trees.specs.Trees.{TreeNode.leaf_node, TreeNode.split_node}
+use Rattle.rg_cert_data.specs.Trees.{TreeNode}
+use Rattle.rg_cert_data.specs.Certificates.{IsFormOf, IsRowNameOf}
 use Rattle.rg_cycles.specs.View.{labels_of, cycle_of}
 use Rattle.rg_case_parts.specs.declared.setting.CaseSetting.{CaseSetting as HeldCase}
 use Rattle.rg_case_parts.specs.SettingViews.{shown_case}
-use Rattle.rg_order_of_work.specs.Setting.{CaseSetting}
-use Rattle.rg_order_of_work.specs.Chords.{IsBasis}
-use Rattle.rg_order_of_work.specs.Fold.{ratio_of}
-use Rattle.rg_order_of_work.specs.Spreading.{Share}
+use Rattle.rg_case_folds.specs.Setting.{CaseSetting}
+use Rattle.rg_case_folds.specs.Chords.{IsBasis}
+use Rattle.rg_case_folds.specs.Fold.{ratio_of}
+use Rattle.rg_case_folds.specs.Spreading.{Share}
 use Rattle.rg_farkas.specs.Refuting.{SharesRefute}
-use Rattle.rg_refuting.specs.declared.RowName.{RowName}
+use Rattle.rg_cert_meaning.specs.declared.RowName.{RowName}
 
 -- a named row times a fraction
 abbrev pub share_of : RowName × Fraction → Share

@@ -3,12 +3,12 @@ use Rattle.std.specs.Prelude.{◌≡◌, List, [], ◌∷◌, All, ℤ, pos, ◌
 use Rattle.rg_theory.specs.System.{System}
 use Rattle.rg_theory.specs.Tree.{KeepsArcs}
 use Rattle.rg_integers.specs.Sum.{sum_over}
-use Rattle.rg_refuting.specs.Expression.{Expression, value_in}
-use Rattle.rg_refuting.specs.declared.Variable.{Variable}
-use Rattle.rg_refuting.specs.declared.RowName.{RowName}
-use Rattle.rg_refuting.specs.Refutes.{NamedRow, constant_sum}
-use Rattle.rg_order_of_work.specs.Spreading.{Share}
-use Rattle.rg_refuting.specs.declared.Variable.TheVariants.{Tokens, Effect}
+use Rattle.rg_cert_meaning.specs.Expression.{Expression, value_in}
+use Rattle.rg_cert_meaning.specs.declared.Variable.{Variable}
+use Rattle.rg_cert_meaning.specs.declared.RowName.{RowName}
+use Rattle.rg_cert_meaning.specs.Refutes.{NamedRow, constant_sum}
+use Rattle.rg_case_folds.specs.Spreading.{Share}
+use Rattle.rg_cert_meaning.specs.declared.Variable.TheVariants.{Tokens, Effect}
 
 -- each arc moves the tokens by its label's effect
 abbrev pub KeepsEachArc : System → (Variable → ℤ) → Type 0

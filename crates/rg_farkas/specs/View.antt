@@ -4,20 +4,20 @@ use Rattle.rg_theory.specs.declared.Arc.{Arc}
 use Rattle.rg_theory.specs.System.{System, states, labels}
 use Rattle.rg_integers.specs.declared.term.Wide.{Wide}
 use Rattle.rg_linear.specs.Cycle.{CycleBasis}
-use Rattle.rg_refuting.specs.Expression.{Term as SumTerm, Expression as Sum, coefficient_in}
-use Rattle.rg_refuting.specs.declared.Variable.{Variable}
-use Rattle.rg_refuting.specs.declared.RowName.{RowName}
-use Rattle.rg_refuting.specs.Refutes.{NamedRow}
+use Rattle.rg_cert_meaning.specs.Expression.{Term as SumTerm, Expression as Sum, coefficient_in}
+use Rattle.rg_cert_meaning.specs.declared.Variable.{Variable}
+use Rattle.rg_cert_meaning.specs.declared.RowName.{RowName}
+use Rattle.rg_cert_meaning.specs.Refutes.{NamedRow}
 use Rattle.rg_integers.specs.Sign.{size}
-use Rattle.rg_reasons.specs.Certificates.{IsTermWithin}
-use Rattle.rg_order_of_work.specs.Fold.{gives, and_then, joined, Ratio, whole, ratio_of, quotient, add, mul, whole_product}
-use Rattle.rg_order_of_work.specs.Rewriting.{count_of}
-use Rattle.rg_order_of_work.specs.Placing.{negated}
-use Rattle.rg_order_of_work.specs.Spreading.{Share, Pair, ArcTimes, Addend, Addend.product}
-use Rattle.rg_reasons.specs.Sums.{terms_in, expression_of}
+use Rattle.rg_cert_data.specs.Certificates.{IsTermWithin}
+use Rattle.rg_case_folds.specs.Fold.{gives, and_then, joined, Ratio, whole, ratio_of, quotient, add, mul, whole_product}
+use Rattle.rg_case_folds.specs.Rewriting.{count_of}
+use Rattle.rg_case_folds.specs.Placing.{negated}
+use Rattle.rg_case_folds.specs.Spreading.{Share, Pair, ArcTimes, Addend, Addend.product}
+use Rattle.rg_cert_data.specs.Sums.{terms_in, expression_of}
 use Rattle.rg_farkas.specs.declared.multiplied.Row.{Row}
 use Rattle.rg_farkas.specs.declared.multiplied.Counted.{Counted}
-use Rattle.rg_refuting.specs.declared.Variable.TheVariants.{Tokens}
+use Rattle.rg_cert_meaning.specs.declared.Variable.TheVariants.{Tokens}
 
 -- the terms of the shares' rows name states and labels of the system
 abbrev pub AreRowsWithin : System → (RowName → Sum) → List Share → Type 0

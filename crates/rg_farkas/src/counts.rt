@@ -3,22 +3,22 @@ ghost use Rattle.std.specs.Prelude.{◌≡◌, ◌<◌, ◌≤◌, ◌++◌, len
 ghost use Rattle.rg_theory.specs.System.{labels};
 ghost use Rattle.rg_spanning.specs.Spanning.{IsTreeOf};
 ghost use Rattle.rg_cycles.specs.View.{labels_of};
-ghost use Rattle.rg_order_of_work.specs.Fold.{ratio_of};
-ghost use Rattle.rg_order_of_work.specs.Rewriting.{dependent_labels};
-ghost use Rattle.rg_order_of_work.specs.Spreading.{pairs_of};
-ghost use Rattle.rg_reasons.specs.Sums.{expression_of};
+ghost use Rattle.rg_case_folds.specs.Fold.{ratio_of};
+ghost use Rattle.rg_case_folds.specs.Rewriting.{dependent_labels};
+ghost use Rattle.rg_case_folds.specs.Spreading.{pairs_of};
+ghost use Rattle.rg_cert_data.specs.Sums.{expression_of};
 ghost use Rattle.rg_case_parts.specs.SettingViews.{shown_case};
 ghost use Rattle.rg_farkas.specs.Leaves.{share_of, said_in};
 ghost use Rattle.rg_farkas.specs.View.{counted_of, pair_count, label_count, AreRowsWithin};
-ghost use Rattle.rg_reasons.specs.Certificates.{IsTermWithin};
+ghost use Rattle.rg_cert_data.specs.Certificates.{IsTermWithin};
 
 use crate::multiplied::Counted;
 use crate::rows::case_expression;
 use rg_case_parts::{CaseSetting, Setting, count};
+use rg_cert_data::Expression;
+use rg_cert_meaning::{RowName, Side};
 use rg_cycles::dependent;
 use rg_fraction::Fraction;
-use rg_reasons::Expression;
-use rg_refuting::{RowName, Side};
 use rg_spanning::Tree;
 use std::alloc::{AllocError, Global};
 

@@ -1,15 +1,15 @@
 //! What multipliers of a node's system say of its named rows.
 ghost use Rattle.std.specs.Prelude.{ℕ, ◌^◌, ◌<◌, ◌≤◌, ℤ, List, [], All, Ok, length};
-ghost use Rattle.rg_refuting.specs.Row.{RowStands, row_expression};
+ghost use Rattle.rg_cert_meaning.specs.Row.{RowStands, row_expression};
 ghost use Rattle.rg_linear.specs.System.{AreFarkasMultipliers};
 ghost use Rattle.rg_linear.specs.Branching.{weights_from, SplitSide, node_system};
-ghost use Rattle.rg_order_of_work.specs.Setting.{CaseSetting};
-ghost use Rattle.rg_order_of_work.specs.Fold.{each};
-ghost use Rattle.rg_order_of_work.specs.Rewriting.{CaseSystem, rows_of};
-ghost use Rattle.rg_order_of_work.specs.Shown.{IsLive, named_sides};
-ghost use Rattle.rg_order_of_work.specs.Spreading.{Share, share_fold};
-ghost use Rattle.rg_order_of_work.specs.Meaning.{IsCaseOver};
-ghost use Rattle.rg_reasons.specs.Certificates.{IsRowNameOf};
+ghost use Rattle.rg_case_folds.specs.Setting.{CaseSetting};
+ghost use Rattle.rg_case_folds.specs.Fold.{each};
+ghost use Rattle.rg_case_folds.specs.Rewriting.{CaseSystem, rows_of};
+ghost use Rattle.rg_case_folds.specs.Shown.{IsLive, named_sides};
+ghost use Rattle.rg_case_folds.specs.Spreading.{Share, share_fold};
+ghost use Rattle.rg_case_folds.specs.Meaning.{IsCaseOver};
+ghost use Rattle.rg_cert_data.specs.Certificates.{IsRowNameOf};
 ghost use Rattle.rg_farkas.specs.Refuting.{SharesRefute};
 
 /// Law: if multipliers refute a node's system, the case's with the rows of the splits' sides, its named rows apply

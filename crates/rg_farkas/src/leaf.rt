@@ -1,22 +1,22 @@
 //! The leaf of named rows.
 ghost use Rattle.std.specs.Prelude.{◌≡◌, ◌<◌, ◌^◌, ◌++◌, map, length, All, Ok, Err, IfOk, IsErrOf};
 ghost use Rattle.rg_theory.specs.System.{labels, IsAllReachable};
-ghost use Rattle.rg_refuting.specs.Row.{RowStands};
-ghost use Rattle.rg_refuting.specs.Refutes.{LeafRefutes};
+ghost use Rattle.rg_cert_meaning.specs.Row.{RowStands};
+ghost use Rattle.rg_cert_meaning.specs.Refutes.{LeafRefutes};
 ghost use Rattle.rg_integers.specs.declared.term.Wide.{Wide};
 ghost use Rattle.rg_spanning.specs.Spanning.{IsTreeOf};
 ghost use Rattle.rg_cycles.specs.View.{labels_of};
 ghost use Rattle.rg_fraction.specs.declared.fold_stop.FoldStop.TheVariants as stop;
-ghost use Rattle.rg_order_of_work.specs.Chords.{IsBasis};
-ghost use Rattle.rg_order_of_work.specs.Spreading.{leaf_fold};
-ghost use Rattle.rg_reasons.specs.Trees.{named_row, node_of};
-ghost use Rattle.rg_reasons.specs.Certificates.{IsFormOf, IsRowNameOf, IsNodeOf};
+ghost use Rattle.rg_case_folds.specs.Chords.{IsBasis};
+ghost use Rattle.rg_case_folds.specs.Spreading.{leaf_fold};
+ghost use Rattle.rg_cert_data.specs.Trees.{named_row, node_of};
+ghost use Rattle.rg_cert_data.specs.Certificates.{IsFormOf, IsRowNameOf, IsNodeOf};
 ghost use Rattle.rg_case_parts.specs.SettingViews.{shown_case};
 ghost use Rattle.rg_farkas.specs.Leaves.{share_of, said_in, IsLeafWith, RefutesCase};
 ghost use Rattle.rg_integers.specs.Range.{InRange};
 ghost use Rattle.rg_farkas.specs.Refuting.{SharesRefute};
 ghost use Rattle.rg_farkas.specs.View.{AreRowsWithin};
-ghost use Rattle.rg_order_of_work.specs.Fold.{Comes};
+ghost use Rattle.rg_case_folds.specs.Fold.{Comes};
 
 use crate::chords::{chord_arcs, chord_shares, used_chords};
 use crate::counts::row_counts;
@@ -26,9 +26,9 @@ use crate::rows::{numbered, with_expressions};
 use crate::sizes::check_sizes;
 use crate::sums::tree_multipliers;
 use rg_case_parts::{CaseSetting, Setting, without_denominators};
+use rg_cert_data::Node;
+use rg_cert_meaning::{RowName, Side};
 use rg_fraction::{FoldStop, Fraction};
-use rg_reasons::Node;
-use rg_refuting::{RowName, Side};
 use rg_theory::Arc;
 use std::alloc::{AllocError, Global};
 

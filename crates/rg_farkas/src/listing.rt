@@ -1,13 +1,13 @@
 //! The rows of the leaf.
 ghost use Rattle.std.specs.Prelude.{◌≡◌, ◌<◌, ◌≤◌, ◌++◌, length, map, slice_index_or, All, AllPairs, Contains, IfOk, IfSome, IfNone, OnOk};
 ghost use Rattle.rg_integers.specs.Range.{InRange};
-ghost use Rattle.rg_reasons.specs.Trees.{named_row};
-ghost use Rattle.rg_order_of_work.specs.Spreading.{named_from, not_zero, multiplier_among, arc_name};
+ghost use Rattle.rg_cert_data.specs.Trees.{named_row};
+ghost use Rattle.rg_case_folds.specs.Spreading.{named_from, not_zero, multiplier_among, arc_name};
 ghost use Rattle.rg_theory.specs.System.{IsArcBefore};
 ghost use Rattle.rg_farkas.specs.Leaves.{share_of};
 
+use rg_cert_meaning::RowName;
 use rg_fraction::Fraction;
-use rg_refuting::RowName;
 use rg_theory::Arc;
 use std::alloc::{AllocError, Global};
 

@@ -1,9 +1,9 @@
 //! What has a multiplier: named rows, and counts in them.
 ghost use Rattle.rg_integers.specs.Range.{InRange};
 
+use rg_cert_data::Expression;
+use rg_cert_meaning::RowName;
 use rg_fraction::Fraction;
-use rg_reasons::Expression;
-use rg_refuting::RowName;
 
 /// A named row times a number, with what the row says.
 #[derive(Drop)]

@@ -1,7 +1,7 @@
 //! Numbers without common divisor.
 ghost use Rattle.std.specs.Prelude.{◌≡◌, ◌++◌, All, IfOk};
 ghost use Rattle.rg_integers.specs.Range.{InRange};
-ghost use Rattle.rg_order_of_work.specs.Spreading.{IsParts};
+ghost use Rattle.rg_case_folds.specs.Spreading.{IsParts};
 
 use rg_fraction::reduce;
 use std::alloc::{AllocError, Global};

@@ -2,18 +2,18 @@
 ghost use Rattle.std.specs.Prelude.{◌≡◌, ◌<◌, ◌+◌, ◌++◌, length, map, All, IfOk};
 ghost use Rattle.rg_theory.specs.System.{labels};
 ghost use Rattle.rg_integers.specs.Range.{InRange};
-ghost use Rattle.rg_reasons.specs.Trees.{named_row};
-ghost use Rattle.rg_order_of_work.specs.Spreading.{named_from, arc_name};
-ghost use Rattle.rg_reasons.specs.Sums.{expression_of};
+ghost use Rattle.rg_cert_data.specs.Trees.{named_row};
+ghost use Rattle.rg_case_folds.specs.Spreading.{named_from, arc_name};
+ghost use Rattle.rg_cert_data.specs.Sums.{expression_of};
 ghost use Rattle.rg_case_parts.specs.SettingViews.{shown_case};
 ghost use Rattle.rg_farkas.specs.Leaves.{share_of, said_in};
 ghost use Rattle.rg_farkas.specs.View.{named_of, Tells};
 
 use crate::multiplied::Row;
 use rg_case_parts::CaseSetting;
+use rg_cert_data::{Expression, expression};
+use rg_cert_meaning::{RowName, Side};
 use rg_fraction::Fraction;
-use rg_reasons::{Expression, expression};
-use rg_refuting::{RowName, Side};
 use rg_theory::Arc;
 use std::alloc::{AllocError, Global};
 

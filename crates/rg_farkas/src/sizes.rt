@@ -1,19 +1,19 @@
 //! The sums of absolute values.
 ghost use Rattle.std.specs.Prelude.{◌≡◌, ℤ, pos, List, map, All, Ok, Err, IfOk, IsErrOf};
-ghost use Rattle.rg_refuting.specs.Expression.{Expression};
-ghost use Rattle.rg_refuting.specs.declared.RowName.{RowName};
+ghost use Rattle.rg_cert_meaning.specs.Expression.{Expression};
+ghost use Rattle.rg_cert_meaning.specs.declared.RowName.{RowName};
 ghost use Rattle.rg_integers.specs.declared.term.Wide.{Wide};
 ghost use Rattle.rg_fraction.specs.declared.fold_stop.FoldStop.TheVariants as stop;
-ghost use Rattle.rg_order_of_work.specs.Fold.{Comes, each, further, whole_sum};
-ghost use Rattle.rg_order_of_work.specs.Spreading.{variables_of, checked_leaf};
+ghost use Rattle.rg_case_folds.specs.Fold.{Comes, each, further, whole_sum};
+ghost use Rattle.rg_case_folds.specs.Spreading.{variables_of, checked_leaf};
 ghost use Rattle.rg_farkas.specs.View.{named_of, Tells, size_fold, coefficient_at};
 
 use crate::multiplied::Row;
 use crate::sums::{coefficient, size_times};
+use rg_cert_meaning::Variable;
 use rg_fraction::{FoldStop, whole_sum};
 use rg_integers::Wide;
 use rg_lts::Lts;
-use rg_refuting::Variable;
 use std::alloc::{AllocError, Global};
 
 // Refused where for some state or label, or for the constants, the sum of the absolute values of the rows'

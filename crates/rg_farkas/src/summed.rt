@@ -2,21 +2,21 @@
 ghost use Rattle.std.specs.Prelude.{◌≡◌, ℕ, ◌<◌, [], ◌==◌, ◌+ℤ◌, ◌*ℤ◌, ◌≤ℤ◌, if◌then◌else◌, pos, true, slice_index_or, length, map, replicate, reverse, All, Ok, IfOk, IfSome};
 ghost use Rattle.rg_integers.specs.Range.{InRange};
 ghost use Rattle.rg_integers.specs.Sign.{size};
-ghost use Rattle.rg_refuting.specs.Expression.{Expression as Sum, same_variable, coefficient_in};
-ghost use Rattle.rg_refuting.specs.declared.RowName.{RowName};
-ghost use Rattle.rg_refuting.specs.declared.Variable.TheVariants.{Tokens as tokens};
-ghost use Rattle.rg_order_of_work.specs.Fold.{further, whole_sum};
-ghost use Rattle.rg_order_of_work.specs.Spreading.{tree_fold};
-ghost use Rattle.rg_reasons.specs.Sums.{term_of};
+ghost use Rattle.rg_cert_meaning.specs.Expression.{Expression as Sum, same_variable, coefficient_in};
+ghost use Rattle.rg_cert_meaning.specs.declared.RowName.{RowName};
+ghost use Rattle.rg_cert_meaning.specs.declared.Variable.TheVariants.{Tokens as tokens};
+ghost use Rattle.rg_case_folds.specs.Fold.{further, whole_sum};
+ghost use Rattle.rg_case_folds.specs.Spreading.{tree_fold};
+ghost use Rattle.rg_cert_data.specs.Sums.{term_of};
 ghost use Rattle.rg_farkas.specs.View.{named_of, Tells, arc_times, coefficient_at, row_addend};
 ghost use Rattle.rg_farkas.specs.Addends.{total};
 
 use crate::multiplied::Row;
 use crate::sizes::greatest_sizes;
 use crate::sums::absolute;
+use rg_cert_data::Term;
+use rg_cert_meaning::Variable::Tokens;
 use rg_fraction::whole_sum;
-use rg_reasons::Term;
-use rg_refuting::Variable::Tokens;
 use rg_theory::Arc;
 use std::alloc::{AllocError, Global};
 

@@ -2,20 +2,20 @@
 ghost use Rattle.std.specs.Prelude.{◌≡◌, ◌≤◌, [], ◌++◌, ◌≤ℤ◌, neg_ℤ, if◌then◌else◌, pos, length, map, reverse, All, IfOk};
 ghost use Rattle.rg_integers.specs.Range.{InRange};
 ghost use Rattle.rg_integers.specs.Sign.{size};
-ghost use Rattle.rg_refuting.specs.Expression.{Expression as Sum, same_variable, coefficient_in};
-ghost use Rattle.rg_refuting.specs.declared.RowName.{RowName};
-ghost use Rattle.rg_order_of_work.specs.Fold.{Comes, gives, and_then, further, whole_sum, whole_product};
-ghost use Rattle.rg_order_of_work.specs.Spreading.{tree_fold, addend_fold, leaving};
-ghost use Rattle.rg_reasons.specs.Sums.{term_of, expression_of};
+ghost use Rattle.rg_cert_meaning.specs.Expression.{Expression as Sum, same_variable, coefficient_in};
+ghost use Rattle.rg_cert_meaning.specs.declared.RowName.{RowName};
+ghost use Rattle.rg_case_folds.specs.Fold.{Comes, gives, and_then, further, whole_sum, whole_product};
+ghost use Rattle.rg_case_folds.specs.Spreading.{tree_fold, addend_fold, leaving};
+ghost use Rattle.rg_cert_data.specs.Sums.{term_of, expression_of};
 ghost use Rattle.rg_farkas.specs.View.{named_of, Tells, arc_times, row_addend};
 
 use crate::multiplied::Row;
 use crate::summed::summed_multipliers;
+use rg_cert_data::Expression;
+use rg_cert_data::Term::{self, Minus, Plus};
+use rg_cert_meaning::Variable;
 use rg_fraction::{FoldStop, whole_product, whole_sum};
 use rg_integers::Wide;
-use rg_reasons::Expression;
-use rg_reasons::Term::{self, Minus, Plus};
-use rg_refuting::Variable;
 use rg_theory::Arc;
 use std::alloc::Global;
 

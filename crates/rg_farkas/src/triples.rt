@@ -1,24 +1,24 @@
 //! The leaf of named rows below sides that triples name.
 ghost use Rattle.std.specs.Prelude.{◌≡◌, map, Ok, Err, IfOk, IsErrOf};
 ghost use Rattle.rg_integers.specs.declared.term.Wide.{Wide};
-ghost use Rattle.rg_refuting.specs.Row.{RowStands};
-ghost use Rattle.rg_refuting.specs.Refutes.{LeafRefutes};
-ghost use Rattle.rg_refuting.specs.Sides.{side_of};
+ghost use Rattle.rg_cert_meaning.specs.Row.{RowStands};
+ghost use Rattle.rg_cert_meaning.specs.Refutes.{LeafRefutes};
+ghost use Rattle.rg_cert_meaning.specs.Sides.{side_of};
 ghost use Rattle.rg_fraction.specs.declared.fold_stop.FoldStop.TheVariants as stop;
 ghost use Rattle.rg_cycles.specs.View.{cycle_of};
-ghost use Rattle.rg_order_of_work.specs.Setting.{setting_at, case_at};
-ghost use Rattle.rg_order_of_work.specs.Spreading.{leaf_fold};
-ghost use Rattle.rg_reasons.specs.Trees.{node_of};
-ghost use Rattle.rg_reasons.specs.Certificates.{IsNodeOf};
+ghost use Rattle.rg_case_folds.specs.Setting.{setting_at, case_at};
+ghost use Rattle.rg_case_folds.specs.Spreading.{leaf_fold};
+ghost use Rattle.rg_cert_data.specs.Trees.{node_of};
+ghost use Rattle.rg_cert_data.specs.Certificates.{IsNodeOf};
 ghost use Rattle.rg_farkas.specs.Leaves.{share_of, said_in, IsLeafWith, RefutesCase};
 
 use crate::leaf::spread_in;
 use rg_case_parts::{CaseSetting, Setting};
+use rg_cert_data::Node;
+use rg_cert_meaning::{Form, RowName, Side};
 use rg_cycles::Basis;
 use rg_fraction::{FoldStop, Fraction};
 use rg_lts::Lts;
-use rg_reasons::Node;
-use rg_refuting::{Form, RowName, Side};
 use rg_spanning::Tree;
 use rg_theory::{Class, Problem};
 use std::alloc::{AllocError, Global};

@@ -5,11 +5,11 @@ use Rattle.rg_linear.specs.System.{LinearSystem}
 use Rattle.rg_linear.specs.Dictionary.{numbers_from, IsFree}
 use Rattle.rg_linear.specs.Descent.{Outcome, Outcome.point, Outcome.refuted, Outcome.wide, DescentFrom, DescentFromStart}
 use Rattle.rg_linear.specs.Stack.{fixed_of, limit, Resumes, Resumes.last, work_left, IsFalling, IsStackOf}
-use Rattle.rg_linear.proofs.Stacks.{step_passed, step_stuck, step_wide, step_exchange, step_return, step_end, work-passed, work-exchange, work-return, stack_pushed, stack_popped, room_on_stack}
+use Rattle.rg_linear.proofs.Stacks.{step_satisfied, step_stuck, step_wide, step_exchange, step_return, step_end, work-satisfied, work-exchange, work-return, stack_pushed, stack_popped, room_on_stack}
 use Rattle.rg_linear.proofs.Members.{Contains-nil}
 use Rattle.rg_dictionary.specs.Contents.{Contents, IsDictionary}
 use Rattle.rg_feasible.specs.declared.settled.PivotWide.{PivotWide}
-use Rattle.rg_feasible.specs.declared.step.Step.TheVariants.{Passed, Stuck, Exchanged, Wide}
+use Rattle.rg_feasible.specs.declared.step.Step.TheVariants.{Satisfied, Stuck, Exchanged, Wide}
 use Rattle.rg_feasible.specs.Settling.{wide_at}
 use Rattle.rg_feasible.specs.Steps.{StepTells}
 
@@ -94,11 +94,11 @@ module _ (system : LinearSystem) (members stack : List ℕ) (below i : ℕ) (is 
     pub wide_free : (new : List ℕ) (w : PivotWide) → StepTells system members (reverse stack) i new (Wide w) → IsFree system new
     wide_free new w (chooses, first, pivot, same) = subst (IsFree system) (sym same) chooses.row.free
 
-    pub leads_passed : (new : List ℕ) → StepTells system members (reverse stack) i new Passed → LeadsOn system new stack below (i + 1)
-    leads_passed new told = record {
+    pub leads_satisfied : (new : List ℕ) → StepTells system members (reverse stack) i new Satisfied → LeadsOn system new stack below (i + 1)
+    leads_satisfied new told = record {
       limit = is.limit;
       stacked = subst (IsStackOf system (reverse stack)) (sym told.1) is.stacked;
-      leads = λ o rest. is.leads o (step_passed system (reverse stack) members i o before_limit told.0 (subst (λ k. Resumes system (reverse stack) members k o) (add-one i) (subst (λ ms. Resumes system (reverse stack) ms (i + 1) o) told.1 rest)));
+      leads = λ o rest. is.leads o (step_satisfied system (reverse stack) members i o before_limit told.0 (subst (λ k. Resumes system (reverse stack) members k o) (add-one i) (subst (λ ms. Resumes system (reverse stack) ms (i + 1) o) told.1 rest)));
     }
 
     -- the stack has room for one more
@@ -115,8 +115,8 @@ module _ (system : LinearSystem) (members stack : List ℕ) (below i : ℕ) (is 
         turned : reverse pushed ≡ i ∷ reverse stack
         turned = ap reverse was ∙ reverse-push stack i
 
-    pub work_passed : work_left (length system.rows) (reverse stack) (i + 1) < work_left (length system.rows) (reverse stack) i
-    work_passed = subst (λ k. work_left (length system.rows) (reverse stack) k < work_left (length system.rows) (reverse stack) i) (sym (add-one i)) (work-passed system (reverse stack) i before_limit)
+    pub work_satisfied : work_left (length system.rows) (reverse stack) (i + 1) < work_left (length system.rows) (reverse stack) i
+    work_satisfied = subst (λ k. work_left (length system.rows) (reverse stack) k < work_left (length system.rows) (reverse stack) i) (sym (add-one i)) (work-satisfied system (reverse stack) i before_limit)
 
     pub work_pushed : (pushed : List ℕ) → pushed ≡ stack ++ i ∷ [] → work_left (length system.rows) (reverse pushed) 0 < work_left (length system.rows) (reverse stack) i
     work_pushed pushed was = subst (λ xs. work_left (length system.rows) xs 0 < work_left (length system.rows) (reverse stack) i) (sym (ap reverse was ∙ reverse-push stack i)) (work-exchange system (reverse stack) i before_limit)

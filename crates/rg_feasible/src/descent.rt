@@ -38,7 +38,7 @@ pub(crate) fn descend(table: &mut RelationTable, stack: &mut Vec<u32>) -> Settle
             }
         } else {
             match take_row(table, stack, i) {
-                Step::Passed => i += 1,
+                Step::Satisfied => i += 1,
                 Step::Stuck => return Settled::Refuted(i),
                 Step::Wide(wide) => return Settled::Wide(wide),
                 Step::Exchanged => {

@@ -12,7 +12,7 @@ use rg_dictionary::RelationTable;
 #[derive(Clone, Copy)]
 pub(crate) enum Step {
     /// It holds, or it is a member.
-    Passed,
+    Satisfied,
     /// It fails, and names fixed variables alone.
     Stuck,
     /// It is a member now, in place of the least variable that it named and that wasn't fixed.
@@ -33,11 +33,11 @@ pub(crate) fn take_row(table: &mut RelationTable, stack: &[u32], i: u32) -> Step
     let columns = table.columns();
     let pivot = columns + i;
     if table.contains(pivot) {
-        return Step::Passed;
+        return Step::Satisfied;
     }
     let numbers = table.numbers(pivot);
     if numbers[1] >= 0 {
-        return Step::Passed;
+        return Step::Satisfied;
     }
     let Some(index) = least_free(columns, table.members(), stack, numbers) else {
         return Step::Stuck;

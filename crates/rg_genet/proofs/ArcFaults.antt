@@ -3,7 +3,7 @@ use Rattle.std.proofs.Common.{◌≡◌, ℕ, ◌<◌, ◌≤◌, nat_lt, Bool, 
 use Rattle.std.proofs.lemmas.Bool.{cond-true, cond-false}
 use Rattle.std.proofs.lemmas.Bool.Decides.{nat_tests}
 use Rattle.rg_theory.specs.Limits.{most_states, most_labels, most_arcs}
-use Rattle.rg_firsts.specs.First.{firsts, same_arc}
+use Rattle.rg_line_formats.specs.First.{firsts, same_arc}
 use Rattle.rg_genet.specs.declared.fault.GraphFault.TheVariants.{TooManyStates, TooManyLabels, TooManyArcs, LongName}
 use Rattle.rg_genet.specs.Contents.{Triple, state_names, label_names, arcs_of, is_long, arc_fault}
 use Rattle.rg_genet.specs.Reading.{AreFew}

@@ -7,12 +7,12 @@ use Rattle.rg_theory.specs.System.{arc}
 use Rattle.rg_theory.specs.Limits.{most_states, most_labels, most_arcs}
 use Rattle.rg_lts.specs.Draft.{Draft, IsArcNamed, AddsArc, IsWellFormedDraft}
 use Rattle.rg_lts.proofs.OrderedArcs.{Has, has_from, contains_from, ordered_from, inserted}
-use Rattle.rg_firsts.specs.First.{with_new, firsts, number_of, same_arc}
-use Rattle.rg_firsts.specs.Grown.{with_state, with_label}
+use Rattle.rg_line_formats.specs.First.{with_new, firsts, number_of, same_arc}
+use Rattle.rg_line_formats.specs.Grown.{with_state, with_label}
 use Rattle.std.proofs.lemmas.Slice.Eq.{bytes_eq-Decides}
-use Rattle.rg_firsts.proofs.Things.{still_at}
-use Rattle.rg_firsts.proofs.Counted.{how_many, any_has, has_any, has_both, has_left, has_last}
-use Rattle.rg_firsts.proofs.Numbers.{number_is}
+use Rattle.rg_line_formats.proofs.Things.{still_at}
+use Rattle.rg_line_formats.proofs.Counted.{how_many, any_has, has_any, has_both, has_left, has_last}
+use Rattle.rg_line_formats.proofs.Numbers.{number_is}
 use Rattle.rg_genet.specs.Contents.{Triple, state_names, label_names, arc_of, arcs_of}
 use Rattle.rg_genet.specs.Reading.{HasTriples}
 use Rattle.rg_genet.proofs.Triples.{states_more, labels_more, arcs_more}

@@ -3,7 +3,7 @@ use Rattle.std.proofs.Common.{◌≡◌, ℕ, suc, ◌+◌, nat_lt, Bool, true, 
 use Rattle.std.specs.List.{before_first, list_any, position_or_len}
 use Rattle.rg_lts.specs.Draft.{Draft}
 use Rattle.rg_text.specs.Faults.{faults_after, if_not, IsFirst, AreNone}
-use Rattle.rg_firsts.specs.Numbered.{Line}
+use Rattle.rg_line_formats.specs.Numbered.{Line}
 use Rattle.rg_genet.specs.declared.fault.GraphFault.{GraphFault}
 use Rattle.rg_genet.specs.declared.fault.GraphFault.TheVariants.{NoEnd}
 use Rattle.rg_genet.specs.declared.reading.Marking.{Marking}

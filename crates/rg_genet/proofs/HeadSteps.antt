@@ -2,7 +2,7 @@
 use Rattle.std.proofs.Common.{◌≡◌, inl, inr, ℕ, suc, ◌+◌, Bool, true, false, List, [], ◌∷◌, drop, map, None, Some, refl, sym, ap, subst, ◌∙◌, arith}
 use Rattle.std.specs.List.{after_first, before_first, position_or_len}
 use Rattle.rg_text.specs.Faults.{IsFirst, AreNone}
-use Rattle.rg_firsts.specs.Numbered.{Line}
+use Rattle.rg_line_formats.specs.Numbered.{Line}
 use Rattle.rg_genet.specs.declared.fault.GraphFault.{GraphFault}
 use Rattle.rg_genet.specs.declared.fault.GraphFault.TheVariants.{NoEnd}
 use Rattle.rg_genet.specs.Contents.{opens, heading_fault}

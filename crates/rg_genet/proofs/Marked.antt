@@ -1,7 +1,7 @@
 -- A text without a fault has one marking.
 use Rattle.std.proofs.Common.{◌≡◌, ℕ, List, [], ◌∷◌, ◌++◌, Option, None, Some, refl, sym, ap, ◌∙◌, append_assoc, append-nil}
 use Rattle.rg_text.specs.Faults.{faults_after, AreNone}
-use Rattle.rg_firsts.specs.Numbered.{Line}
+use Rattle.rg_line_formats.specs.Numbered.{Line}
 use Rattle.rg_genet.specs.Form.{Form, blank, arc_line, marking_line, closing, other}
 use Rattle.rg_genet.specs.Contents.{says, markings, markings_by, fault_by, line_fault}
 

@@ -4,9 +4,9 @@ use Rattle.std.specs.Str.{bytes_eq}
 use Rattle.rg_theory.specs.System.{System}
 use Rattle.rg_text.specs.Faults.{faults_after, if_not, AreNone}
 use Rattle.rg_text.proofs.Left.{one_first, none_or_first, some_first}
-use Rattle.rg_firsts.specs.First.{number_of}
-use Rattle.rg_firsts.specs.Numbered.{Line}
-use Rattle.rg_firsts.proofs.Parts.{some_with, one_with}
+use Rattle.rg_line_formats.specs.First.{number_of}
+use Rattle.rg_line_formats.specs.Numbered.{Line}
+use Rattle.rg_line_formats.proofs.Parts.{some_with, one_with}
 use Rattle.rg_genet.specs.declared.fault.GraphFault.{GraphFault}
 use Rattle.rg_genet.specs.declared.fault.GraphFault.TheVariants.{NoEnd}
 use Rattle.rg_genet.specs.Contents.{Triple, heading, body, is_closed, heading_fault, line_fault, last_faults, triples, markings, state_names, label_names, arc_of, faults}

@@ -4,8 +4,8 @@ use Rattle.std.specs.List.{list_any}
 use Rattle.std.specs.Str.{bytes_eq}
 use Rattle.rg_text.specs.Faults.{faults_after, if_not, IsFirst}
 use Rattle.rg_theory.specs.Limits.{most_states, most_labels, most_arcs}
-use Rattle.rg_firsts.specs.First.{firsts, same_arc}
-use Rattle.rg_firsts.specs.Numbered.{Line}
+use Rattle.rg_line_formats.specs.First.{firsts, same_arc}
+use Rattle.rg_line_formats.specs.Numbered.{Line}
 use Rattle.rg_genet.specs.declared.fault.GraphFault.{GraphFault}
 use Rattle.rg_genet.specs.declared.fault.GraphFault.TheVariants.{Expected, UnknownState, NoEnd, TooManyStates, TooManyLabels, TooManyArcs, LongName, NoMemory}
 use Rattle.rg_genet.specs.Form.{Form, blank, arc_line, marking_line, closing, other, tokens, passes_by}

@@ -8,7 +8,7 @@ use Rattle.std.proofs.lemmas.Simd.{map-map}
 use Rattle.rg_text.specs.Faults.{faults_after, AreNone}
 use Rattle.rg_text.specs.Line.{fed, lines}
 use Rattle.rg_theory.specs.System.{System}
-use Rattle.rg_firsts.specs.Numbered.{Line}
+use Rattle.rg_line_formats.specs.Numbered.{Line}
 use Rattle.rg_genet.specs.Form.{arc_line, marking_line, form_of, is_closing, is_named, opens_by, tokens}
 use Rattle.rg_genet.specs.Contents.{Triple, opens, says, closes, heading_fault, triples, triples_by, markings, markings_by, fault_by, marking_fault, line_fault, is_long}
 use Rattle.rg_genet.specs.Text.{name_at, names_of, triple_text, labels_text, graph_text}

@@ -14,11 +14,11 @@ use Rattle.rg_text.specs.Byte.{IsName}
 use Rattle.rg_text.specs.Faults.{faults_after, if_not, AreNone}
 use Rattle.rg_text.proofs.Left.{none_joined}
 use Rattle.rg_lts.specs.WellFormed.{IsWellFormed}
-use Rattle.rg_firsts.specs.First.{firsts, number_of, same_arc}
-use Rattle.rg_firsts.specs.Numbered.{Line, numbered}
-use Rattle.rg_firsts.proofs.Things.{there_later, map_there, map_from, pigeons, firsts_short, firsts_differ, met_from}
-use Rattle.rg_firsts.proofs.Present.{any_there}
-use Rattle.rg_firsts.proofs.Numbers.{met, number_at}
+use Rattle.rg_line_formats.specs.First.{firsts, number_of, same_arc}
+use Rattle.rg_line_formats.specs.Numbered.{Line, numbered}
+use Rattle.rg_line_formats.proofs.Things.{there_later, map_there, map_from, pigeons, firsts_short, firsts_differ, met_from}
+use Rattle.rg_line_formats.proofs.Present.{any_there}
+use Rattle.rg_line_formats.proofs.Numbers.{met, number_at}
 use Rattle.rg_genet.specs.declared.fault.GraphFault.TheVariants.{NoEnd, UnknownState}
 use Rattle.rg_genet.specs.Contents.{Triple, opens, body, closes, line_fault, last_faults, ends, triples, markings, state_names, label_names, arc_of, arcs_of}
 use Rattle.rg_genet.specs.Spells.{or_alone, IsGraphOf, Spells}

@@ -13,11 +13,11 @@ use Rattle.rg_theory.specs.declared.Arc.{Arc}
 use Rattle.rg_theory.specs.System.{System, IsArcInRange}
 use Rattle.rg_lts.specs.WellFormed.{AreNames, IsWellFormed}
 use Rattle.rg_lts.proofs.OrderedArcs.{has_from, contains_from, ordered_from}
-use Rattle.rg_firsts.specs.First.{firsts, number_of, same_arc}
-use Rattle.rg_firsts.specs.Numbered.{Line}
-use Rattle.rg_firsts.proofs.Things.{met_from, map_from, firsts_differ, there_any}
-use Rattle.rg_firsts.proofs.Numbers.{number_at, met}
-use Rattle.rg_firsts.proofs.Counted.{how_many}
+use Rattle.rg_line_formats.specs.First.{firsts, number_of, same_arc}
+use Rattle.rg_line_formats.specs.Numbered.{Line}
+use Rattle.rg_line_formats.proofs.Things.{met_from, map_from, firsts_differ, there_any}
+use Rattle.rg_line_formats.proofs.Numbers.{number_at, met}
+use Rattle.rg_line_formats.proofs.Counted.{how_many}
 use Rattle.rg_genet.specs.declared.fault.GraphFault.TheVariants.{NoEnd, UnknownState}
 use Rattle.rg_genet.specs.Contents.{Triple, heading, body, is_closed, heading_fault, line_fault, last_faults, triples, markings, ends, state_names, label_names, arc_of, arcs_of}
 use Rattle.rg_genet.specs.Reading.{AreFew}

@@ -10,8 +10,8 @@ use Rattle.rg_text.specs.Byte.{is_name_byte, IsName}
 use Rattle.rg_text.specs.Faults.{faults_after, AreNone}
 use Rattle.rg_text.specs.Limits.{most_name_bytes}
 use Rattle.rg_theory.specs.Limits.{most_states, most_labels, most_arcs}
-use Rattle.rg_firsts.specs.First.{firsts, same_arc}
-use Rattle.rg_firsts.specs.Numbered.{Line}
+use Rattle.rg_line_formats.specs.First.{firsts, same_arc}
+use Rattle.rg_line_formats.specs.Numbered.{Line}
 use Rattle.rg_genet.specs.declared.fault.GraphFault.{GraphFault}
 use Rattle.rg_genet.specs.declared.fault.GraphFault.TheVariants.{TooManyStates, TooManyLabels, TooManyArcs, LongName}
 use Rattle.rg_genet.specs.Form.{Form, blank, arc_line, marking_line, closing, other, form_of, is_named, tokens}

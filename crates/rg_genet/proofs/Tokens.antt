@@ -9,7 +9,7 @@ use Rattle.std.proofs.lemmas.List.Splits.{slice_split-cons_yes, slice_split-cons
 use Rattle.std.proofs.lemmas.List.Sums.{list_all-from_AllPass}
 use Rattle.rg_text.specs.Byte.{is_name_byte, is_blank_byte, IsName}
 use Rattle.rg_text.specs.Line.{is_feed, lines}
-use Rattle.rg_firsts.specs.Words.{words}
+use Rattle.rg_line_formats.specs.Words.{words}
 use Rattle.rg_genet.specs.Form.{uncommented, apart, tokens, is_named}
 use Rattle.rg_genet.specs.Contents.{Triple, is_long}
 use Rattle.rg_genet.specs.Text.{triple_text, labels_text}

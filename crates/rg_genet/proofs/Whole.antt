@@ -8,11 +8,11 @@ use Rattle.rg_lts.specs.WellFormed.{IsWellFormed}
 use Rattle.rg_lts.specs.Draft.{Draft, finished}
 use Rattle.rg_text.specs.Faults.{faults_after, if_not, IsFirst, AreNone}
 use Rattle.rg_text.proofs.Left.{first_left, first_right, none_joined}
-use Rattle.rg_firsts.specs.First.{number_of}
-use Rattle.rg_firsts.specs.Numbered.{Line, numbered}
-use Rattle.rg_firsts.proofs.Things.{there_at}
-use Rattle.rg_firsts.proofs.Present.{any_there, any_absent}
-use Rattle.rg_firsts.proofs.Numbers.{number_is, met}
+use Rattle.rg_line_formats.specs.First.{number_of}
+use Rattle.rg_line_formats.specs.Numbered.{Line, numbered}
+use Rattle.rg_line_formats.proofs.Things.{there_at}
+use Rattle.rg_line_formats.proofs.Present.{any_there, any_absent}
+use Rattle.rg_line_formats.proofs.Numbers.{number_is, met}
 use Rattle.rg_genet.specs.declared.fault.GraphFault.{GraphFault}
 use Rattle.rg_genet.specs.declared.fault.GraphFault.TheVariants.{NoEnd, UnknownState}
 use Rattle.rg_genet.specs.declared.reading.Marking.{Marking}

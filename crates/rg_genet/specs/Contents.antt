@@ -6,8 +6,8 @@ use Rattle.rg_theory.specs.declared.Arc.{Arc}
 use Rattle.rg_text.specs.Faults.{faults_after, if_not}
 use Rattle.rg_text.specs.Limits.{most_name_bytes}
 use Rattle.rg_theory.specs.Limits.{most_states, most_labels, most_arcs}
-use Rattle.rg_firsts.specs.First.{firsts, number_of, same_arc}
-use Rattle.rg_firsts.specs.Numbered.{Line, numbered}
+use Rattle.rg_line_formats.specs.First.{firsts, number_of, same_arc}
+use Rattle.rg_line_formats.specs.Numbered.{Line, numbered}
 use Rattle.rg_genet.specs.declared.fault.GraphFault.{GraphFault}
 use Rattle.rg_genet.specs.declared.fault.GraphFault.TheVariants.{Expected, NoMarking, UnknownState, NoEnd, TooManyStates, TooManyLabels, TooManyArcs, LongName}
 use Rattle.rg_genet.specs.Form.{tokens, opens_by, passes_by, Form, blank, arc_line, marking_line, closing, other, form_of, is_closing}

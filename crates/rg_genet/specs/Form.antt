@@ -3,7 +3,7 @@ use Rattle.std.specs.Prelude.{ℕ, ◌==◌, Bool, true, false, not, ◌||◌, �
 use Rattle.std.specs.List.{before_first, flat_map, list_all}
 use Rattle.std.specs.Str.{bytes_eq}
 use Rattle.rg_text.specs.Byte.{is_name_byte}
-use Rattle.rg_firsts.specs.Words.{words}
+use Rattle.rg_line_formats.specs.Words.{words}
 
 -- a line up to its first `#`
 abbrev pub uncommented : List ℕ → List ℕ

@@ -13,8 +13,8 @@ use Rattle.rg_theory.specs.Limits.{most_states, most_labels, most_arcs}
 use Rattle.rg_lts.specs.Draft.{Draft}
 use Rattle.rg_lts.specs.declared.fault.BuildFault.{BuildFault}
 use Rattle.rg_lts.specs.declared.fault.BuildFault.TheVariants.{TooManyStates, TooManyLabels, TooManyArcs, NoMemory}
-use Rattle.rg_firsts.specs.Numbered.{Line}
-use Rattle.rg_firsts.specs.First.{firsts, same_arc}
+use Rattle.rg_line_formats.specs.Numbered.{Line}
+use Rattle.rg_line_formats.specs.First.{firsts, same_arc}
 use Rattle.rg_theory.specs.System.{System}
 use Rattle.rg_genet.specs.Spells.{or_alone}
 use Rattle.rg_genet.specs.Contents.{Triple, opens, heading_fault, closes, line_fault, triples, markings, state_names, label_names, arcs_of}

@@ -3,9 +3,9 @@ use Rattle.std.specs.Prelude.{◌≡◌, ℕ, List, [], ◌∷◌, map}
 use Rattle.std.specs.Str.{bytes_eq}
 use Rattle.rg_theory.specs.System.{System}
 use Rattle.rg_text.specs.Faults.{IsFirst, AreNone}
-use Rattle.rg_firsts.specs.First.{number_of}
-use Rattle.rg_firsts.specs.Numbered.{Line}
-use Rattle.rg_firsts.specs.Parts.{IsSystemWith}
+use Rattle.rg_line_formats.specs.First.{number_of}
+use Rattle.rg_line_formats.specs.Numbered.{Line}
+use Rattle.rg_line_formats.specs.Parts.{IsSystemWith}
 use Rattle.rg_genet.specs.declared.fault.GraphFault.{GraphFault}
 use Rattle.rg_genet.specs.Contents.{Triple, body, triples, markings, state_names, label_names, arc_of, faults}
 

@@ -4,7 +4,7 @@ ghost use Rattle.rg_text.specs.Byte.{IsName};
 ghost use Rattle.rg_text.specs.Limits.{most_bytes};
 ghost use Rattle.std.specs.List.{after_first, before_first};
 ghost use Rattle.rg_text.specs.Faults.{AreNone, IsFirst};
-ghost use Rattle.rg_firsts.specs.Numbered.{Line};
+ghost use Rattle.rg_line_formats.specs.Numbered.{Line};
 ghost use Rattle.rg_genet.specs.Form.{is_named};
 ghost use Rattle.rg_genet.specs.Contents.{Triple, triple, opens, heading_fault, closes, arc_fault, is_long, line_fault, marking_fault};
 ghost use Rattle.rg_genet.specs.Reading.{HasTriples, AreFew, AreTooMany, IsLimitFault, IsMarkNamed, Shows, IsFinished, IsUnfinished, IsHeadFault, IsMarked, lines_from, marking_in, rest_faults};
@@ -15,7 +15,7 @@ ghost use Rattle.rg_genet.specs.declared.fault.GraphFault.TheVariants.{NoMemory}
 
 use crate::fault::GraphFault;
 use crate::line::{Form, form_of, opens, passes, spaced};
-use rg_firsts::{add_label, add_state, as_name, cut_line, words};
+use rg_line_formats::{add_label, add_state, as_name, cut_line, words};
 use rg_lts::{Arc, BuildFault, Lts, LtsBuilder};
 use rg_text::MOST_NAME_BYTES;
 use std::alloc::Global;

@@ -2,7 +2,7 @@
 
 #[test]
 fn laws_are_called(_rt: HostRuntime) {
-    rg_firsts::one_system();
+    rg_line_formats::one_system();
     rg_genet::one_answer();
     rg_genet::printed_is_read_again();
     rg_genet::spelled_is_well_formed();

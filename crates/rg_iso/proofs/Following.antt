@@ -9,18 +9,18 @@ use Rattle.rg_theory.proofs.Arcs.{arc_in_range}
 use Rattle.rg_iso.specs.Isomorphic.{HaveOneName}
 use Rattle.rg_iso.specs.Words.{IsMetBefore, Meets, then}
 use Rattle.rg_iso.specs.Compared.{AreComparable}
-use Rattle.rg_iso.specs.Pairing.{Pair, pair_at, way_at, Pairs, pairs_of, ArePairs, IsIndexBefore, IsPassed, neither, both, IsFollowedTo, BecomePair, already, joined}
+use Rattle.rg_iso.specs.Pairing.{Pair, pair_at, way_at, Pairs, pairs_of, ArePairs, IsIndexBefore, IsMatched, neither, both, IsFollowedTo, BecomePair, already, joined}
 use Rattle.rg_iso.proofs.Walking.{word_at, behind}
 
 -- ---- one label further
 
--- what was passed with fewer pairs is passed with more
-pub passed_more : (a b : System) (p p' : Pairs) (ways ways' : List (List ℕ)) (i t : ℕ) → i < length p.order
+-- what was matched with fewer pairs is matched with more
+pub matched_more : (a b : System) (p p' : Pairs) (ways ways' : List (List ℕ)) (i t : ℕ) → i < length p.order
     → ((j : ℕ) → j < length p.order → pair_at p'.order j ≡ pair_at p.order j) → ((j : ℕ) → j < length p.order → way_at ways' j ≡ way_at ways j)
-    → length p.order ≤ length p'.order → IsPassed a b p ways i t → IsPassed a b p' ways' i t
-passed_more a b p p' ways ways' i t in_i pairs words long (neither u name none none') =
+    → length p.order ≤ length p'.order → IsMatched a b p ways i t → IsMatched a b p' ways' i t
+matched_more a b p p' ways ways' i t in_i pairs words long (neither u name none none') =
     neither u name (λ to x. none to (subst (λ (n : Pair). HasArc a n.0 t to) (pairs i in_i) x)) (λ to y. none' to (subst (λ (n : Pair). HasArc b n.1 u to) (pairs i in_i) y))
-passed_more a b p p' ways ways' i t in_i pairs words long (both u j s q name x y in_j at way) =
+matched_more a b p p' ways ways' i t in_i pairs words long (both u j s q name x y in_j at way) =
     both u j s q name (subst (λ (n : Pair). HasArc a n.0 t s) (sym (pairs i in_i)) x) (subst (λ (n : Pair). HasArc b n.1 u q) (sym (pairs i in_i)) y)
     (omega (arith, in_j, long)) (pairs j in_j ∙ at)
     (subst (λ w. (w ≡ t ∷ way_at ways' i) ⊎ IsMetBefore w (t ∷ way_at ways' i)) (sym (words j in_j))
@@ -39,16 +39,16 @@ index_up : (i u k t : ℕ) → IsIndexBefore i u k t → IsIndexBefore i u k (t 
 index_up i u k t (inl l) = inl l
 index_up i u k t (inr (e, l)) = inr (e, omega (arith, l))
 
--- where the label is passed at the pair, and no pair was met
-pub one_label : (a b : System) (p : Pairs) (k t : ℕ) (f : IsFollowedTo a b p k t) → IsPassed a b p f.ways k t → IsFollowedTo a b p k (t + 1)
-one_label a b p k t f here = record { ways = f.ways; pairs = f.pairs; passed = passed; entered = entered }
+-- where the label is matched at the pair, and no pair was met
+pub one_label : (a b : System) (p : Pairs) (k t : ℕ) (f : IsFollowedTo a b p k t) → IsMatched a b p f.ways k t → IsFollowedTo a b p k (t + 1)
+one_label a b p k t f here = record { ways = f.ways; pairs = f.pairs; matched = matched; entered = entered }
   where
-    passed : (i u : ℕ) → i < length p.order → u < labels a → IsIndexBefore i u k (t + 1) → IsPassed a b p f.ways i u
-    passed i u in_i in_u before = go (index_cases i u k t before)
+    matched : (i u : ℕ) → i < length p.order → u < labels a → IsIndexBefore i u k (t + 1) → IsMatched a b p f.ways i u
+    matched i u in_i in_u before = go (index_cases i u k t before)
       where
-        go : IsIndexBefore i u k t ⊎ ((i ≡ k) × (u ≡ t)) → IsPassed a b p f.ways i u
-        go (inl old) = f.passed i u in_i in_u old
-        go (inr (e, e')) = subst (λ n. IsPassed a b p f.ways n u) (sym e) (subst (λ n. IsPassed a b p f.ways k n) (sym e') here)
+        go : IsIndexBefore i u k t ⊎ ((i ≡ k) × (u ≡ t)) → IsMatched a b p f.ways i u
+        go (inl old) = f.matched i u in_i in_u old
+        go (inr (e, e')) = subst (λ n. IsMatched a b p f.ways n u) (sym e) (subst (λ n. IsMatched a b p f.ways k n) (sym e') here)
 
     entered : (j : ℕ) → 0 < j → j < length p.order → (i : ℕ) × (u : ℕ) × IsIndexBefore i u k (t + 1) × (i < j) × (way_at f.ways j ≡ u ∷ way_at f.ways i)
     entered j some in_j = let (i, u, before, less, is) = f.entered j some in_j in (i, u, index_up i u k t before, less, is)
@@ -223,20 +223,20 @@ module _ (a b : System) (c : AreComparable a b) (p : Pairs) (k t : ℕ) (f : IsF
     count = new_count;
   }
 
-  new_passed : (i v : ℕ) → i < length new_pairs.order → v < labels a → IsIndexBefore i v k (t + 1) → IsPassed a b new_pairs new_ways i v
-  new_passed i v in_i in_v before = go (index_cases i v k t before)
+  new_matched : (i v : ℕ) → i < length new_pairs.order → v < labels a → IsIndexBefore i v k (t + 1) → IsMatched a b new_pairs new_ways i v
+  new_matched i v in_i in_v before = go (index_cases i v k t before)
     where
       up_to : IsIndexBefore i v k t ⊎ ((i ≡ k) × (v ≡ t)) → i < n
       up_to (inl (inl l)) = omega (arith, l, in_k)
       up_to (inl (inr (e, l))) = omega (arith, e, in_k)
       up_to (inr (e, e')) = omega (arith, e, in_k)
 
-      go : IsIndexBefore i v k t ⊎ ((i ≡ k) × (v ≡ t)) → IsPassed a b new_pairs new_ways i v
+      go : IsIndexBefore i v k t ⊎ ((i ≡ k) × (v ≡ t)) → IsMatched a b new_pairs new_ways i v
       go (inl before) =
           let l = up_to (inl before) in
-          passed_more a b p new_pairs old_ways new_ways i v l old_pair old_way (omega (arith, longer)) (f.passed i v l in_v before)
+          matched_more a b p new_pairs old_ways new_ways i v l old_pair old_way (omega (arith, longer)) (f.matched i v l in_v before)
       go (inr (e, e')) =
-          subst (λ m. IsPassed a b new_pairs new_ways m v) (sym e) (subst (λ m. IsPassed a b new_pairs new_ways k m) (sym e')
+          subst (λ m. IsMatched a b new_pairs new_ways m v) (sym e) (subst (λ m. IsMatched a b new_pairs new_ways k m) (sym e')
           (both u n s' q' name (subst (λ (r : Pair). HasArc a r.0 t s') (sym (old_pair k in_k)) x) (subst (λ (r : Pair). HasArc b r.1 u q') (sym (old_pair k in_k)) y) last new_pair
           (inl (new_way ∙ ap (λ w. t ∷ w) (sym (old_way k in_k))))))
 
@@ -251,7 +251,7 @@ module _ (a b : System) (c : AreComparable a b) (p : Pairs) (k t : ℕ) (f : IsF
 
   -- one label further, with a pair more
   pub one_pair : IsFollowedTo a b new_pairs k (t + 1)
-  one_pair = record { ways = new_ways; pairs = new_are; passed = new_passed; entered = new_entered }
+  one_pair = record { ways = new_ways; pairs = new_are; matched = new_matched; entered = new_entered }
 
 -- where the targets are a pair
 pub are_pair : (a b : System) (p : Pairs) (k t : ℕ) (f : IsFollowedTo a b p k t) (u s' q' : ℕ) → AreComparable a b → k < length p.order → HaveOneName a b t u → HasArc a (pair_at p.order k).0 t s'
@@ -274,15 +274,15 @@ label_lacks a b p k t f u name none none' = one_label a b p k t f (neither u nam
 -- ---- one pair further
 
 pub pair_done : (a b : System) (p : Pairs) (k t : ℕ) → labels a ≤ t → IsFollowedTo a b p k t → IsFollowedTo a b p (k + 1) 0
-pair_done a b p k t all f = record { ways = f.ways; pairs = f.pairs; passed = passed; entered = entered }
+pair_done a b p k t all f = record { ways = f.ways; pairs = f.pairs; matched = matched; entered = entered }
   where
-    passed : (i u : ℕ) → i < length p.order → u < labels a → IsIndexBefore i u (k + 1) 0 → IsPassed a b p f.ways i u
-    passed i u in_i in_u (inl l) = go (cases_eq i k)
+    matched : (i u : ℕ) → i < length p.order → u < labels a → IsIndexBefore i u (k + 1) 0 → IsMatched a b p f.ways i u
+    matched i u in_i in_u (inl l) = go (cases_eq i k)
       where
-        go : (i ≡ k) ⊎ (i ≡ k → ⊥) → IsPassed a b p f.ways i u
-        go (inl e) = f.passed i u in_i in_u (inr (e, omega (arith, in_u, all)))
-        go (inr ne) = f.passed i u in_i in_u (inl (omega (arith, l, ne)))
-    passed i u in_i in_u (inr (e, l)) = absurd (omega (arith, l))
+        go : (i ≡ k) ⊎ (i ≡ k → ⊥) → IsMatched a b p f.ways i u
+        go (inl e) = f.matched i u in_i in_u (inr (e, omega (arith, in_u, all)))
+        go (inr ne) = f.matched i u in_i in_u (inl (omega (arith, l, ne)))
+    matched i u in_i in_u (inr (e, l)) = absurd (omega (arith, l))
 
     next_index : (i u : ℕ) → IsIndexBefore i u k t → IsIndexBefore i u (k + 1) 0
     next_index i u (inl l) = inl (omega (arith, l))

@@ -10,7 +10,7 @@ use Rattle.rg_theory.proofs.Arcs.{arc_in_range}
 use Rattle.rg_iso.specs.Isomorphic.{HaveSameLabels, HaveOneName, Gives, IsIsomorphismTo}
 use Rattle.rg_iso.specs.Words.{Meets, at_first, then}
 use Rattle.rg_iso.specs.Compared.{AreComparable}
-use Rattle.rg_iso.specs.Pairing.{Pair, pair_at, way_at, Pairs, pairs_of, ArePairs, IsIndexBefore, IsPassed, neither, both, IsFollowedTo}
+use Rattle.rg_iso.specs.Pairing.{Pair, pair_at, way_at, Pairs, pairs_of, ArePairs, IsIndexBefore, IsMatched, neither, both, IsFollowedTo}
 use Rattle.rg_iso.proofs.OneMeeting.{one_namesake, one_meeting}
 use Rattle.rg_iso.proofs.Refuting.{namesake_back}
 
@@ -103,7 +103,7 @@ module _ (a b : System) (c : AreComparable a b) where
   first_followed = record {
     ways = [] ∷ [];
     pairs = first_are;
-    passed = λ i u in_i in_u before. absurd (nothing i u before);
+    matched = λ i u in_i in_u before. absurd (nothing i u before);
     entered = λ j some l. absurd (omega (arith, some, l));
   }
     where
@@ -121,7 +121,7 @@ followed_as a b c order partners taken i j k order_is partners_is taken_is i_is 
 
 -- ---- the whole map
 
--- all indices of all pairs are passed
+-- all indices of all pairs are matched
 pub record IsWhole (a b : System) (p : Pairs) (n : ℕ) : Type 0 where
   pub followed : IsFollowedTo a b p n 0
   pub all : length p.order ≤ n
@@ -134,8 +134,8 @@ module _ (a b : System) (c : AreComparable a b) (same : HaveSameLabels a b) (p :
   abbrev pub IsPair : ℕ → ℕ → Type 0
   IsPair s q = (i : ℕ) × (i < length p.order) × (pair_at p.order i ≡ (s, q))
 
-  passed : (i t : ℕ) → i < length p.order → t < labels a → IsPassed a b p w.followed.ways i t
-  passed i t in_i in_t = w.followed.passed i t in_i in_t (inl (let e = w.all in omega (arith, in_i, e)))
+  matched : (i t : ℕ) → i < length p.order → t < labels a → IsMatched a b p w.followed.ways i t
+  matched i t in_i in_t = w.followed.matched i t in_i in_t (inl (let e = w.all in omega (arith, in_i, e)))
 
   root_pair : IsPair a.initial b.initial
   root_pair =
@@ -145,12 +145,12 @@ module _ (a b : System) (c : AreComparable a b) (same : HaveSameLabels a b) (p :
 
   -- an arc of the first system leads from a pair to a pair, by an arc of the second
   closed : (s q t s' : ℕ) → IsPair s q → HasArc a s t s' → (u : ℕ) × (q' : ℕ) × HaveOneName a b t u × HasArc b q u q' × IsPair s' q'
-  closed s q t s' (i, in_i, at) x = go (passed i t in_i (arc_in_range a c.first.in_range s t s' x).1)
+  closed s q t s' (i, in_i, at) x = go (matched i t in_i (arc_in_range a c.first.in_range s t s' x).1)
     where
       x' : HasArc a (pair_at p.order i).0 t s'
       x' = subst (λ (r : Pair). HasArc a r.0 t s') (sym at) x
 
-      go : IsPassed a b p w.followed.ways i t → (u : ℕ) × (q' : ℕ) × HaveOneName a b t u × HasArc b q u q' × IsPair s' q'
+      go : IsMatched a b p w.followed.ways i t → (u : ℕ) × (q' : ℕ) × HaveOneName a b t u × HasArc b q u q' × IsPair s' q'
       go (neither u name none none') = absurd (none s' x')
       go (both u j r o name z z' in_j is way) =
           let e : r ≡ s' = c.first_fork_free.one_target (pair_at p.order i).0 t r s' z x' in
@@ -158,12 +158,12 @@ module _ (a b : System) (c : AreComparable a b) (same : HaveSameLabels a b) (p :
 
   -- and one of the second by one of the first
   closed_back : (s q u q' t : ℕ) → IsPair s q → HasArc b q u q' → HaveOneName a b t u → (s' : ℕ) × HasArc a s t s' × IsPair s' q'
-  closed_back s q u q' t (i, in_i, at) y name = go (passed i t in_i (slice_get_within a.label_names t name.0 name.1))
+  closed_back s q u q' t (i, in_i, at) y name = go (matched i t in_i (slice_get_within a.label_names t name.0 name.1))
     where
       y' : HasArc b (pair_at p.order i).1 u q'
       y' = subst (λ (r : Pair). HasArc b r.1 u q') (sym at) y
 
-      go : IsPassed a b p w.followed.ways i t → (s' : ℕ) × HasArc a s t s' × IsPair s' q'
+      go : IsMatched a b p w.followed.ways i t → (s' : ℕ) × HasArc a s t s' × IsPair s' q'
       go (neither v name' none none') = absurd (none' q' (subst (λ m. HasArc b (pair_at p.order i).1 m q') (one_namesake a b t u v c.second.label_names name name') y'))
       go (both v j r o name' z z' in_j is way) =
           let v_is = one_namesake a b t v u c.second.label_names name' name in

@@ -7,7 +7,7 @@ use Rattle.rg_theory.proofs.Arcs.{arc_in_range}
 use Rattle.rg_iso.specs.Isomorphic.{HaveOneName}
 use Rattle.rg_iso.specs.Words.{IsMetBefore, Meets, at_first, then, AreAtOdds, Difference, Difference.step as by_step, Difference.target as by_target, DiffersBy, first_alone, second_alone, targets, IsFirstDifference}
 use Rattle.rg_iso.specs.Compared.{AreComparable}
-use Rattle.rg_iso.specs.Pairing.{Pair, pair_at, way_at, Pairs, ArePairs, IsIndexBefore, IsPassed, neither, both, IsFollowedTo, BecomePair, elsewhere, is_taken}
+use Rattle.rg_iso.specs.Pairing.{Pair, pair_at, way_at, Pairs, ArePairs, IsIndexBefore, IsMatched, neither, both, IsFollowedTo, BecomePair, elsewhere, is_taken}
 use Rattle.rg_iso.proofs.WordOrder.{before_itself, before_trans, before_longer, IsUpTo, up_to_before, up_to_trans, up_to_longer}
 use Rattle.rg_iso.proofs.OneMeeting.{one_namesake, one_target, one_meeting}
 
@@ -44,15 +44,15 @@ module _ (a b : System) (c : AreComparable a b) (p : Pairs) (ways : List (List �
   one_of_first i j in_i in_j e =
       same_Some (pair_at p.order i).1 (pair_at p.order j).1 (sym (h.partner i in_i) ∙ ap (λ s. slice_index_or p.partners s None) e ∙ h.partner j in_j)
 
-  module _ (k t : ℕ) (in_k : k < length p.order) (passed : (i u : ℕ) → i < length p.order → u < labels a → IsIndexBefore i u k t → IsPassed a b p ways i u) where
+  module _ (k t : ℕ) (in_k : k < length p.order) (matched : (i u : ℕ) → i < length p.order → u < labels a → IsIndexBefore i u k t → IsMatched a b p ways i u) where
     -- a pair to which a word leads that is met before this index
     abbrev pub IsHeld : List ℕ → ℕ → ℕ → Type 0
     IsHeld w s q = (j : ℕ) × (j < length p.order) × (pair_at p.order j ≡ (s, q)) × IsUpTo (way_at ways j) w
 
-    -- what comes behind an index that is passed
+    -- what comes behind an index that is matched
     leads_on : (ts : List ℕ) (j s q u v s' q' : ℕ) → j < length p.order → u < labels a → IsIndexBefore j u k t → pair_at p.order j ≡ (s, q) → IsUpTo (way_at ways j) ts
         → HaveOneName a b u v → HasArc a s u s' → HasArc b q v q' → IsHeld (u ∷ ts) s' q'
-    leads_on ts j s q u v s' q' in_j in_u before at up name x y = go (passed j u in_j in_u before)
+    leads_on ts j s q u v s' q' in_j in_u before at up name x y = go (matched j u in_j in_u before)
       where
         x' : HasArc a (pair_at p.order j).0 u s'
         x' = subst (λ (r : Pair). HasArc a r.0 u s') (sym at) x
@@ -60,7 +60,7 @@ module _ (a b : System) (c : AreComparable a b) (p : Pairs) (ways : List (List �
         y' : HasArc b (pair_at p.order j).1 v q'
         y' = subst (λ (r : Pair). HasArc b r.1 v q') (sym at) y
 
-        go : IsPassed a b p ways j u → IsHeld (u ∷ ts) s' q'
+        go : IsMatched a b p ways j u → IsHeld (u ∷ ts) s' q'
         go (neither v' name' none none') = absurd (none s' x')
         go (both v' i r o name' z z' in_i is way) =
             let (e, f) = one_target a b c (pair_at p.order j).0 (pair_at p.order j).1 u v' v r s' o q' name' name z x' z' y' in
@@ -75,27 +75,27 @@ module _ (a b : System) (c : AreComparable a b) (p : Pairs) (ways : List (List �
         let (j, in_j, at, up) = held ts s q m (before_trans ts (u ∷ ts) (word_at ways k t) (before_longer u ts) before) in
         leads_on ts j s q u v s' q' in_j (arc_in_range a c.first.in_range s u s' x).1 (index_before j u k t ts in_j in_k up before) at up name x y
 
-    -- the index of a word that comes before is passed
-    passed_behind : (ts : List ℕ) (s q u : ℕ) → Meets a b ts s q → u < labels a → IsMetBefore (u ∷ ts) (word_at ways k t)
-        → (j : ℕ) × (pair_at p.order j ≡ (s, q)) × IsPassed a b p ways j u
-    passed_behind ts s q u m in_u before =
+    -- the index of a word that comes before is matched
+    matched_after : (ts : List ℕ) (s q u : ℕ) → Meets a b ts s q → u < labels a → IsMetBefore (u ∷ ts) (word_at ways k t)
+        → (j : ℕ) × (pair_at p.order j ≡ (s, q)) × IsMatched a b p ways j u
+    matched_after ts s q u m in_u before =
         let (j, in_j, at, up) = held ts s q m (before_trans ts (u ∷ ts) (word_at ways k t) (before_longer u ts) before) in
-        (j, at, passed j u in_j in_u (index_before j u k t ts in_j in_k up before))
+        (j, at, matched j u in_j in_u (index_before j u k t ts in_j in_k up before))
 
     label_in_range : (u v : ℕ) → HaveOneName a b u v → u < labels a
     label_in_range u v (name, at, _) = slice_get_within a.label_names u name at
 
     -- so the systems don't differ behind a word that comes before
     pub no_earlier : (w : List ℕ) (d : Difference) → DiffersBy a b w d → IsMetBefore w (word_at ways k t) → ⊥
-    no_earlier _ _ (first_alone ts s q u v s' m name x none) before = go (passed_behind ts s q u m (label_in_range u v name) before)
+    no_earlier _ _ (first_alone ts s q u v s' m name x none) before = go (matched_after ts s q u m (label_in_range u v name) before)
       where
-        go : (j : ℕ) × (pair_at p.order j ≡ (s, q)) × IsPassed a b p ways j u → ⊥
+        go : (j : ℕ) × (pair_at p.order j ≡ (s, q)) × IsMatched a b p ways j u → ⊥
         go (j, at, neither v' name' none' none'') = none' s' (subst (λ (r : Pair). HasArc a r.0 u s') (sym at) x)
         go (j, at, both v' i r o name' z z' in_i is way) =
             none o (subst (λ n. HasArc b q n o) (one_namesake a b u v' v c.second.label_names name' name) (subst (λ (n : Pair). HasArc b n.1 v' o) at z'))
-    no_earlier _ _ (second_alone ts s q u v q' m name none y) before = go (passed_behind ts s q u m (label_in_range u v name) before)
+    no_earlier _ _ (second_alone ts s q u v q' m name none y) before = go (matched_after ts s q u m (label_in_range u v name) before)
       where
-        go : (j : ℕ) × (pair_at p.order j ≡ (s, q)) × IsPassed a b p ways j u → ⊥
+        go : (j : ℕ) × (pair_at p.order j ≡ (s, q)) × IsMatched a b p ways j u → ⊥
         go (j, at, neither v' name' none' none'') =
             none'' q' (subst (λ (r : Pair). HasArc b r.1 v' q') (sym at) (subst (λ n. HasArc b q n q') (one_namesake a b u v v' c.second.label_names name name') y))
         go (j, at, both v' i r o name' z z' in_i is way) = none r (subst (λ (n : Pair). HasArc a n.0 u r) at z)
@@ -133,7 +133,7 @@ module _ (a b : System) (c : AreComparable a b) (p : Pairs) (k t : ℕ) (f : IsF
   found d differs = record {
     word = word_at ways k t;
     differs = differs;
-    first = λ w other there before. no_earlier a b c p ways f.pairs k t in_k f.passed w other there before;
+    first = λ w other there before. no_earlier a b c p ways f.pairs k t in_k f.matched w other there before;
   }
 
   module _ (u : ℕ) (name : HaveOneName a b t u) where

@@ -48,17 +48,17 @@ abbrev pub IsIndexBefore : ℕ → ℕ → ℕ → ℕ → Type 0
 IsIndexBefore i u k t = (i < k) ⊎ ((i ≡ k) × (u < t))
 
 -- at a pair a label leads on in neither system, or in both, to a pair
-pub data IsPassed (a b : System) (p : Pairs) (ways : List (List ℕ)) (i t : ℕ) : Type 0 where
+pub data IsMatched (a b : System) (p : Pairs) (ways : List (List ℕ)) (i t : ℕ) : Type 0 where
   neither : (u : ℕ) → HaveOneName a b t u → ((to : ℕ) → ¬ HasArc a (pair_at p.order i).0 t to) → ((to : ℕ) → ¬ HasArc b (pair_at p.order i).1 u to)
-      → IsPassed a b p ways i t
+      → IsMatched a b p ways i t
   both : (u j s q : ℕ) → HaveOneName a b t u → HasArc a (pair_at p.order i).0 t s → HasArc b (pair_at p.order i).1 u q → j < length p.order
-      → pair_at p.order j ≡ (s, q) → (way_at ways j ≡ t ∷ way_at ways i) ⊎ IsMetBefore (way_at ways j) (t ∷ way_at ways i) → IsPassed a b p ways i t
+      → pair_at p.order j ≡ (s, q) → (way_at ways j ≡ t ∷ way_at ways i) ⊎ IsMetBefore (way_at ways j) (t ∷ way_at ways i) → IsMatched a b p ways i t
 
--- all indices before that of label t at pair number k are passed, and each pair but the first was met at one of them
+-- all indices before that of label t at pair number k are matched, and each pair but the first was met at one of them
 pub record IsFollowedTo (a b : System) (p : Pairs) (k t : ℕ) : Type 0 where
   pub ways : List (List ℕ)
   pub pairs : ArePairs a b p ways
-  pub passed : (i u : ℕ) → i < length p.order → u < labels a → IsIndexBefore i u k t → IsPassed a b p ways i u
+  pub matched : (i u : ℕ) → i < length p.order → u < labels a → IsIndexBefore i u k t → IsMatched a b p ways i u
   pub entered : (j : ℕ) → 0 < j → j < length p.order → (i : ℕ) × (u : ℕ) × IsIndexBefore i u k t × (i < j) × (way_at ways j ≡ u ∷ way_at ways i)
 
 -- what two targets give: they are a pair already, one of them is in another pair, or they become a pair

@@ -6,7 +6,7 @@ use Rattle.std.proofs.lemmas.Bool.{cases_lt}
 use Rattle.rg_linear.specs.System.{LinearSystem, variables, row_variable, IsPoint}
 use Rattle.rg_linear.specs.Dictionary.{IsFree, Relation, DictionaryRow, column_set}
 use Rattle.rg_linear.specs.Descent.{WideAt, Outcome, Outcome.point, Outcome.refuted, Outcome.wide, DescentFromStart, IsAtZero, multiplier_of}
-use Rattle.rg_splits.specs.Trees.{Tree.leaf, Tree.split, low_side, high_side}
+use Rattle.rg_branch_trees.specs.Trees.{Tree.leaf, Tree.split, low_side, high_side}
 use Rattle.rg_linear.specs.Branching.{Form, form_at, scaled_value, SplitSide, node_system, IsWholeAt, AllWhole, FirstFraction, SplitTree}
 use Rattle.rg_linear.specs.Branching.{weights_from, BranchOutcome, BranchOutcome.found, BranchOutcome.tree, BranchOutcome.stopped, IsEnd, BranchFrom}
 use Rattle.rg_linear.specs.Branching.{BranchFrom.passes, BranchFrom.refutes, BranchFrom.whole, BranchFrom.low_ends, BranchFrom.high_ends, BranchFrom.both_refuted}

@@ -7,25 +7,25 @@ use Rattle.rg_linear.specs.System.{LinearSystem, row_variable}
 use Rattle.rg_linear.specs.Dictionary.{Relation, DictionaryRow}
 use Rattle.rg_integers.specs.declared.term.Wide.{Wide}
 use Rattle.rg_linear.specs.Exchange.{exchanged, AllFit, FirstWide}
-use Rattle.rg_linear.specs.Descent.{Outcome, Outcome.point, Outcome.refuted, Outcome.wide, IsStop, IsPassed, IsStuck, Chooses, DescentFrom, DescentFrom.after_last, DescentFrom.passed, DescentFrom.stuck, DescentFrom.passes, DescentFrom.stops_below, DescentFrom.goes_on}
+use Rattle.rg_linear.specs.Descent.{Outcome, Outcome.point, Outcome.refuted, Outcome.wide, IsStop, IsSatisfied, IsStuck, Chooses, DescentFrom, DescentFrom.after_last, DescentFrom.satisfied, DescentFrom.stuck, DescentFrom.passes, DescentFrom.stops_below, DescentFrom.goes_on}
 use Rattle.rg_linear.proofs.Unique.{same_relation}
 use Rattle.rg_linear.proofs.Terms.{same_wide}
 
 -- what happens at a row
 pub data Kind : Type 0 where
-  is_passed : Kind
+  is_satisfied : Kind
   is_stuck : Kind
   is_chosen : ℕ → Kind
 
 abbrev pub IsKind : LinearSystem → List ℕ → List ℕ → ℕ → Kind → Type 0
-IsKind system members fixed i is_passed = IsPassed system members i
+IsKind system members fixed i is_satisfied = IsSatisfied system members i
 IsKind system members fixed i is_stuck = IsStuck system members fixed i
 IsKind system members fixed i (is_chosen j) = Chooses system members fixed i j
 
--- a row that is passed over doesn't fail
-passed_or_fails : (system : LinearSystem) (members : List ℕ) (i : ℕ) (k : Relation) → IsPassed system members i → DictionaryRow system members (row_variable system i) k → k.constant <ℤ pos 0 → ⊥
-passed_or_fails system members i k (inl member) row negative = row.outside member
-passed_or_fails system members i k (inr (l, row', least)) row negative =
+-- a row that is satisfied doesn't fail
+satisfied_or_fails : (system : LinearSystem) (members : List ℕ) (i : ℕ) (k : Relation) → IsSatisfied system members i → DictionaryRow system members (row_variable system i) k → k.constant <ℤ pos 0 → ⊥
+satisfied_or_fails system members i k (inl member) row negative = row.outside member
+satisfied_or_fails system members i k (inr (l, row', least)) row negative =
     let e : l.constant ≡ k.constant = ap (λ x. x.constant) (same_relation system members (row_variable system i) l k row' row) in
     omega (arith, ints)
 
@@ -46,13 +46,13 @@ same_choice system members fixed i j j' c c' = go (cases_lt j j') (cases_lt j' j
     go (inr ge) (inr le) = omega arith
 
 pub same_kind : (system : LinearSystem) (members fixed : List ℕ) (i : ℕ) (a b : Kind) → IsKind system members fixed i a → IsKind system members fixed i b → a ≡ b
-same_kind system members fixed i is_passed is_passed p q = refl
-same_kind system members fixed i is_passed is_stuck p s = absurd (passed_or_fails system members i s.k p s.row s.negative)
-same_kind system members fixed i is_passed (is_chosen j) p c = absurd (passed_or_fails system members i c.k p c.row c.negative)
-same_kind system members fixed i is_stuck is_passed s p = absurd (passed_or_fails system members i s.k p s.row s.negative)
+same_kind system members fixed i is_satisfied is_satisfied p q = refl
+same_kind system members fixed i is_satisfied is_stuck p s = absurd (satisfied_or_fails system members i s.k p s.row s.negative)
+same_kind system members fixed i is_satisfied (is_chosen j) p c = absurd (satisfied_or_fails system members i c.k p c.row c.negative)
+same_kind system members fixed i is_stuck is_satisfied s p = absurd (satisfied_or_fails system members i s.k p s.row s.negative)
 same_kind system members fixed i is_stuck is_stuck s s' = refl
 same_kind system members fixed i is_stuck (is_chosen j) s c = absurd (stuck_or_chosen system members fixed i j s c)
-same_kind system members fixed i (is_chosen j) is_passed c p = absurd (passed_or_fails system members i c.k p c.row c.negative)
+same_kind system members fixed i (is_chosen j) is_satisfied c p = absurd (satisfied_or_fails system members i c.k p c.row c.negative)
 same_kind system members fixed i (is_chosen j) is_stuck c s = absurd (stuck_or_chosen system members fixed i j s c)
 same_kind system members fixed i (is_chosen j) (is_chosen j') c c' = ap is_chosen (same_choice system members fixed i j j' c c')
 
@@ -79,13 +79,13 @@ pub record GoesOn (system : LinearSystem) (members fixed : List ℕ) (r i j : �
 
 -- what a descent is at a row of a kind
 abbrev pub Unfolded : LinearSystem → List ℕ → List ℕ → ℕ → ℕ → Outcome → Kind → Type 0
-Unfolded system members fixed r i o is_passed = DescentFrom system members fixed r (suc i) o
+Unfolded system members fixed r i o is_satisfied = DescentFrom system members fixed r (suc i) o
 Unfolded system members fixed r i o is_stuck = o ≡ refuted members i fixed
 Unfolded system members fixed r i o (is_chosen j) = Stopped system members i j o ⊎ (StopsBelow system members fixed i j o ⊎ GoesOn system members fixed r i j o)
 
 pub unfolded : (system : LinearSystem) (members fixed : List ℕ) (r i : ℕ) (o : Outcome) (kind : Kind) → i < r → IsKind system members fixed i kind → DescentFrom system members fixed r i o → Unfolded system members fixed r i o kind
 unfolded system members fixed r i o kind lt is (after_last le) = absurd (omega arith)
-unfolded system members fixed r i o kind lt is (passed lt' p d) = subst (Unfolded system members fixed r i o) (same_kind system members fixed i is_passed kind p is) d
+unfolded system members fixed r i o kind lt is (satisfied lt' p d) = subst (Unfolded system members fixed r i o) (same_kind system members fixed i is_satisfied kind p is) d
 unfolded system members fixed r i o kind lt is (stuck lt' s) = subst (Unfolded system members fixed r i (refuted members i fixed)) (same_kind system members fixed i is_stuck kind s is) refl
 unfolded system members fixed r i o kind lt is (passes j w n t lt' c f) = subst
     (Unfolded system members fixed r i (wide (record { members = members; pivot = row_variable system i; leaves = j; target = w; entry = n; term = t })))
@@ -95,7 +95,7 @@ unfolded system members fixed r i o kind lt is (goes_on j after lt' c fit d rest
 
 ended : (system : LinearSystem) (members fixed : List ℕ) (r i : ℕ) (o : Outcome) → r ≤ i → DescentFrom system members fixed r i o → point members ≡ o
 ended system members fixed r i o le (after_last le') = refl
-ended system members fixed r i o le (passed lt p d) = absurd (omega arith)
+ended system members fixed r i o le (satisfied lt p d) = absurd (omega arith)
 ended system members fixed r i o le (stuck lt s) = absurd (omega arith)
 ended system members fixed r i o le (passes j w n t lt c f) = absurd (omega arith)
 ended system members fixed r i o le (stops_below j lt c fit d stop) = absurd (omega arith)
@@ -114,7 +114,7 @@ same_after members after e = cc
 
 pub same_outcome : (system : LinearSystem) (members fixed : List ℕ) (r i : ℕ) (o o' : Outcome) → DescentFrom system members fixed r i o → DescentFrom system members fixed r i o' → o ≡ o'
 same_outcome system members fixed r i o o' (after_last le) d' = ended system members fixed r i o' le d'
-same_outcome system members fixed r i o o' (passed lt p d) d' = same_outcome system members fixed r (suc i) o o' d (unfolded system members fixed r i o' is_passed lt p d')
+same_outcome system members fixed r i o o' (satisfied lt p d) d' = same_outcome system members fixed r (suc i) o o' d (unfolded system members fixed r i o' is_satisfied lt p d')
 same_outcome system members fixed r i o o' (stuck lt s) d' = sym (unfolded system members fixed r i o' is_stuck lt s d')
 same_outcome system members fixed r i o o' (passes j w n t lt c f) d' = go (unfolded system members fixed r i o' (is_chosen j) lt c d')
   where

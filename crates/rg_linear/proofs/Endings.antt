@@ -7,7 +7,7 @@ use Rattle.rg_linear.specs.System.{LinearRow, LinearSystem, row_variable, IsPoin
 use Rattle.rg_linear.specs.Dictionary.{Takes}
 use Rattle.rg_linear.specs.Descent.{Outcome, Outcome.point, Outcome.refuted, Outcome.wide, DescentFromStart, IsAtZero}
 use Rattle.rg_linear.specs.Room.{gap_of, gap, total}
-use Rattle.rg_splits.specs.Trees.{Tree.split, low_side, high_side}
+use Rattle.rg_branch_trees.specs.Trees.{Tree.split, low_side, high_side}
 use Rattle.rg_linear.specs.Branching.{Form, form_at, scaled_value, SplitSide, side_row, node_system, IsWholeAt, FirstFraction, SplitTree, BranchOutcome}
 use Rattle.rg_linear.specs.Branching.{BranchOutcome.found, BranchOutcome.tree, BranchOutcome.stopped, IsEnd, BranchFrom, BranchFrom.passes}
 use Rattle.rg_linear.specs.Branching.{BranchFrom.refutes, BranchFrom.whole, BranchFrom.low_ends, BranchFrom.high_ends, BranchFrom.both_refuted, Branching, ArePositive}

@@ -5,7 +5,7 @@ use Rattle.std.proofs.lemmas.Int.{ints}
 use Rattle.rg_linear.specs.System.{LinearSystem, variables, row_variable, IsPoint, MeetsRows}
 use Rattle.rg_linear.specs.Dictionary.{IsFree, Relation, DictionaryRow, column_set}
 use Rattle.rg_linear.specs.Exchange.{exchanged}
-use Rattle.rg_linear.specs.Descent.{Outcome, Outcome.point, Outcome.refuted, Outcome.wide, IsStop, IsPassed, Chooses, DescentFrom, DescentFrom.after_last, DescentFrom.passed, DescentFrom.stuck, DescentFrom.passes, DescentFrom.stops_below, DescentFrom.goes_on, DescentFromStart, IsAtZero}
+use Rattle.rg_linear.specs.Descent.{Outcome, Outcome.point, Outcome.refuted, Outcome.wide, IsStop, IsSatisfied, Chooses, DescentFrom, DescentFrom.after_last, DescentFrom.satisfied, DescentFrom.stuck, DescentFrom.passes, DescentFrom.stops_below, DescentFrom.goes_on, DescentFromStart, IsAtZero}
 use Rattle.std.proofs.Math.IntN.{zero-*ℤ, *ℤ-zero}
 use Rattle.rg_integers.proofs.Order.{factor_not_negative, mul_not_negative}
 use Rattle.rg_integers.proofs.Sums.{sum_below-zero}
@@ -13,7 +13,7 @@ use Rattle.rg_linear.proofs.Members.{is_member, equal_or_not, Contains-cons_case
 
 -- the rows below r are members or have no negative constant
 abbrev pub MetBelow : LinearSystem → List ℕ → ℕ → Type 0
-MetBelow system members r = (i : ℕ) → i < r → IsPassed system members i
+MetBelow system members r = (i : ℕ) → i < r → IsSatisfied system members i
 
 abbrev pub AllIn : List ℕ → List ℕ → Type 0
 AllIn fixed members = (m : ℕ) → Contains fixed m → Contains members m
@@ -29,8 +29,8 @@ stop_meets system fixed r (point members) stop = absurd stop
 stop_meets system fixed r (refuted members i z) stop = tt
 stop_meets system fixed r (wide w) stop = tt
 
-pub one_more : (system : LinearSystem) (members : List ℕ) (i : ℕ) → MetBelow system members i → IsPassed system members i → MetBelow system members (suc i)
-one_more system members i met here m lt = ⊎_elim (λ e. subst (IsPassed system members) (sym e) here) (λ ne. met m (omega arith)) (equal_or_not m i)
+pub one_more : (system : LinearSystem) (members : List ℕ) (i : ℕ) → MetBelow system members i → IsSatisfied system members i → MetBelow system members (suc i)
+one_more system members i met here m lt = ⊎_elim (λ e. subst (IsSatisfied system members) (sym e) here) (λ ne. met m (omega arith)) (equal_or_not m i)
 
 pub fixed_stay : (system : LinearSystem) (members fixed : List ℕ) (i j : ℕ) → Chooses system members fixed i j → AllIn fixed members → AllIn (row_variable system i ∷ fixed) (exchanged members (row_variable system i) j)
 fixed_stay system members fixed i j c all m has = ⊎_elim
@@ -40,7 +40,7 @@ fixed_stay system members fixed i j c all m has = ⊎_elim
 
 pub point_meets : (system : LinearSystem) (members fixed : List ℕ) (r i : ℕ) (o : Outcome) → DescentFrom system members fixed r i o → MetBelow system members i → AllIn fixed members → PointMeets system fixed r o
 point_meets system members fixed r i o (after_last le) met all = ((λ m lt. met m (omega arith)), all)
-point_meets system members fixed r i o (passed lt p d) met all = point_meets system members fixed r (suc i) o d (one_more system members i met p) all
+point_meets system members fixed r i o (satisfied lt p d) met all = point_meets system members fixed r (suc i) o d (one_more system members i met p) all
 point_meets system members fixed r i o (stuck lt s) met all = tt
 point_meets system members fixed r i o (passes j w n t lt c f) met all = tt
 point_meets system members fixed r i o (stops_below j lt c fit d stop) met all = stop_meets system fixed r o stop
@@ -72,7 +72,7 @@ met_at_zero system members r met scale v p zeros i lt = go (met i lt)
     zero_is : (z : ℤ) → z ≡ pos 0 → pos 0 ≤ℤ z
     zero_is z e = omega (arith, ints)
 
-    go : IsPassed system members i → pos 0 ≤ℤ v (row_variable system i)
+    go : IsSatisfied system members i → pos 0 ≤ℤ v (row_variable system i)
     go (inl member) = zero_is _ (zeros _ member)
     go (inr (k, row, least)) = factor_not_negative k.d _ row.positive (subst (λ z. pos 0 ≤ℤ z) (sym (constant_left system members (row_variable system i) k row scale v p zeros)) (mul_not_negative k.constant scale least (weak p.positive)))
 

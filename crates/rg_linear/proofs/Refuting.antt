@@ -6,7 +6,7 @@ use Rattle.rg_linear.specs.System.{LinearSystem, variables, row_variable, row_at
 use Rattle.rg_integers.specs.Sum.{sum_below, only}
 use Rattle.rg_linear.specs.Dictionary.{Relation, DictionaryRow, column_set}
 use Rattle.rg_linear.specs.Exchange.{exchanged}
-use Rattle.rg_linear.specs.Descent.{Outcome, Outcome.point, Outcome.refuted, Outcome.wide, IsStuck, DescentFrom, DescentFrom.after_last, DescentFrom.passed, DescentFrom.stuck, DescentFrom.passes, DescentFrom.stops_below, DescentFrom.goes_on, DescentFromStart, IsAtZero, multiplier_of}
+use Rattle.rg_linear.specs.Descent.{Outcome, Outcome.point, Outcome.refuted, Outcome.wide, IsStuck, DescentFrom, DescentFrom.after_last, DescentFrom.satisfied, DescentFrom.stuck, DescentFrom.passes, DescentFrom.stops_below, DescentFrom.goes_on, DescentFromStart, IsAtZero, multiplier_of}
 use Rattle.rg_integers.proofs.Ring.{ring, mul-add, mul-neg, neg-mul, one-mul, mul-one}
 use Rattle.std.proofs.Math.IntN.{zero-*ℤ, *ℤ-zero}
 use Rattle.rg_integers.proofs.Order.{mul_positive, mul_not_negative, factor_negative, factor_positive}
@@ -179,7 +179,7 @@ witness_of system members fixed i k lt row negative met all above =
 pub refuted_well : (system : LinearSystem) (members fixed : List ℕ) (r i : ℕ) (o : Outcome) → DescentFrom system members fixed r i o → r ≤ length system.rows
     → MetBelow system members i → AllIn fixed members → Witnessed system fixed → ((y : ℕ) → Contains fixed y → row_variable system r ≤ y) → RefutedWell system o
 refuted_well system members fixed r i o (after_last le) within met all witnessed above = tt
-refuted_well system members fixed r i o (passed lt p d) within met all witnessed above = refuted_well system members fixed r (suc i) o d within (one_more system members i met p) all witnessed above
+refuted_well system members fixed r i o (satisfied lt p d) within met all witnessed above = refuted_well system members fixed r (suc i) o d within (one_more system members i met p) all witnessed above
 refuted_well system members fixed r i o (stuck lt s) within met all witnessed above = record { within = omega arith; stuck = s; all = all; witnessed = witnessed; above = λ y has. (let h = above y has in omega arith) }
 refuted_well system members fixed r i o (passes j w n t lt c f) within met all witnessed above = tt
 refuted_well system members fixed r i o (stops_below j lt c fit d stop) within met all witnessed above =

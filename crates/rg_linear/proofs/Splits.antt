@@ -6,7 +6,7 @@ use Rattle.std.proofs.lemmas.Bool.{cases_lt}
 use Rattle.rg_linear.specs.System.{LinearRow, LinearSystem, row_variable, row_at, entry, IsPoint, MeetsRows, AreFarkasMultipliers}
 use Rattle.rg_integers.specs.Sum.{sum_below}
 use Rattle.rg_linear.specs.Descent.{Outcome.point, DescentFromStart, IsAtZero, multiplier_of}
-use Rattle.rg_splits.specs.Trees.{Tree.leaf, Tree.split, low_side, high_side}
+use Rattle.rg_branch_trees.specs.Trees.{Tree.leaf, Tree.split, low_side, high_side}
 use Rattle.rg_linear.specs.Branching.{Form, form_at, scaled_value, SplitSide, side_row, node_system, AllWhole, SplitTree, weights_from}
 use Rattle.rg_linear.specs.Branching.{BranchOutcome, BranchOutcome.found, BranchOutcome.tree, BranchOutcome.stopped, IsEnd, BranchFrom}
 use Rattle.rg_linear.specs.Branching.{BranchFrom.passes, BranchFrom.refutes, BranchFrom.whole, BranchFrom.low_ends, BranchFrom.high_ends, BranchFrom.both_refuted}

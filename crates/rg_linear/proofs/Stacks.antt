@@ -3,7 +3,7 @@ use Rattle.std.proofs.Common.{◌≡◌, ◌⊎◌, ⊎_elim, ℕ, zero, suc, �
 use Rattle.rg_linear.specs.System.{LinearSystem, row_variable}
 use Rattle.rg_integers.specs.declared.term.Wide.{Wide}
 use Rattle.rg_linear.specs.Exchange.{without, exchanged, AllFit, FirstWide}
-use Rattle.rg_linear.specs.Descent.{Outcome, Outcome.point, Outcome.refuted, Outcome.wide, IsStop, IsPassed, IsStuck, Chooses, DescentFrom, DescentFrom.after_last, DescentFrom.passed, DescentFrom.stuck, DescentFrom.passes, DescentFrom.stops_below, DescentFrom.goes_on}
+use Rattle.rg_linear.specs.Descent.{Outcome, Outcome.point, Outcome.refuted, Outcome.wide, IsStop, IsSatisfied, IsStuck, Chooses, DescentFrom, DescentFrom.after_last, DescentFrom.satisfied, DescentFrom.stuck, DescentFrom.passes, DescentFrom.stops_below, DescentFrom.goes_on}
 use Rattle.rg_linear.specs.Stack.{fixed_of, limit, Resumes, Resumes.last, Resumes.returns, Resumes.ends, work_left, IsFalling, IsStackOf}
 use Rattle.rg_linear.proofs.Members.{Contains-nil, Contains-here, Contains-there, Contains-cons_cases, Contains-without, IsInOrder, length-without, order-without, order_from_increasing}
 use Rattle.rg_linear.proofs.Points.{fixed_stay}
@@ -21,9 +21,9 @@ pub stop_here : (system : LinearSystem) (stack members : List ℕ) (i : ℕ) (o 
 stop_here system [] members i o d stop = last d
 stop_here system (s ∷ stack) members i o d stop = ends d stop
 
--- a row that is passed over
-pub step_passed : (system : LinearSystem) (stack members : List ℕ) (i : ℕ) (o : Outcome) → i < limit system stack → IsPassed system members i → Resumes system stack members (suc i) o → Resumes system stack members i o
-step_passed system stack members i o lt p rest = before system stack members members i (suc i) o (λ o' d. passed lt p d) rest
+-- a row that is satisfied
+pub step_satisfied : (system : LinearSystem) (stack members : List ℕ) (i : ℕ) (o : Outcome) → i < limit system stack → IsSatisfied system members i → Resumes system stack members (suc i) o → Resumes system stack members i o
+step_satisfied system stack members i o lt p rest = before system stack members members i (suc i) o (λ o' d. satisfied lt p d) rest
 
 -- a row that refutes
 pub step_stuck : (system : LinearSystem) (stack members : List ℕ) (i : ℕ) → i < limit system stack → IsStuck system members (fixed_of system stack) i → Resumes system stack members i (refuted members i (fixed_of system stack))
@@ -78,9 +78,9 @@ power-less i r lt = subst (λ n. n ≤ 3 ^ r) (power-next i) (subst (λ n. 3 ^ s
     sum_is : (a r : ℕ) → a ≤ r → r - a + a ≡ r
     sum_is a r h = omega arith
 
-pub work-passed : (system : LinearSystem) (stack : List ℕ) (i : ℕ) → i < limit system stack → work_left (length system.rows) stack (suc i) < work_left (length system.rows) stack i
-work-passed system [] i lt = let h = power-less i (length system.rows) lt in let e = power-next i in let p = power_positive i in omega arith
-work-passed system (s ∷ stack) i lt = let h = power-less i s lt in let e = power-next i in let p = power_positive i in omega arith
+pub work-satisfied : (system : LinearSystem) (stack : List ℕ) (i : ℕ) → i < limit system stack → work_left (length system.rows) stack (suc i) < work_left (length system.rows) stack i
+work-satisfied system [] i lt = let h = power-less i (length system.rows) lt in let e = power-next i in let p = power_positive i in omega arith
+work-satisfied system (s ∷ stack) i lt = let h = power-less i s lt in let e = power-next i in let p = power_positive i in omega arith
 
 pub work-exchange : (system : LinearSystem) (stack : List ℕ) (i : ℕ) → i < limit system stack → work_left (length system.rows) (i ∷ stack) 0 < work_left (length system.rows) stack i
 work-exchange system [] i lt = let h = power-less i (length system.rows) lt in let e = power-next i in let p = power_positive i in omega arith

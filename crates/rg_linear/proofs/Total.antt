@@ -5,7 +5,7 @@ use Rattle.std.proofs.lemmas.Int.{by_lt_z}
 use Rattle.rg_linear.specs.System.{LinearSystem, variables, row_variable}
 use Rattle.rg_linear.specs.Dictionary.{Relation, DictionaryRow, column_set, HasDictionary}
 use Rattle.rg_linear.specs.Exchange.{exchanged, AllFit}
-use Rattle.rg_linear.specs.Descent.{Outcome, Outcome.point, Outcome.refuted, Outcome.wide, IsPassed, Chooses, DescentFrom, DescentFrom.after_last, DescentFrom.passed, DescentFrom.stuck, DescentFrom.passes, DescentFrom.stops_below, DescentFrom.goes_on, DescentFromStart}
+use Rattle.rg_linear.specs.Descent.{Outcome, Outcome.point, Outcome.refuted, Outcome.wide, IsSatisfied, Chooses, DescentFrom, DescentFrom.after_last, DescentFrom.satisfied, DescentFrom.stuck, DescentFrom.passes, DescentFrom.stops_below, DescentFrom.goes_on, DescentFromStart}
 use Rattle.rg_integers.proofs.Order.{is_zero_or_not}
 use Rattle.rg_linear.proofs.Members.{is_member, equal_or_not}
 use Rattle.rg_linear.proofs.Terms.{HasWide, fit_or_wide}
@@ -59,8 +59,8 @@ module _ (system : LinearSystem) (fuel : ℕ) (below : (members fixed : List ℕ
       lt : i < r
       lt = omega arith
 
-      pass : IsPassed system members i → ((after : List ℕ) → HasDictionary system after → Ends system after fixed r (suc i)) → Ends system members fixed r i
-      pass p next = let rest = next members has in record { o = rest.o; descent = passed lt p rest.descent; has = rest.has }
+      pass : IsSatisfied system members i → ((after : List ℕ) → HasDictionary system after → Ends system after fixed r (suc i)) → Ends system members fixed r i
+      pass p next = let rest = next members has in record { o = rest.o; descent = satisfied lt p rest.descent; has = rest.has }
 
       joined : (j : ℕ) → Chooses system members fixed i j → AllFit system members (row_variable system i) j → (o : Outcome)
           → DescentFrom system (exchanged members (row_variable system i) j) (row_variable system i ∷ fixed) i 0 o → PointHas system o

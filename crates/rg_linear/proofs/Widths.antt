@@ -12,7 +12,7 @@ use Rattle.rg_integers.specs.Term.{term_value, FitsTerm}
 use Rattle.rg_integers.specs.Range.{InRange}
 use Rattle.rg_integers.specs.Sign.{sign, size}
 use Rattle.rg_linear.specs.Exchange.{without, exchanged, terms, AllFit, renewed, turned, IsReduced}
-use Rattle.rg_linear.specs.Descent.{Outcome, Outcome.point, DescentFrom, DescentFrom.after_last, DescentFrom.passed, DescentFrom.stuck, DescentFrom.passes, DescentFrom.stops_below, DescentFrom.goes_on, DescentFromStart, IsNotWide}
+use Rattle.rg_linear.specs.Descent.{Outcome, Outcome.point, DescentFrom, DescentFrom.after_last, DescentFrom.satisfied, DescentFrom.stuck, DescentFrom.passes, DescentFrom.stops_below, DescentFrom.goes_on, DescentFromStart, IsNotWide}
 use Rattle.rg_linear.specs.Width.{IsNarrow}
 use Rattle.rg_integers.proofs.Ring.{ring, mul_left_comm}
 use Rattle.std.proofs.Math.IntN.{zero-*ℤ, *ℤ-zero}
@@ -450,7 +450,7 @@ narrow (suc (suc (suc (suc (suc (suc c)))))) b h small = absurd (omega arith)
 -- a descent keeps the relations
 pub descent_has : (system : LinearSystem) (members fixed : List ℕ) (r i : ℕ) (o : Outcome) → DescentFrom system members fixed r i o → HasDictionary system members → PointHas system o
 descent_has system members fixed r i o (after_last le) has = has
-descent_has system members fixed r i o (passed lt p d) has = descent_has system members fixed r (suc i) o d has
+descent_has system members fixed r i o (satisfied lt p d) has = descent_has system members fixed r (suc i) o d has
 descent_has system members fixed r i o (stuck lt s) has = tt
 descent_has system members fixed r i o (passes j w n t lt c f) has = tt
 descent_has system members fixed r i o (stops_below j lt c fit d stop) has = descent_has system (exchanged members (row_variable system i) j) (row_variable system i ∷ fixed) i 0 o d (exchanged_has system members (row_variable system i) j c.k has c.row c.member c.named)
@@ -460,7 +460,7 @@ descent_has system members fixed r i o (goes_on j after lt c fit d rest) has = d
 
 never_wide : (system : LinearSystem) → ((members : List ℕ) (i j : ℕ) → HasDictionary system members → AllFit system members i j) → (members fixed : List ℕ) (r i : ℕ) (o : Outcome) → DescentFrom system members fixed r i o → HasDictionary system members → IsNotWide o
 never_wide system fits members fixed r i o (after_last le) has = tt
-never_wide system fits members fixed r i o (passed lt p d) has = never_wide system fits members fixed r (suc i) o d has
+never_wide system fits members fixed r i o (satisfied lt p d) has = never_wide system fits members fixed r (suc i) o d has
 never_wide system fits members fixed r i o (stuck lt s) has = tt
 never_wide system fits members fixed r i o (passes j w n t lt c f) has = f.passes (fits members (row_variable system i) j has w n t f.term)
 never_wide system fits members fixed r i o (stops_below j lt c fit d stop) has = never_wide system fits (exchanged members (row_variable system i) j) (row_variable system i ∷ fixed) i 0 o d (exchanged_has system members (row_variable system i) j c.k has c.row c.member c.named)

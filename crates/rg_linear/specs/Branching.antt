@@ -2,9 +2,9 @@
 use Rattle.std.specs.Prelude.{◌≡◌, ℕ, zero, suc, ◌<◌, Bool, true, false, ◌==◌, if◌then◌else◌, List, [], ◌∷◌, ◌++◌, length, map, slice_index_or, ℤ, pos, neg_ℤ, ◌+ℤ◌, ◌-ℤ◌, ◌*ℤ◌, ◌≤ℤ◌, ◌<ℤ◌, int_lt, ◌||◌}
 use Rattle.rg_linear.specs.System.{LinearRow, LinearSystem, row_variable, IsPoint, MeetsRows, AreFarkasMultipliers}
 use Rattle.rg_integers.specs.Sum.{sum_below}
-use Rattle.rg_splits.specs.declared.Side.{Side}
-use Rattle.rg_splits.specs.Trees as splits
-use Rattle.rg_splits.specs.Trees.{Tree.leaf, Tree.split, low_side, high_side}
+use Rattle.rg_branch_trees.specs.declared.Side.{Side}
+use Rattle.rg_branch_trees.specs.Trees as splits
+use Rattle.rg_branch_trees.specs.Trees.{Tree.leaf, Tree.split, low_side, high_side}
 use Rattle.rg_linear.specs.Dictionary.{Relation, DictionaryRow}
 use Rattle.rg_linear.specs.Descent.{WideAt, DescentFromStart, IsAtZero, multiplier_of}
 use Rattle.rg_linear.specs.Descent.Outcome.{point, refuted, wide}

@@ -6,7 +6,7 @@ use Rattle.rg_linear.specs.Dictionary.{Relation, DictionaryRow, column_set, numb
 use Rattle.rg_integers.specs.declared.term.Wide.{Wide}
 use Rattle.rg_linear.specs.Exchange.{exchanged, AllFit, FirstWide}
 use Rattle.rg_linear.specs.Descent.{WideAt}
-use Rattle.rg_linear.specs.Firsts.{KeepsFirsts}
+use Rattle.rg_linear.specs.Firsts.{KeepsEqualRows}
 
 -- every row is a sum of columns alone
 abbrev pub IsHomogeneous : LinearSystem → Type 0
@@ -64,7 +64,7 @@ IsZeroVector numbers = All (λ z. z ≡ pos 0) numbers
 
 -- the indices of the vectors that are kept: those that are not 0, and of equal ones the first
 abbrev pub KeepsVectors : List (List ℤ) → List ℕ → Type 0
-KeepsVectors vectors kept = KeepsFirsts (vector_at vectors) (λ i. IsZeroVector (vector_at vectors i)) [] (numbers_from 0 (length vectors)) kept
+KeepsVectors vectors kept = KeepsEqualRows (vector_at vectors) (λ i. IsZeroVector (vector_at vectors i)) [] (numbers_from 0 (length vectors)) kept
 
 -- a column for each label's effect, and the kept vectors as rows without constant
 abbrev pub vector_system : ℕ → List (List ℤ) → List ℕ → LinearSystem

@@ -26,9 +26,9 @@ IsStop (point members) = ⊥
 IsStop (refuted members i fixed) = Unit {0}
 IsStop (wide at) = Unit {0}
 
--- row i is passed over: it is a member, or its relation has no negative constant
-abbrev pub IsPassed : LinearSystem → List ℕ → ℕ → Type 0
-IsPassed system members i =
+-- row i is satisfied: it is a member, or its relation has no negative constant
+abbrev pub IsSatisfied : LinearSystem → List ℕ → ℕ → Type 0
+IsSatisfied system members i =
     Contains members (row_variable system i)
     ⊎ ((k : Relation) × DictionaryRow system members (row_variable system i) k × (pos 0 ≤ℤ k.constant))
 
@@ -52,7 +52,7 @@ pub record Chooses (system : LinearSystem) (members fixed : List ℕ) (i j : ℕ
 -- what the rows i to r - 1 lead to, from the set of members and the list of fixed variables, the last one first
 pub data DescentFrom (system : LinearSystem) : List ℕ → List ℕ → ℕ → ℕ → Outcome → Type 0 where
   after_last : {members fixed : List ℕ} {r i : ℕ} → r ≤ i → DescentFrom system members fixed r i (point members)
-  passed : {members fixed : List ℕ} {r i : ℕ} {o : Outcome} → i < r → IsPassed system members i
+  satisfied : {members fixed : List ℕ} {r i : ℕ} {o : Outcome} → i < r → IsSatisfied system members i
       → DescentFrom system members fixed r (suc i) o → DescentFrom system members fixed r i o
   stuck : {members fixed : List ℕ} {r i : ℕ} → i < r → IsStuck system members fixed i
       → DescentFrom system members fixed r i (refuted members i fixed)

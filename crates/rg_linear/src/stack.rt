@@ -5,12 +5,12 @@ ghost use Rattle.std.specs.Prelude.{ℕ, suc, ◌<◌, ◌≤◌, List, [], ◌�
 ghost use Rattle.rg_linear.specs.System.{LinearSystem, row_variable};
 ghost use Rattle.rg_integers.specs.declared.term.Wide.{Wide};
 ghost use Rattle.rg_linear.specs.Exchange.{exchanged, AllFit, FirstWide};
-ghost use Rattle.rg_linear.specs.Descent.{Outcome, IsPassed, IsStuck, Chooses};
+ghost use Rattle.rg_linear.specs.Descent.{Outcome, IsSatisfied, IsStuck, Chooses};
 ghost use Rattle.rg_linear.specs.Stack.{fixed_of, limit, Resumes, work_left, IsStackOf};
 
 /// What each step may conclude.
 pub fn steps_resume()
-    ensures passed { (system : LinearSystem) (stack members : List ℕ) (i : ℕ) (o : Outcome) → i < limit system stack → IsPassed system members i → Resumes system stack members (suc i) o → Resumes system stack members i o }
+    ensures satisfied { (system : LinearSystem) (stack members : List ℕ) (i : ℕ) (o : Outcome) → i < limit system stack → IsSatisfied system members i → Resumes system stack members (suc i) o → Resumes system stack members i o }
     ensures stuck { (system : LinearSystem) (stack members : List ℕ) (i : ℕ) → i < limit system stack → IsStuck system members (fixed_of system stack) i → Resumes system stack members i (Outcome.refuted members i (fixed_of system stack)) }
     ensures wide { (system : LinearSystem) (stack members : List ℕ) (i j w n : ℕ) (t : Wide) → i < limit system stack
         → Chooses system members (fixed_of system stack) i j → FirstWide system members (row_variable system i) j w n t
@@ -24,7 +24,7 @@ pub fn steps_resume()
 
 /// The work that is left falls with each step.
 pub fn steps_end()
-    ensures passed { (system : LinearSystem) (stack : List ℕ) (i : ℕ) → i < limit system stack → work_left (length system.rows) stack (suc i) < work_left (length system.rows) stack i }
+    ensures satisfied { (system : LinearSystem) (stack : List ℕ) (i : ℕ) → i < limit system stack → work_left (length system.rows) stack (suc i) < work_left (length system.rows) stack i }
     ensures exchanges { (system : LinearSystem) (stack : List ℕ) (i : ℕ) → i < limit system stack → work_left (length system.rows) (i ∷ stack) 0 < work_left (length system.rows) stack i }
     ensures returns { (system : LinearSystem) (s : ℕ) (stack : List ℕ) (i : ℕ) → work_left (length system.rows) stack (suc s) < work_left (length system.rows) (s ∷ stack) i }
 {}

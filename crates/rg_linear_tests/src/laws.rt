@@ -1,4 +1,8 @@
 //! The laws are called as any function is, and do nothing.
+use rg_case_folds::folds::{calls_are_steps, folds_are_one, steps_are_one, zeros_add_nothing};
+use rg_case_folds::rows::{expression_is_rewritten, row_is_exact, system_is_exact};
+use rg_case_folds::shown::shown_is_one;
+use rg_case_folds::spanning::{basis_is_exact, chords_are_exact, ways_are_one};
 use rg_linear::branching::{branching_is_one, branching_is_sound};
 use rg_linear::cycle::{cycle_basis_is_one, cycle_is_exact, kept_is_one};
 use rg_linear::descent::{descent_is_one, narrow_is_not_wide, point_is_sound, refuted_is_sound};
@@ -8,10 +12,6 @@ use rg_linear::table::rows_are_moved;
 use rg_linear::{
     columns_are_free, exchange_is_exact, relation_is_one, wide_is_one, zero_is_a_point,
 };
-use rg_order_of_work::folds::{calls_are_steps, folds_are_one, steps_are_one, zeros_add_nothing};
-use rg_order_of_work::rows::{expression_is_rewritten, row_is_exact, system_is_exact};
-use rg_order_of_work::shown::shown_is_one;
-use rg_order_of_work::spanning::{basis_is_exact, chords_are_exact, ways_are_one};
 
 #[test]
 fn linear_laws_are_called(_rt: HostRuntime) {

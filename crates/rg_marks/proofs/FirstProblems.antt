@@ -10,7 +10,7 @@ use Rattle.rg_theory.specs.declared.Problem.TheVariants.{Event, States}
 use Rattle.rg_theory.specs.Problem.{IsSeparatedBy}
 use Rattle.rg_marks.specs.Tokens.{IsNarrow, AreTokens}
 use Rattle.rg_marks.specs.Stops.{mark_at, MarksStops, IsStoppedBy}
-use Rattle.rg_marks.specs.Blocks.{AreBlocks}
+use Rattle.rg_marks.specs.Cells.{AreCells}
 use Rattle.rg_marks.specs.Separated.{SeparateSoMuch}
 use Rattle.rg_marks.specs.Firsts.{TellsNoMore, AreFirsts, AreAllFirsts}
 use Rattle.rg_marks.specs.declared.firsts.Firsts.{Firsts}
@@ -22,15 +22,15 @@ use Rattle.rg_marks.proofs.Separating.{stopped_is, is_stopped}
 pub are_firsts : (lts : System) (front : List Place) (p : Place) (tokens : List ℕ) (rows : List (List Bool)) (firsts : Firsts) → IsNarrow lts p → AreTokens lts p tokens → MarksStops lts front rows
     → ((s t : ℕ) → Contains firsts.events.items (s, t) → (s < states lts) × (t < labels lts))
     → ((s t : ℕ) → s < states lts → t < labels lts → Contains firsts.events.items (s, t) ↔ (IsStoppedBy p tokens s t × (mark_at rows s t ≡ false)))
-    → IfSome firsts.blocks (λ b. AreBlocks lts front b.items) → IfNone firsts.blocks (TellsNoMore lts front p)
+    → IfSome firsts.cells (λ b. AreCells lts front b.items) → IfNone firsts.cells (TellsNoMore lts front p)
     → AreFirsts lts front p firsts
 are_firsts lts front p tokens rows firsts narrow are stops within events some none =
     record {
       within = within;
       events = λ s t lt lt' here. by s t lt lt' here (cases_Bool (mark_at rows s t));
       first = λ s t has. first s t has (within s t has);
-      blocks = some;
-      no_blocks = none;
+      cells = some;
+      no_cells = none;
     }
   where
     by : (s t : ℕ) → s < states lts → t < labels lts → IsSeparatedBy lts (Event s t) p → (mark_at rows s t ≡ true) ⊎ (mark_at rows s t ≡ false) → Contains firsts.events.items (s, t) ⊎ Any (IsSeparatedBy lts (Event s t)) front
@@ -42,10 +42,10 @@ are_firsts lts front p tokens rows firsts narrow are stops within events some no
         let (stopped, unmarked) = (events s t lt lt').0 has in
         (is_stopped lts p tokens narrow are s t lt stopped, λ before. true≢false (sym ((stops.marks s t lt lt').1 before) ∙ unmarked))
 
--- a place with which the blocks stay tells no more states apart
-pub tells_no_more : (lts : System) (front : List Place) (p : Place) (old new : Separated) → SeparateSoMuch lts front old → SeparateSoMuch lts (front ++ p ∷ []) new → new.blocks.items ≡ old.blocks.items → TellsNoMore lts front p
-tells_no_more lts front p old new much more same = λ s s' lt lt' here. (much.blocks.apart s s' lt lt').0 (λ e.
-    (more.blocks.apart s s' lt lt').1 (adds_any (IsSeparatedBy lts (States s s')) p front (front ++ p ∷ []) (adds_last p front) (inl here))
+-- a place with which the cells stay tells no more states apart
+pub tells_no_more : (lts : System) (front : List Place) (p : Place) (old new : Separated) → SeparateSoMuch lts front old → SeparateSoMuch lts (front ++ p ∷ []) new → new.cells.items ≡ old.cells.items → TellsNoMore lts front p
+tells_no_more lts front p old new much more same = λ s s' lt lt' here. (much.cells.apart s s' lt lt').0 (λ e.
+    (more.cells.apart s s' lt lt').1 (adds_any (IsSeparatedBy lts (States s s')) p front (front ++ p ∷ []) (adds_last p front) (inl here))
     (subst (λ (b : List ℕ). get_or b s 0 ≡ get_or b s' 0) (sym same) e))
 
 -- no place, and no problems

@@ -1,6 +1,6 @@
 pub mod Members
 pub mod Marking
-pub mod Blocking
+pub mod Refining
 pub mod Separating
 pub mod Stopping
 pub mod FirstProblems

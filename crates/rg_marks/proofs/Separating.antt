@@ -10,7 +10,7 @@ use Rattle.rg_theory.specs.declared.Problem.TheVariants.{Event, States}
 use Rattle.rg_theory.specs.Problem.{IsProblem, IsSeparatedBy}
 use Rattle.rg_marks.specs.Tokens.{IsNarrow, AreTokens}
 use Rattle.rg_marks.specs.Stops.{rows_in, mark_at, IsTable, MarksStops, IsStoppedBy}
-use Rattle.rg_marks.specs.Blocks.{AreBlocks, AreRefined}
+use Rattle.rg_marks.specs.Cells.{AreCells, AreRefined}
 use Rattle.rg_marks.specs.Separated.{AddsOne, SeparateSoMuch}
 use Rattle.rg_marks.specs.declared.separated.Separated.{Separated}
 use Rattle.rg_marks.proofs.Members.{any_adds, adds_any}
@@ -41,17 +41,17 @@ module _ (lts : System) (p : Place) (tokens : List ℕ) (narrow : IsNarrow lts p
     );
   }
 
-  -- the blocks with one more place
-  pub blocks_more : (xs ys : List Place) (blocks refined : List ℕ) → AddsOne p xs ys → AreBlocks lts xs blocks → AreRefined blocks tokens refined → AreBlocks lts ys refined
-  blocks_more xs ys blocks refined adds before fine = record { one_each = fine.one_each ∙ before.one_each; apart = λ s s' lt lt'. (to s s' lt lt', from s s' lt lt') }
+  -- the cells with one more place
+  pub cells_more : (xs ys : List Place) (cells refined : List ℕ) → AddsOne p xs ys → AreCells lts xs cells → AreRefined cells tokens refined → AreCells lts ys refined
+  cells_more xs ys cells refined adds before fine = record { one_each = fine.one_each ∙ before.one_each; apart = λ s s' lt lt'. (to s s' lt lt', from s s' lt lt') }
     where
-      within : (s : ℕ) → s < states lts → s < length blocks
+      within : (s : ℕ) → s < states lts → s < length cells
       within s lt = subst (λ n. s < n) (sym before.one_each) lt
 
       to : (s s' : ℕ) → s < states lts → s' < states lts → get_or refined s 0 ≢ get_or refined s' 0 → Any (IsSeparatedBy lts (States s s')) ys
-      to s s' lt lt' differ = adds_any (IsSeparatedBy lts (States s s')) p xs ys adds (by (cases_eq (get_or blocks s 0) (get_or blocks s' 0)) (cases_eq (get_or tokens s 0) (get_or tokens s' 0)))
+      to s s' lt lt' differ = adds_any (IsSeparatedBy lts (States s s')) p xs ys adds (by (cases_eq (get_or cells s 0) (get_or cells s' 0)) (cases_eq (get_or tokens s 0) (get_or tokens s' 0)))
         where
-          by : (get_or blocks s 0 ≡ get_or blocks s' 0) ⊎ (get_or blocks s 0 ≢ get_or blocks s' 0) → (get_or tokens s 0 ≡ get_or tokens s' 0) ⊎ (get_or tokens s 0 ≢ get_or tokens s' 0) → IsSeparatedBy lts (States s s') p ⊎ Any (IsSeparatedBy lts (States s s')) xs
+          by : (get_or cells s 0 ≡ get_or cells s' 0) ⊎ (get_or cells s 0 ≢ get_or cells s' 0) → (get_or tokens s 0 ≡ get_or tokens s' 0) ⊎ (get_or tokens s 0 ≢ get_or tokens s' 0) → IsSeparatedBy lts (States s s') p ⊎ Any (IsSeparatedBy lts (States s s')) xs
           by (inl e) (inl f) = absurd (differ ((fine.same s s' (within s lt) (within s' lt')).1 (e, f)))
           by e (inr other) = inl (is_apart s s' lt lt' other)
           by (inr other) f = inr ((before.apart s s' lt lt').0 other)
@@ -62,8 +62,8 @@ module _ (lts : System) (p : Place) (tokens : List ℕ) (narrow : IsNarrow lts p
           ⊎_elim (λ here. apart_is s s' lt lt' here alike) (λ others. (before.apart s s' lt lt').1 others same) (any_adds (IsSeparatedBy lts (States s s')) p xs ys adds some)
 
 -- no place tells no states apart
-pub one_block : (lts : System) (blocks : List ℕ) → blocks ≡ replicate (states lts) 0 → AreBlocks lts [] blocks
-one_block lts blocks is = subst (AreBlocks lts []) (sym is) (record {
+pub one_cell : (lts : System) (cells : List ℕ) → cells ≡ replicate (states lts) 0 → AreCells lts [] cells
+one_cell lts cells is = subst (AreCells lts []) (sym is) (record {
   one_each = length-replicate (states lts) 0;
   apart = λ s s' lt lt'. (
     λ differ. absurd (differ (get_or-replicate (states lts) s 0 0 lt ∙ sym (get_or-replicate (states lts) s' 0 0 lt'))),
@@ -89,13 +89,13 @@ marks_with_new lts p tokens before after events new says s t lt lt' = (
 pub so_much_more : (lts : System) (p : Place) (tokens : List ℕ) (xs ys : List Place) (old new : Separated) (before : List (Vec Bool Global)) (rows : List (Vec Bool Global)) (from : List ℕ) (refined : List ℕ) → IsNarrow lts p → AreTokens lts p tokens → AddsOne p xs ys → SeparateSoMuch lts xs old
     → before ≡ old.stops.items → new.stops.items ≡ rows → IsTable lts (rows_in rows)
     → ((s t : ℕ) → s < states lts → t < labels lts → (mark_at (rows_in rows) s t ≡ true) ↔ ((mark_at (rows_in before) s t ≡ true) ⊎ IsStoppedBy p tokens s t))
-    → from ≡ old.blocks.items → AreRefined from tokens refined → new.blocks.items ≡ refined
+    → from ≡ old.cells.items → AreRefined from tokens refined → new.cells.items ≡ refined
     → SeparateSoMuch lts ys new
 so_much_more lts p tokens xs ys old new before rows from refined narrow are adds much is writes table says is' fine numbered =
     record {
       stops = subst (λ (l : List (Vec Bool Global)). MarksStops lts ys (rows_in l)) (sym writes)
           (marks_more lts p tokens narrow are xs ys (rows_in before) (rows_in rows) adds (subst (λ (l : List (Vec Bool Global)). MarksStops lts xs (rows_in l)) (sym is) much.stops) table says);
-      blocks = subst (AreBlocks lts ys) (sym numbered) (blocks_more lts p tokens narrow are xs ys from refined adds (subst (AreBlocks lts xs) (sym is') much.blocks) fine);
+      cells = subst (AreCells lts ys) (sym numbered) (cells_more lts p tokens narrow are xs ys from refined adds (subst (AreCells lts xs) (sym is') much.cells) fine);
     }
 
 -- what a mark and two numbers say
@@ -108,7 +108,7 @@ module _ (lts : System) (places : List Place) (separated : Separated) (much : Se
         (λ some. sym read ∙ from (subst (λ (q : Problem). Any (IsSeparatedBy lts q) places) is some)),
       )
 
-  pub told_by_numbers : (s s' number other : ℕ) → problem ≡ States s s' → number ≡ get_or separated.blocks.items s 0 → other ≡ get_or separated.blocks.items s' 0 → IsTrue (not (number == other)) ↔ Any (IsSeparatedBy lts problem) places
+  pub told_by_numbers : (s s' number other : ℕ) → problem ≡ States s s' → number ≡ get_or separated.cells.items s 0 → other ≡ get_or separated.cells.items s' 0 → IsTrue (not (number == other)) ↔ Any (IsSeparatedBy lts problem) places
   told_by_numbers s s' number other is e f = (
     (λ set. subst (λ (q : Problem). Any (IsSeparatedBy lts q) places) (sym is) (apart.0 (λ same. true≢false (sym set ∙ ap not (eq-eqb number other (e ∙ same ∙ sym f)))))),
     (λ some. by (apart.1 (subst (λ (q : Problem). Any (IsSeparatedBy lts q) places) is some)) (cases_Bool (number == other))),
@@ -117,9 +117,9 @@ module _ (lts : System) (places : List Place) (separated : Separated) (much : Se
       here : IsProblem lts (States s s')
       here = subst (IsProblem lts) is has
 
-      apart : (get_or separated.blocks.items s 0 ≢ get_or separated.blocks.items s' 0) ↔ Any (IsSeparatedBy lts (States s s')) places
-      apart = much.blocks.apart s s' (let order = here.0 in let last = here.1 in omega arith) here.1
+      apart : (get_or separated.cells.items s 0 ≢ get_or separated.cells.items s' 0) ↔ Any (IsSeparatedBy lts (States s s')) places
+      apart = much.cells.apart s s' (let order = here.0 in let last = here.1 in omega arith) here.1
 
-      by : get_or separated.blocks.items s 0 ≢ get_or separated.blocks.items s' 0 → ((number == other) ≡ true) ⊎ ((number == other) ≡ false) → IsTrue (not (number == other))
+      by : get_or separated.cells.items s 0 ≢ get_or separated.cells.items s' 0 → ((number == other) ≡ true) ⊎ ((number == other) ≡ false) → IsTrue (not (number == other))
       by differ (inl same) = absurd (differ (sym e ∙ eqb-true number other same ∙ f))
       by differ (inr other_number) = ap not other_number

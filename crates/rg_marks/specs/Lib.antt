@@ -1,5 +1,5 @@
 pub mod Tokens
 pub mod Stops
-pub mod Blocks
+pub mod Cells
 pub mod Separated
 pub mod Firsts

@@ -9,6 +9,6 @@
 pub struct Firsts {
     /// The states, each with a label that the place stops there and no place in front does.
     pub events: Vec<(u32, u32)>,
-    /// The blocks of the places in front, a number for each state, where the place splits one.
-    pub blocks: Option<Vec<u32>>,
+    /// The cells of the places in front, a number for each state, where the place splits one.
+    pub cells: Option<Vec<u32>>,
 }

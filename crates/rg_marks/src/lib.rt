@@ -6,7 +6,7 @@
 //! *Petri Net Synthesis*).
 #![tactic(auto)]
 
-mod blocks;
+mod cells;
 mod firsts;
 mod region_place;
 mod separated;

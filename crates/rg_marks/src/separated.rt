@@ -7,7 +7,7 @@ ghost use Rattle.rg_marks.specs.Tokens.{IsNarrow, AreTokens};
 ghost use Rattle.rg_marks.specs.Firsts.{AreFirsts};
 ghost use Rattle.rg_marks.specs.Separated.{AddsOne, SeparateSoMuch, AreSome};
 
-use crate::blocks::finer;
+use crate::cells::finer;
 use crate::firsts::Firsts;
 use crate::stops::{mark, new_stops, no_marks};
 use rg_lts::Lts;
@@ -21,7 +21,7 @@ pub struct Separated {
     /// A row for each label, with a mark for each state: whether one of the places stops the label there.
     pub stops: Vec<Vec<bool>>,
     /// A number for each state. Two states have different ones exactly if one of the places distinguishes them.
-    pub blocks: Vec<u32>,
+    pub cells: Vec<u32>,
 }
 
 impl Separated {
@@ -30,13 +30,13 @@ impl Separated {
         ensures { IfOk result (SeparateSoMuch lts.now []) }
     {
         let stops = no_marks(alloc, lts)?;
-        let blocks = vec![in alloc; 0; lts.states() as usize]?;
-        Ok(Separated { stops, blocks })
+        let cells = vec![in alloc; 0; lts.states() as usize]?;
+        Ok(Separated { stops, cells })
     }
 
     /// Adds what one more place separates, given with its tokens, one number for each state. Returns what it is the
-    /// first to separate, after the places that were added before: with the former blocks, if it changes them, that
-    /// is, if the place distinguishes two states of one block. Returns `AllocError` if memory runs out; then nothing
+    /// first to separate, after the places that were added before: with the former cells, if it changes them, that
+    /// is, if the place distinguishes two states of one cell. Returns `AllocError` if memory runs out; then nothing
     /// is added.
     pub fn add(
         &mut self,
@@ -50,19 +50,19 @@ impl Separated {
         requires some { AreSome lts.now self.old }
         ensures separated { OnOk result ((places more : List PlaceOfTheory) → AddsOne (shown_place place.now) places more → SeparateSoMuch lts.now places self.old → SeparateSoMuch lts.now more self.new) }
         ensures firsts { IfOk result (λ firsts. (front : List PlaceOfTheory) → SeparateSoMuch lts.now front self.old → AreFirsts lts.now front (shown_place place.now) firsts) }
-        ensures before { IfOk result (λ firsts. IfSome firsts.blocks (λ numbers. (numbers.items ≡ self.old.blocks.items) × (self.new.blocks.items ≢ numbers.items))) }
-        ensures same { IfOk result (λ firsts. IfNone firsts.blocks (self.new.blocks.items ≡ self.old.blocks.items)) }
+        ensures before { IfOk result (λ firsts. IfSome firsts.cells (λ numbers. (numbers.items ≡ self.old.cells.items) × (self.new.cells.items ≢ numbers.items))) }
+        ensures same { IfOk result (λ firsts. IfNone firsts.cells (self.new.cells.items ≡ self.old.cells.items)) }
         ensures none_added { OnErr result (self.new ≡ self.old) }
     {
         lts.is_well_formed();
         let events = new_stops(alloc, lts, &self.stops, place, tokens)?;
-        let blocks = finer(alloc, &self.blocks, tokens)?;
+        let cells = finer(alloc, &self.cells, tokens)?;
         mark(lts, &mut self.stops, &events);
-        let blocks = match blocks {
-            Some(after) => Some(std::mem::replace(&mut self.blocks, after)),
+        let cells = match cells {
+            Some(after) => Some(std::mem::replace(&mut self.cells, after)),
             None => None,
         };
-        Ok(Firsts { events, blocks })
+        Ok(Firsts { events, cells })
     }
 
     /// Whether one of the places separates the problem of the system.
@@ -73,7 +73,7 @@ impl Separated {
     {
         match problem {
             Problem::Event(s, t) => self.stops[t as usize][s as usize],
-            Problem::States(s, other) => self.blocks[s as usize] != self.blocks[other as usize],
+            Problem::States(s, other) => self.cells[s as usize] != self.cells[other as usize],
         }
     }
 }

@@ -1,7 +1,7 @@
 -- The lines that `selftest` writes to out, one for each trial.
 use Rattle.std.specs.Prelude.{ℕ, List, [], ◌++◌, length, codes, decimal, slice_index_or}
 use Rattle.rg_theory.specs.System.{System, states}
-use Rattle.rg_refuting.specs.Refutes.{Reason}
+use Rattle.rg_cert_meaning.specs.Refutes.{Reason}
 use Rattle.rg_cert.specs.Text.{spaced, reason_lines}
 use Rattle.rg_families.specs.declared.Kind.{Kind}
 use Rattle.rg_families.specs.declared.Kind.TheVariants.{Grid, Doubling, Lock}

@@ -2,8 +2,8 @@
 use Rattle.std.specs.Prelude.{ℕ, ℤ, List, ◌++◌, codes}
 use Rattle.std.specs.Fmt.{signed_decimal}
 use Rattle.rg_integers.specs.declared.term.Wide.{Wide}
-use Rattle.rg_reasons.specs.declared.wide_at.Stage.{Stage}
-use Rattle.rg_reasons.specs.declared.wide_at.Stage.TheVariants.{Cycle, Row, Pivot, Place, Spread}
+use Rattle.rg_cert_data.specs.declared.wide_at.Stage.{Stage}
+use Rattle.rg_cert_data.specs.declared.wide_at.Stage.TheVariants.{Cycle, Row, Pivot, Place, Spread}
 use Rattle.rg_messages.specs.declared.wide.WideCause.{WideCause}
 use Rattle.rg_messages.specs.declared.wide.WideCause.TheVariants.{Synthesis, Factor, Split, Check}
 

@@ -1,12 +1,12 @@
 //! The lines of `selftest`.
 ghost use Rattle.std.specs.Prelude.{◌≡◌, ◌++◌, IfOk, OnOk};
-ghost use Rattle.rg_reasons.specs.Certificates.{reason_of, IsReasonOf};
+ghost use Rattle.rg_cert_data.specs.Certificates.{reason_of, IsReasonOf};
 ghost use Rattle.rg_messages.specs.TrialTexts.{kind_word, trial_text, solved_line, reason_line, unsolvable_line};
 
 use crate::pieces::{push_label, push_number, push_state};
+use rg_cert_data::Reason;
 use rg_families::Kind;
 use rg_lts::Lts;
-use rg_reasons::Reason;
 use std::alloc::{AllocError, Global};
 
 /// The line that says of the system of a family that a net of so many places solves it, with the line of the verdict on that net.

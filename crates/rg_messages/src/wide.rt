@@ -3,10 +3,10 @@ ghost use Rattle.std.specs.Prelude.{◌≡◌, ◌++◌, IfOk, OnOk};
 ghost use Rattle.rg_messages.specs.Wides.{stage_words, product_text, term_text, passed_line, wide_line};
 
 use itoa::Buffer;
+use rg_cert_data::{Stage, WideAt};
 use rg_integers::Wide;
 use rg_lts::Lts;
 use rg_net_verdict::CheckWide;
-use rg_reasons::{Stage, WideAt};
 use std::alloc::{AllocError, Global};
 
 /// The work in which a number is out of range.

@@ -1,13 +1,13 @@
 //! The lines of `selftest` for systems without a net.
 ghost use Rattle.std.specs.Prelude.{IfSome};
-ghost use Rattle.rg_reasons.specs.Certificates.{IsCertificateOf};
+ghost use Rattle.rg_cert_data.specs.Certificates.{IsCertificateOf};
 
 use crate::samples::{TOGGLE, is_line};
 use rg_cert::read;
+use rg_cert_data::Certificate;
 use rg_families::Kind;
 use rg_lts::Lts;
 use rg_messages::unsolvable_text;
-use rg_reasons::Certificate;
 use rg_samples::system;
 use rg_text::MOST_BYTES;
 use std::alloc::Global;

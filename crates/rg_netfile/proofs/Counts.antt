@@ -6,7 +6,7 @@ use Rattle.std.proofs.lemmas.Bool.{cases_order}
 use Rattle.std.proofs.lemmas.Bool.Decides.{nat_tests}
 use Rattle.std.proofs.lemmas.List.{get_or-set_same, get_or-set_other, get_or_default, length-set}
 use Rattle.std.proofs.lemmas.List.Sums.{count_by_more_yes, count_by_more_no}
-use Rattle.rg_netitems.specs.Contents.{Transition}
+use Rattle.rg_net_grammar.specs.Contents.{Transition}
 use Rattle.rg_netfile.specs.Contents.{is_among, have_each_once}
 use Rattle.rg_netfile.specs.Built.{AreNumbers, AreCounts}
 use Rattle.rg_netfile.proofs.NameTests.{among_false}

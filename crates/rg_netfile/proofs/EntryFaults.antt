@@ -5,7 +5,7 @@ use Rattle.std.specs.Str.{bytes_eq}
 use Rattle.std.proofs.lemmas.Bool.{cond-true, cond-false}
 use Rattle.std.proofs.lemmas.List.{map-append}
 use Rattle.rg_lexer.specs.Lexeme.{Lexeme}
-use Rattle.rg_netitems.specs.Contents.{Transition}
+use Rattle.rg_net_grammar.specs.Contents.{Transition}
 use Rattle.rg_netfile.specs.declared.fault.NetFault.{NetFault}
 use Rattle.rg_netfile.specs.declared.fault.NetFault.TheVariants.{TwicePlace, TooManyPlaces, TwiceTransition}
 use Rattle.rg_netfile.specs.Contents.{most_places, place_fault, transition_fault}

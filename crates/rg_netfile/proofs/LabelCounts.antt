@@ -10,7 +10,7 @@ use Rattle.std.proofs.lemmas.Option.{slice_get_within, slice_get-get_or}
 use Rattle.std.proofs.lemmas.Slice.Eq.{bytes_eq-Decides}
 use Rattle.rg_theory.specs.System.{System, labels}
 use Rattle.rg_lts.specs.WellFormed.{IsWellFormed}
-use Rattle.rg_netitems.specs.Contents.{Transition}
+use Rattle.rg_net_grammar.specs.Contents.{Transition}
 use Rattle.rg_netfile.specs.Contents.{is_among, have_each_once}
 use Rattle.rg_netfile.specs.Built.{AreApart, AreNumbers, AreCounts}
 use Rattle.rg_netfile.proofs.NameTests.{there, among_true}

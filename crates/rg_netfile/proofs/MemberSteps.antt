@@ -12,7 +12,7 @@ use Rattle.std.proofs.lemmas.Slice.Eq.{bytes_eq-Decides}
 use Rattle.rg_theory.specs.Net.{Place, Net, HasAllWeights, IsPlaceAt}
 use Rattle.rg_lexer.specs.Lexeme.{Lexeme}
 use Rattle.rg_integers.specs.Range.{greatest}
-use Rattle.rg_netitems.specs.Item.{Member}
+use Rattle.rg_net_grammar.specs.Item.{Member}
 use Rattle.rg_netfile.specs.declared.fault.NetFault.{NetFault}
 use Rattle.rg_netfile.specs.declared.fault.NetFault.TheVariants.{UnknownTransition, UnknownPlace, NumberPasses}
 use Rattle.rg_netfile.specs.declared.slot.Slot.{Slot}

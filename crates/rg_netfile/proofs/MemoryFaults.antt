@@ -11,15 +11,15 @@ use Rattle.rg_lexer.specs.declared.token.LexFault.{LexFault}
 use Rattle.rg_lexer.specs.declared.token.LexFault.TheVariants as lex
 use Rattle.rg_lexer.specs.Tokens.{FirstLexFault}
 use Rattle.rg_lexer.specs.Lexeme.{Lexeme}
-use Rattle.rg_items.specs.declared.fault.ItemFault.{ItemFault}
-use Rattle.rg_items.specs.declared.fault.ItemFault.TheVariants as item
-use Rattle.rg_items.specs.Text.{of_lexer, in_tokens, in_grammar}
-use Rattle.rg_items.specs.Grammar.{IsRefused}
-use Rattle.rg_netitems.specs.Table.{Position, section, type_name, passed_text, in_section, after_entry, in_list, in_flows, after_flow_name, before_set, in_set, after_pre, refusal_by}
-use Rattle.rg_netitems.specs.Table.{first_member, next_member, after_name, after_star, after_member}
-use Rattle.rg_netitems.specs.Reading.{net_grammar}
-use Rattle.rg_netitems.specs.Text.{FirstItemFault}
-use Rattle.rg_netitems.specs.Contents.{Transition, Declared, declared}
+use Rattle.rg_grammar.specs.declared.fault.ItemFault.{ItemFault}
+use Rattle.rg_grammar.specs.declared.fault.ItemFault.TheVariants as item
+use Rattle.rg_grammar.specs.Text.{of_lexer, in_tokens, in_grammar}
+use Rattle.rg_grammar.specs.Grammar.{IsRefused}
+use Rattle.rg_net_grammar.specs.Table.{Position, section, type_name, passed_text, in_section, after_entry, in_list, in_flows, after_flow_name, before_set, in_set, after_pre, refusal_by}
+use Rattle.rg_net_grammar.specs.Table.{first_member, next_member, after_name, after_star, after_member}
+use Rattle.rg_net_grammar.specs.Reading.{net_grammar}
+use Rattle.rg_net_grammar.specs.Text.{FirstItemFault}
+use Rattle.rg_net_grammar.specs.Contents.{Transition, Declared, declared}
 use Rattle.rg_netfile.specs.declared.fault.NetFault.{NetFault}
 use Rattle.rg_netfile.specs.declared.fault.NetFault.TheVariants.{NoType, TwicePlace, TooManyPlaces, TwiceTransition, TransitionsDiffer, UnknownTransition, UnknownPlace, NumberPasses, NoMemory}
 use Rattle.rg_netfile.specs.Contents.{Step, flow_of, adds, is_among, count_of, member_at, total, most_places, place_names, transition_names, steps}

@@ -9,10 +9,10 @@ use Rattle.rg_theory.specs.Net.{Place, Net, pre_weight, post_weight}
 use Rattle.rg_lexer.specs.Lexeme.{Lexeme}
 use Rattle.rg_lexer.specs.declared.token.Kind.TheVariants.{Name, Word, Colon, Arrow}
 use Rattle.rg_lexer.proofs.Printed.{Reads, Then, reads_same, reads_more, reads_token, reads_blank, reads_name, reads_word, reads_end, literal_name}
-use Rattle.rg_items.specs.Entry.{AreEach}
-use Rattle.rg_items.proofs.Printed.{NamesThen, reads_names}
+use Rattle.rg_grammar.specs.Entry.{AreEach}
+use Rattle.rg_grammar.proofs.Printed.{NamesThen, reads_names}
 use Rattle.rg_net.specs.NetText.{place_name, set_text, taken_by, put_by, starts, flow_lines, net_lines}
-use Rattle.rg_netitems.specs.Item.{Flow, IsFlow}
+use Rattle.rg_net_grammar.specs.Item.{Flow, IsFlow}
 use Rattle.rg_netfile.proofs.PlaceNames.{IsPrefix}
 use Rattle.rg_netfile.proofs.SetTexts.{AreMembers, SetThen, reads_set}
 use Rattle.rg_netfile.proofs.Texts.{text_parts, place_lines, flows_of, marking_of}

@@ -12,7 +12,7 @@ use Rattle.rg_theory.specs.System.{System, labels}
 use Rattle.rg_theory.specs.Net.{Place, Net}
 use Rattle.rg_lexer.specs.Lexeme.{Lexeme}
 use Rattle.rg_lexer.specs.declared.token.Kind.TheVariants.{Name}
-use Rattle.rg_netitems.specs.Contents.{Transition, Declared}
+use Rattle.rg_net_grammar.specs.Contents.{Transition, Declared}
 use Rattle.rg_netfile.specs.Contents.{taken, put, start, is_among, total, steps, have_each_once, IsPlaceOf, IsNetOf}
 use Rattle.rg_netfile.proofs.Apart.{count_no, count_one, count_some}
 

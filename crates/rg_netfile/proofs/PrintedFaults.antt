@@ -10,7 +10,7 @@ use Rattle.std.proofs.lemmas.Slice.Eq.{bytes_eq-Decides}
 use Rattle.rg_lexer.specs.Lexeme.{Lexeme}
 use Rattle.rg_text.specs.Faults.{faults_after, AreNone}
 use Rattle.rg_integers.specs.Range.{greatest}
-use Rattle.rg_netitems.specs.Contents.{Transition}
+use Rattle.rg_net_grammar.specs.Contents.{Transition}
 use Rattle.rg_netfile.specs.Contents.{most_places, place_fault, transition_fault, is_among, have_each_once, Step, flow_of, adds, added, total, step_fault}
 use Rattle.rg_netfile.specs.Built.{AreApart}
 use Rattle.rg_netfile.proofs.NameTests.{there, among_true}

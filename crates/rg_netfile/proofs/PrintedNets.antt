@@ -15,8 +15,8 @@ use Rattle.rg_text.proofs.Left.{none_joined}
 use Rattle.rg_net.specs.Range.{IsNetInRange, IsPlaceInRange}
 use Rattle.rg_integers.specs.Range.{greatest}
 use Rattle.rg_net.specs.NetText.{place_name, taken_by, put_by, starts}
-use Rattle.rg_netitems.specs.Item.{Member, Flow}
-use Rattle.rg_netitems.specs.Contents.{Transition, Declared}
+use Rattle.rg_net_grammar.specs.Item.{Member, Flow}
+use Rattle.rg_net_grammar.specs.Contents.{Transition, Declared}
 use Rattle.rg_netfile.specs.declared.fault.NetFault.TheVariants.{NoType, TransitionsDiffer}
 use Rattle.rg_netfile.specs.Contents.{most_places, place_names, transition_names, place_fault, transition_fault, have_each_once, step_fault, Cell, taken, put, start, Step, adds, steps_of_flow, steps, total, faults, IsNetOf}
 use Rattle.rg_netfile.specs.Built.{AreApart}

@@ -10,7 +10,7 @@ use Rattle.std.proofs.lemmas.List.{length-map}
 use Rattle.std.proofs.lemmas.Option.{slice_get-get_or}
 use Rattle.rg_theory.specs.Net.{Net, pre_weight, post_weight}
 use Rattle.rg_net.specs.NetText.{place_name, taken_by, put_by, starts}
-use Rattle.rg_netitems.specs.Item.{Member, Flow}
+use Rattle.rg_net_grammar.specs.Item.{Member, Flow}
 use Rattle.rg_netfile.specs.Contents.{Cell, taken, put, start, same_cell, flow_of, adds, steps_of_flow, added, total, count_of}
 use Rattle.rg_netfile.specs.Built.{AreApart}
 use Rattle.rg_netfile.proofs.NameTests.{there}

@@ -10,14 +10,14 @@ use Rattle.rg_theory.specs.Net.{Place, Net, pre_weight, post_weight}
 use Rattle.rg_lexer.specs.Lexeme.{Lexeme}
 use Rattle.rg_lexer.proofs.Printed.{reads_lexemes}
 use Rattle.rg_lts.specs.WellFormed.{IsWellFormed}
-use Rattle.rg_items.specs.Entry.{Entry}
-use Rattle.rg_items.proofs.Printed.{bare, lexeme_text}
+use Rattle.rg_grammar.specs.Entry.{Entry}
+use Rattle.rg_grammar.proofs.Printed.{bare, lexeme_text}
 use Rattle.rg_net.specs.Range.{IsNetInRange, IsPlaceInRange}
 use Rattle.rg_integers.specs.Range.{greatest}
 use Rattle.rg_net.specs.NetText.{place_name, place_prefix, net_text}
-use Rattle.rg_netitems.specs.Item.{Item, AreItems}
-use Rattle.rg_netitems.specs.Item as item
-use Rattle.rg_netitems.specs.Contents.{Transition, Declared, declared, label_of as label_by, first_label}
+use Rattle.rg_net_grammar.specs.Item.{Item, AreItems}
+use Rattle.rg_net_grammar.specs.Item as item
+use Rattle.rg_net_grammar.specs.Contents.{Transition, Declared, declared, label_of as label_by, first_label}
 use Rattle.rg_netfile.specs.Contents.{most_places}
 use Rattle.rg_netfile.specs.Spells.{Spells}
 use Rattle.rg_netfile.proofs.PlaceNames.{prefix_is, place_name_is}

@@ -9,10 +9,10 @@ use Rattle.rg_text.specs.Byte.{is_name_byte, IsName, StopsAt}
 use Rattle.rg_lexer.specs.Lexeme.{Lexeme}
 use Rattle.rg_lexer.specs.declared.token.Kind.TheVariants.{Name, LeftBrace, RightBrace, Comma, Star}
 use Rattle.rg_lexer.proofs.Printed.{Reads, Then, reads_same, reads_more, reads_token, reads_blank, reads_name}
-use Rattle.rg_items.specs.Entry.{AreSeparated}
+use Rattle.rg_grammar.specs.Entry.{AreSeparated}
 use Rattle.rg_netfile.proofs.Decimals.{decimal_digits, decimal_name}
 use Rattle.rg_net.specs.NetText.{place_name, member_text, members_text, set_text}
-use Rattle.rg_netitems.specs.Item.{Member, IsMember, IsSet}
+use Rattle.rg_net_grammar.specs.Item.{Member, IsMember, IsSet}
 use Rattle.rg_netfile.specs.Contents.{count_of}
 use Rattle.rg_netfile.proofs.PlaceNames.{IsPrefix, place_name_is, decimal_value}
 

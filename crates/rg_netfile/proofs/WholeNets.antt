@@ -10,7 +10,7 @@ use Rattle.rg_theory.specs.Net.{Net, HasAllWeights, IsPlaceAt}
 use Rattle.rg_lexer.specs.Lexeme.{Lexeme}
 use Rattle.rg_lts.specs.WellFormed.{IsWellFormed}
 use Rattle.rg_text.specs.Faults.{if_not, IsFirst, AreNone}
-use Rattle.rg_netitems.specs.Contents.{Transition, Declared}
+use Rattle.rg_net_grammar.specs.Contents.{Transition, Declared}
 use Rattle.rg_netfile.specs.declared.fault.NetFault.{NetFault}
 use Rattle.rg_netfile.specs.declared.slot.Slot.{Slot}
 use Rattle.rg_netfile.specs.declared.slot.Slot.TheVariants.{Start, Taken, Put}

@@ -4,11 +4,11 @@ use Rattle.rg_theory.specs.System.{System}
 use Rattle.rg_theory.specs.Net.{Net}
 use Rattle.rg_text.specs.Faults.{faults_after, if_not, IsFirst, AreNone}
 use Rattle.rg_text.proofs.Left.{one_first, none_or_first, some_first}
-use Rattle.rg_netitems.specs.Item.{Item}
-use Rattle.rg_netitems.specs.Contents.{Declared, declared}
-use Rattle.rg_netitems.specs.Text.{AreItemsOf, FirstItemFault}
-use Rattle.rg_items.specs.declared.fault.ItemFault.{ItemFault}
-use Rattle.rg_netitems.proofs.WholeTexts.{one_meaning, items_not_fault, one_first_fault as one_item_fault, items_or_fault}
+use Rattle.rg_net_grammar.specs.Item.{Item}
+use Rattle.rg_net_grammar.specs.Contents.{Declared, declared}
+use Rattle.rg_net_grammar.specs.Text.{AreItemsOf, FirstItemFault}
+use Rattle.rg_grammar.specs.declared.fault.ItemFault.{ItemFault}
+use Rattle.rg_net_grammar.proofs.WholeTexts.{one_meaning, items_not_fault, one_first_fault as one_item_fault, items_or_fault}
 use Rattle.rg_netfile.specs.declared.fault.NetFault.{NetFault}
 use Rattle.rg_netfile.specs.declared.fault.NetFault.TheVariants.{NoType, TransitionsDiffer}
 use Rattle.rg_netfile.specs.Contents.{place_fault, transition_fault, step_fault, have_each_once, place_names, transition_names, steps, faults, IsNetOf}

@@ -8,8 +8,8 @@ use Rattle.rg_theory.specs.Net.{Place, Net, HasAllWeights, IsPlaceAt, pre_weight
 use Rattle.rg_lexer.specs.Lexeme.{Lexeme}
 use Rattle.rg_text.specs.Faults.{faults_after, if_not}
 use Rattle.rg_integers.specs.Range.{greatest}
-use Rattle.rg_netitems.specs.Item.{Member, Flow}
-use Rattle.rg_netitems.specs.Contents.{Transition, Declared}
+use Rattle.rg_net_grammar.specs.Item.{Member, Flow}
+use Rattle.rg_net_grammar.specs.Contents.{Transition, Declared}
 use Rattle.rg_netfile.specs.declared.fault.NetFault.{NetFault}
 use Rattle.rg_netfile.specs.declared.fault.NetFault.TheVariants.{NoType, TwicePlace, TooManyPlaces, TwiceTransition, TransitionsDiffer, UnknownTransition, UnknownPlace, NumberPasses}
 

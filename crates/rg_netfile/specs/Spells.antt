@@ -3,11 +3,11 @@ use Rattle.std.specs.Prelude.{ℕ, List}
 use Rattle.rg_theory.specs.System.{System}
 use Rattle.rg_theory.specs.Net.{Net}
 use Rattle.rg_text.specs.Faults.{IsFirst, AreNone}
-use Rattle.rg_netitems.specs.Item.{Item}
-use Rattle.rg_netitems.specs.Contents.{declared}
-use Rattle.rg_netitems.specs.Text.{AreItemsOf, FirstItemFault}
-use Rattle.rg_items.specs.declared.fault.ItemFault.{ItemFault}
-use Rattle.rg_items.specs.declared.fault.ItemFault.TheVariants as item
+use Rattle.rg_net_grammar.specs.Item.{Item}
+use Rattle.rg_net_grammar.specs.Contents.{declared}
+use Rattle.rg_net_grammar.specs.Text.{AreItemsOf, FirstItemFault}
+use Rattle.rg_grammar.specs.declared.fault.ItemFault.{ItemFault}
+use Rattle.rg_grammar.specs.declared.fault.ItemFault.TheVariants as item
 use Rattle.rg_netfile.specs.declared.fault.NetFault.{NetFault}
 use Rattle.rg_netfile.specs.declared.fault.NetFault.TheVariants.{BadByte, OpenString, OpenComment, LongName, Expected, WrongType, NoMemory}
 use Rattle.rg_netfile.specs.Contents.{faults, IsNetOf}

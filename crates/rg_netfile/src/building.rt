@@ -2,10 +2,10 @@
 ghost use Rattle.std.specs.Prelude.{◌≡◌, ◌≢◌, ◌≤◌, ◌<◌, ◌⊎◌, [], ◌∷◌, ◌++◌, length, map, string_bytes, All, Contains, IfOk, IfErr, IsErrOf, OnOk};
 ghost use Rattle.rg_lexer.specs.Lexeme.{Lexeme};
 ghost use Rattle.rg_theory.specs.System.{labels};
-ghost use Rattle.rg_items.specs.Entry.{IsNameOf};
+ghost use Rattle.rg_grammar.specs.Entry.{IsNameOf};
 ghost use Rattle.rg_text.specs.Faults.{faults_after, IsFirst, AreNone};
-ghost use Rattle.rg_netitems.specs.Contents.{Transition};
-ghost use Rattle.rg_netitems.specs.FoundView.{places_in, transitions_in, found_in, IsTransitionOf, HoldsNames};
+ghost use Rattle.rg_net_grammar.specs.Contents.{Transition};
+ghost use Rattle.rg_net_grammar.specs.FoundView.{places_in, transitions_in, found_in, IsTransitionOf, HoldsNames};
 ghost use Rattle.rg_netfile.specs.Contents.{most_places, place_fault, transition_fault, name_faults, faults, IsNetOf};
 ghost use Rattle.rg_netfile.specs.Built.{AreApart, IsKnownOf, IsKnown};
 ghost use Rattle.rg_netfile.specs.declared.fault.NetFault.TheVariants as fault;
@@ -17,11 +17,11 @@ use crate::labels::label_numbers;
 use crate::names::{add, number_of, see};
 use crate::sums::Sums;
 use indexmap::IndexSet;
-use rg_items::name_of;
+use rg_grammar::name_of;
 use rg_lexer::Token;
 use rg_lts::Lts;
 use rg_net::Net;
-use rg_netitems::{Found, FoundTransition};
+use rg_net_grammar::{Found, FoundTransition};
 use std::alloc::Global;
 use std::collections::BTreeSet;
 

@@ -2,7 +2,7 @@
 ghost use Rattle.std.specs.Prelude.{◌≡◌};
 ghost use Rattle.rg_netfile.specs.declared.fault.NetFault.TheVariants as fault;
 
-use rg_items::ItemFault;
+use rg_grammar::ItemFault;
 use rg_lexer::Want;
 use std::alloc::{AllocError, AllocFailed};
 

@@ -1,7 +1,7 @@
 //! The numbers of a net, flow by flow and member by member.
 ghost use Rattle.std.specs.Prelude.{◌≡◌, ◌∷◌, [], ◌++◌, map, All, IfErr, OnOk};
 ghost use Rattle.std.specs.List.{flat_map};
-ghost use Rattle.rg_netitems.specs.FoundView.{member_in, members_in, flow_in, flows_in, found_in, IsMemberOf, IsFlowOf, HoldsNames};
+ghost use Rattle.rg_net_grammar.specs.FoundView.{member_in, members_in, flow_in, flows_in, found_in, IsMemberOf, IsFlowOf, HoldsNames};
 ghost use Rattle.rg_netfile.specs.Contents.{Cell, adds, steps_of_flow, steps};
 ghost use Rattle.rg_netfile.specs.Built.{IsSlotIn, IsSlotFor, SameSize, Fits, Passes, Stops};
 
@@ -10,8 +10,8 @@ use crate::known::Known;
 use crate::numbers::{count_of, member_at};
 use crate::slot::Slot;
 use crate::sums::Sums;
-use rg_items::name_of;
-use rg_netitems::{Found, FoundFlow, FoundMember};
+use rg_grammar::name_of;
+use rg_net_grammar::{Found, FoundFlow, FoundMember};
 
 // Adds a member to a number of its place.
 fn add_member(

@@ -2,15 +2,15 @@
 ghost use Rattle.std.specs.Prelude.{◌≡◌, ◌==◌, ◌≢◌, ◌<◌, length, All, Contains, Some, true, false, slice_get, IfOk, IfErr, IfSome, IfNone, OnOk};
 ghost use Rattle.std.specs.List.{list_all};
 ghost use Rattle.rg_theory.specs.System.{labels};
-ghost use Rattle.rg_netitems.specs.FoundView.{transition_in, transitions_in, IsTransitionOf};
+ghost use Rattle.rg_net_grammar.specs.FoundView.{transition_in, transitions_in, IsTransitionOf};
 ghost use Rattle.rg_netfile.specs.Contents.{have_each_once};
 ghost use Rattle.rg_netfile.specs.Built.{AreApart, AreNumbers, AreCounts};
 ghost use Rattle.rg_netfile.specs.declared.fault.NetFault.TheVariants as fault;
 
 use crate::fault::NetFault;
-use rg_items::{text_of, value_of};
+use rg_grammar::{text_of, value_of};
 use rg_lts::Lts;
-use rg_netitems::FoundTransition;
+use rg_net_grammar::FoundTransition;
 use std::alloc::Global;
 use std::str;
 

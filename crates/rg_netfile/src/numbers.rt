@@ -3,15 +3,15 @@ ghost use Rattle.std.specs.Prelude.{◌≡◌, ℕ, List, ◌<◌, ◌≤◌, Ma
 ghost use Rattle.std.specs.Str.Parse.{digits_value};
 ghost use Rattle.rg_lexer.specs.Lexeme.{lexeme};
 ghost use Rattle.rg_integers.specs.Range.{greatest};
-ghost use Rattle.rg_netitems.specs.FoundView.{IsNumberOf, IsMemberOf, member_in};
+ghost use Rattle.rg_net_grammar.specs.FoundView.{IsNumberOf, IsMemberOf, member_in};
 ghost use Rattle.rg_netfile.specs.Contents.{count_of, member_at};
 ghost use Rattle.rg_netfile.specs.declared.fault.NetFault.TheVariants as fault;
 
 use crate::fault::NetFault;
 use crate::sums::GREATEST_WEIGHT;
-use rg_items::name_of;
+use rg_grammar::name_of;
 use rg_lexer::Token;
-use rg_netitems::FoundMember;
+use rg_net_grammar::FoundMember;
 
 // The value of a number; None where it is over the greatest.
 fn value_of(bytes: &[u8], number: Token) -> Option<u128>

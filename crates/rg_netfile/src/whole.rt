@@ -8,7 +8,7 @@ use crate::building::build;
 use crate::fault::NetFault;
 use rg_lts::Lts;
 use rg_net::Net;
-use rg_netitems::read_items;
+use rg_net_grammar::read_items;
 use std::alloc::Global;
 
 /// The net that a text of at most 16,777,216 bytes spells for a system in the format of APT, or the text's

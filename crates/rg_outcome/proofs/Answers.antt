@@ -7,15 +7,15 @@ use Rattle.rg_theory.specs.Net.{Place}
 use Rattle.rg_theory.specs.declared.Class.{Class}
 use Rattle.rg_theory.specs.Tree.{IsTree}
 use Rattle.rg_theory.proofs.Trees.{same_tree}
-use Rattle.rg_refuting.specs.Refutes.{Reason.unreachable, Reason.fork}
+use Rattle.rg_cert_meaning.specs.Refutes.{Reason.unreachable, Reason.fork}
 use Rattle.rg_linear.specs.Dictionary.{column_set}
 use Rattle.rg_linear.specs.Descent.{WideAt}
 use Rattle.rg_linear.specs.Cycle.{CycleBasis, CycleOutcome.free_set, CycleOutcome.too_wide as walk_passes, CycleWalk}
 use Rattle.rg_linear.proofs.Cycles.{same_cycle}
 use Rattle.rg_linear.proofs.Bases.{kept_is_one, cycle_basis_is_one}
-use Rattle.rg_order_of_work.specs.Setting.{setting_at}
-use Rattle.rg_order_of_work.specs.Chords.{KeepsChords, chord_vectors, chord_system, IsBasis}
-use Rattle.rg_order_of_work.specs.Shown.{Stage, Shown, StandsAt, CycleShown}
+use Rattle.rg_case_folds.specs.Setting.{setting_at}
+use Rattle.rg_case_folds.specs.Chords.{KeepsChords, chord_vectors, chord_system, IsBasis}
+use Rattle.rg_case_folds.specs.Shown.{Stage, Shown, StandsAt, CycleShown}
 use Rattle.rg_outcome.specs.Solving.{ProblemComes}
 use Rattle.rg_outcome.specs.Coming.{Separation, Separation.places, Separation.unsolvable as of_problem, Separation.too_wide as of_term, AllComeTo}
 use Rattle.rg_outcome.specs.Outcome.{Answer, Answer.net, Answer.unsolvable, Answer.too_wide, Gives, Searched, Searched.a_cycle, Searched.all_problems, Out, Out.a_state, Out.a_fork, Out.a_search}

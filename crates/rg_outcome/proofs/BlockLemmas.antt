@@ -3,7 +3,7 @@ use Rattle.std.proofs.Common.{◌≡◌, ◌⊎◌, inl, inr, List, [], ◌∷�
 use Rattle.std.proofs.lemmas.List.Elements.{All-push}
 use Rattle.rg_theory.specs.System.{System, IsAllReachable}
 use Rattle.rg_theory.specs.Region.{IsRegion}
-use Rattle.rg_order_of_work.specs.Shown.{Shown}
+use Rattle.rg_case_folds.specs.Shown.{Shown}
 use Rattle.rg_theory.specs.Net.{Place}
 use Rattle.rg_theory.specs.declared.Problem.{Problem}
 use Rattle.rg_theory.specs.Problem.{ComesBefore, IsSeparatedBy}

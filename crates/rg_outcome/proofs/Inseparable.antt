@@ -12,19 +12,19 @@ use Rattle.rg_theory.specs.Problem.{IsProblem, IsInseparable}
 use Rattle.rg_theory.specs.Tree.{IsTree}
 use Rattle.rg_theory.proofs.Arcs.{arc_in_range}
 use Rattle.rg_theory.proofs.Lists.{slice_get_some}
-use Rattle.rg_refuting.specs.Row.{cases_of}
-use Rattle.rg_refuting.specs.Refutes.{Tree, IsSeparationProblem}
-use Rattle.rg_refuting.proofs.Making.{rows_exact}
+use Rattle.rg_cert_meaning.specs.Row.{cases_of}
+use Rattle.rg_cert_meaning.specs.Refutes.{Tree, IsSeparationProblem}
+use Rattle.rg_cert_meaning.proofs.Making.{rows_exact}
 use Rattle.rg_linear.specs.Branching.{SplitTree, Branching, BranchOutcome.tree}
 use Rattle.rg_linear.proofs.Splits.{tree_is_sound}
-use Rattle.rg_order_of_work.specs.Setting.{Setting, CaseSetting, case_at}
-use Rattle.rg_order_of_work.specs.Chords.{IsBasis}
-use Rattle.rg_order_of_work.specs.Shown.{Shown, IsLive}
-use Rattle.rg_order_of_work.specs.Rewriting.{CaseSystem, rows_of, system_fold}
-use Rattle.rg_order_of_work.specs.Meaning.{IsCaseOver}
-use Rattle.rg_order_of_work.specs.WholeParts.{HasWholePoint}
-use Rattle.rg_order_of_work.proofs.FormBounds.{forms_bounded}
-use Rattle.rg_order_of_work.proofs.WholePoints.{whole_points_exact}
+use Rattle.rg_case_folds.specs.Setting.{Setting, CaseSetting, case_at}
+use Rattle.rg_case_folds.specs.Chords.{IsBasis}
+use Rattle.rg_case_folds.specs.Shown.{Shown, IsLive}
+use Rattle.rg_case_folds.specs.Rewriting.{CaseSystem, rows_of, system_fold}
+use Rattle.rg_case_folds.specs.Meaning.{IsCaseOver}
+use Rattle.rg_case_folds.specs.WholeParts.{HasWholePoint}
+use Rattle.rg_case_folds.proofs.FormBounds.{forms_bounded}
+use Rattle.rg_case_folds.proofs.WholePoints.{whole_points_exact}
 use Rattle.rg_outcome.specs.Casing.{CaseResult, CaseResult.makes, CaseResult.refutes, CaseResult.passes, CaseComes, CaseComes.row_passes, CaseComes.pivot_passes, CaseComes.place_passes, CaseComes.place_is_made, CaseComes.leaf_passes, CaseComes.is_refuted}
 use Rattle.rg_outcome.specs.Solving.{Solved, Solved.placed, Solved.refuted, Solved.passed, CasesCome, CasesCome.first_place, CasesCome.all_refuted, CasesCome.first_term, ProblemComes}
 

@@ -7,32 +7,32 @@ use Rattle.rg_integers.specs.Sign.{size}
 use Rattle.rg_integers.specs.Sum.{number_at}
 use Rattle.rg_integers.proofs.Divisors.{gcd_below}
 use Rattle.rg_integers.specs.declared.term.Wide.{Wide}
-use Rattle.rg_refuting.specs.Expression.{Expression, coefficient_in}
-use Rattle.rg_refuting.specs.Row.{row_expression, Side}
-use Rattle.rg_refuting.specs.declared.RowName.{RowName}
-use Rattle.rg_refuting.specs.declared.Form.{Form as SplitForm}
-use Rattle.rg_splits.specs.Trees.{Tree.leaf, Tree.split, low_side, high_side}
-use Rattle.rg_refuting.specs.Refutes.{NamedRow, Tree}
+use Rattle.rg_cert_meaning.specs.Expression.{Expression, coefficient_in}
+use Rattle.rg_cert_meaning.specs.Row.{row_expression, Side}
+use Rattle.rg_cert_meaning.specs.declared.RowName.{RowName}
+use Rattle.rg_cert_meaning.specs.declared.Form.{Form as SplitForm}
+use Rattle.rg_branch_trees.specs.Trees.{Tree.leaf, Tree.split, low_side, high_side}
+use Rattle.rg_cert_meaning.specs.Refutes.{NamedRow, Tree}
 use Rattle.rg_linear.specs.Branching.{Form, Weight, form_at, SplitSide, SplitTree}
 use Rattle.rg_linear.specs.Cycle.{CycleBasis}
 use Rattle.rg_linear.proofs.Firsts.{kept_is}
-use Rattle.rg_order_of_work.specs.Setting.{CaseSetting}
-use Rattle.rg_order_of_work.specs.Fold.{gives, and_then, each, joined, whole, quotient, add, mul, whole_sum, whole_product}
-use Rattle.rg_order_of_work.specs.Rewriting.{dependent_labels, count_of, scaled_fold, Scaled, KeptRow, IsIdle, row_fold, names_of, CaseSystem, system_fold}
-use Rattle.rg_order_of_work.specs.Placing.{negated}
-use Rattle.rg_order_of_work.specs.Spreading.{Share, name_of, named_at, side_at, split_factor, factor_of, share_fold, Pair, pairs_of, pair_fold, used_chords, chord_fold}
-use Rattle.rg_order_of_work.specs.Spreading.{ArcTimes, arc_name, Addend, Addend.number, Addend.product, addend_fold, addends_at, tree_fold, named_from, parts_of}
-use Rattle.rg_order_of_work.specs.Spreading.{multiplier_among, not_zero, sizes_fold, variables_of, checked_leaf, chord_arcs, leaf_fold, spread_fold}
-use Rattle.rg_order_of_work.specs.Shown.{named_side, named_sides}
-use Rattle.rg_order_of_work.proofs.Lists.{first, behind}
-use Rattle.rg_order_of_work.proofs.Signs.{factor_is_positive}
-use Rattle.rg_order_of_work.proofs.SystemRows.{made_from}
+use Rattle.rg_case_folds.specs.Setting.{CaseSetting}
+use Rattle.rg_case_folds.specs.Fold.{gives, and_then, each, joined, whole, quotient, add, mul, whole_sum, whole_product}
+use Rattle.rg_case_folds.specs.Rewriting.{dependent_labels, count_of, scaled_fold, Scaled, KeptRow, IsIdle, row_fold, names_of, CaseSystem, system_fold}
+use Rattle.rg_case_folds.specs.Placing.{negated}
+use Rattle.rg_case_folds.specs.Spreading.{Share, name_of, named_at, side_at, split_factor, factor_of, share_fold, Pair, pairs_of, pair_fold, used_chords, chord_fold}
+use Rattle.rg_case_folds.specs.Spreading.{ArcTimes, arc_name, Addend, Addend.number, Addend.product, addend_fold, addends_at, tree_fold, named_from, parts_of}
+use Rattle.rg_case_folds.specs.Spreading.{multiplier_among, not_zero, sizes_fold, variables_of, checked_leaf, chord_arcs, leaf_fold, spread_fold}
+use Rattle.rg_case_folds.specs.Shown.{named_side, named_sides}
+use Rattle.rg_case_folds.proofs.Lists.{first, behind}
+use Rattle.rg_case_folds.proofs.Signs.{factor_is_positive}
+use Rattle.rg_case_folds.proofs.SystemRows.{made_from}
 use Rattle.rg_outcome.specs.Casing.{LeafWide, spread_tree}
 use Rattle.rg_outcome.proofs.Steps.{HasSome, Makes, Each, each_none, some_given, some_then, some_each, makes_each, Joins, some_joined, makes_joined, IsOver, whole_over, some_quotient, some_product, some_term, sums_join, product_over, IsAny}
 use Rattle.rg_outcome.proofs.SystemResults.{HaveRelations, each_append, some_scaled, quotients, divisor_divides}
 use Rattle.rg_outcome.proofs.PlaceResults.{each_mapped}
-use Rattle.rg_refuting.specs.declared.RowName.TheVariants as row_name
-use Rattle.rg_refuting.specs.declared.Form.TheVariants as split_form
+use Rattle.rg_cert_meaning.specs.declared.RowName.TheVariants as row_name
+use Rattle.rg_cert_meaning.specs.declared.Form.TheVariants as split_form
 
 -- ---- shares
 

@@ -9,18 +9,18 @@ use Rattle.rg_theory.specs.Problem.{IsProblem}
 use Rattle.rg_theory.specs.Region.{blocking}
 use Rattle.rg_theory.specs.Tree.{IsTree}
 use Rattle.rg_theory.proofs.Dead.{blocking_region, blocking_separates}
-use Rattle.rg_refuting.specs.Row.{cases_of}
-use Rattle.rg_refuting.specs.Refutes.{Tree}
+use Rattle.rg_cert_meaning.specs.Row.{cases_of}
+use Rattle.rg_cert_meaning.specs.Refutes.{Tree}
 use Rattle.rg_linear.specs.Branching.{SplitSide, node_system, Branching, BranchOutcome.found}
-use Rattle.rg_order_of_work.specs.Setting.{Setting, CaseSetting, case_at}
-use Rattle.rg_order_of_work.specs.Fold.{Ratio}
-use Rattle.rg_order_of_work.specs.Chords.{IsBasis}
-use Rattle.rg_order_of_work.specs.Shown.{Shown, PointOf, IsLive}
-use Rattle.rg_order_of_work.specs.Rewriting.{CaseSystem, rows_of, system_fold}
-use Rattle.rg_order_of_work.specs.Placing.{place_fold}
-use Rattle.rg_order_of_work.specs.Meaning.{IsCaseOver}
-use Rattle.rg_order_of_work.specs.Places.{tokens_of}
-use Rattle.rg_order_of_work.proofs.PlacePoints.{found_makes}
+use Rattle.rg_case_folds.specs.Setting.{Setting, CaseSetting, case_at}
+use Rattle.rg_case_folds.specs.Fold.{Ratio}
+use Rattle.rg_case_folds.specs.Chords.{IsBasis}
+use Rattle.rg_case_folds.specs.Shown.{Shown, PointOf, IsLive}
+use Rattle.rg_case_folds.specs.Rewriting.{CaseSystem, rows_of, system_fold}
+use Rattle.rg_case_folds.specs.Placing.{place_fold}
+use Rattle.rg_case_folds.specs.Meaning.{IsCaseOver}
+use Rattle.rg_case_folds.specs.Places.{tokens_of}
+use Rattle.rg_case_folds.proofs.PlacePoints.{found_makes}
 use Rattle.rg_outcome.specs.Casing.{CaseResult, CaseResult.makes, CaseResult.refutes, CaseResult.passes, CaseComes, CaseComes.row_passes, CaseComes.pivot_passes, CaseComes.place_passes, CaseComes.place_is_made, CaseComes.leaf_passes, CaseComes.is_refuted}
 use Rattle.rg_outcome.specs.Solving.{Solved, Solved.placed, Solved.refuted, Solved.passed, CasesCome, CasesCome.first_place, CasesCome.all_refuted, CasesCome.first_term, ProblemComes}
 use Rattle.rg_outcome.specs.Coming.{IsSeparatedIn, PlacesSeparate, RefutedStay}

@@ -15,8 +15,8 @@ use Rattle.rg_theory.specs.Problem.{IsProblem}
 use Rattle.rg_theory.specs.Tree.{IsTree}
 use Rattle.rg_theory.proofs.Lists.{find_any}
 use Rattle.rg_integers.proofs.Order.{positive_differs}
-use Rattle.rg_refuting.specs.Row.{cases_of}
-use Rattle.rg_refuting.specs.Refutes.{Tree}
+use Rattle.rg_cert_meaning.specs.Row.{cases_of}
+use Rattle.rg_cert_meaning.specs.Refutes.{Tree}
 use Rattle.rg_linear.specs.System.{LinearSystem}
 use Rattle.rg_linear.specs.Dictionary.{HasDictionary, column_set}
 use Rattle.rg_linear.specs.Descent as descent
@@ -27,19 +27,19 @@ use Rattle.rg_linear.proofs.Having.{columns_have}
 use Rattle.rg_linear.proofs.Widths.{descent_has}
 use Rattle.rg_linear.proofs.Splits.{found_well}
 use Rattle.rg_linear.proofs.Endings.{branching_ends}
-use Rattle.rg_order_of_work.specs.Setting.{Setting, case_at}
-use Rattle.rg_order_of_work.specs.Chords.{IsBasis}
-use Rattle.rg_order_of_work.specs.Fold.{Ratio, whole}
-use Rattle.rg_order_of_work.specs.Rewriting.{is_in, numbers_where, free_columns, has_start, column_count, CaseSystem, rows_of, system_fold}
-use Rattle.rg_order_of_work.specs.Placing.{ratio_at, place_fold}
-use Rattle.rg_order_of_work.specs.Meaning.{first_column, IsCaseOver}
-use Rattle.rg_order_of_work.specs.Shown.{Stage, Shown, IsValueAt, PointOf, named_sides}
-use Rattle.rg_order_of_work.proofs.ColumnValues.{columns_of_case}
-use Rattle.rg_order_of_work.proofs.ExactRows.{not_in}
-use Rattle.rg_order_of_work.proofs.Lists.{where_is}
-use Rattle.rg_order_of_work.proofs.PointEffects.{in_has}
-use Rattle.rg_order_of_work.proofs.FormBounds.{forms_bounded}
-use Rattle.rg_order_of_work.proofs.ColumnValues.{count_is}
+use Rattle.rg_case_folds.specs.Setting.{Setting, case_at}
+use Rattle.rg_case_folds.specs.Chords.{IsBasis}
+use Rattle.rg_case_folds.specs.Fold.{Ratio, whole}
+use Rattle.rg_case_folds.specs.Rewriting.{is_in, numbers_where, free_columns, has_start, column_count, CaseSystem, rows_of, system_fold}
+use Rattle.rg_case_folds.specs.Placing.{ratio_at, place_fold}
+use Rattle.rg_case_folds.specs.Meaning.{first_column, IsCaseOver}
+use Rattle.rg_case_folds.specs.Shown.{Stage, Shown, IsValueAt, PointOf, named_sides}
+use Rattle.rg_case_folds.proofs.ColumnValues.{columns_of_case}
+use Rattle.rg_case_folds.proofs.ExactRows.{not_in}
+use Rattle.rg_case_folds.proofs.Lists.{where_is}
+use Rattle.rg_case_folds.proofs.PointEffects.{in_has}
+use Rattle.rg_case_folds.proofs.FormBounds.{forms_bounded}
+use Rattle.rg_case_folds.proofs.ColumnValues.{count_is}
 use Rattle.rg_outcome.specs.Casing.{CaseResult, CaseResult.makes, CaseResult.refutes, CaseResult.passes, LeafWide, spread_tree, step_at, term_at, CaseComes, CaseComes.row_passes, CaseComes.pivot_passes, CaseComes.place_passes, CaseComes.place_is_made, CaseComes.leaf_passes, CaseComes.is_refuted}
 use Rattle.rg_outcome.specs.Solving.{Solved, Solved.placed, Solved.refuted, Solved.passed, CasesCome, CasesCome.first_place, CasesCome.all_refuted, CasesCome.first_term, ProblemComes}
 use Rattle.rg_outcome.specs.Coming.{HasResults}

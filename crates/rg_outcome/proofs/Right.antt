@@ -12,16 +12,16 @@ use Rattle.rg_theory.specs.Region.{IsRegionIn}
 use Rattle.rg_theory.specs.Tree.{IsTree}
 use Rattle.rg_theory.proofs.No.{no_from_unreachable, no_from_fork, no_from_inseparable}
 use Rattle.rg_theory.proofs.Leaving.{left_solves}
-use Rattle.rg_refuting.specs.Row.{cases_of}
-use Rattle.rg_refuting.specs.Refutes.{Tree}
+use Rattle.rg_cert_meaning.specs.Row.{cases_of}
+use Rattle.rg_cert_meaning.specs.Refutes.{Tree}
 use Rattle.rg_linear.specs.Cycle.{CycleBasis}
 use Rattle.rg_linear.specs.Branching.{Weight, SplitTree, SplitSide}
-use Rattle.rg_order_of_work.specs.Setting.{Setting, setting_at, case_at}
-use Rattle.rg_splits.specs.Trees.{Tree.leaf, Tree.split, low_side, high_side}
-use Rattle.rg_order_of_work.specs.Chords.{IsBasis}
-use Rattle.rg_order_of_work.specs.Rewriting.{CaseSystem, system_fold}
-use Rattle.rg_order_of_work.specs.Spreading.{spread_fold}
-use Rattle.rg_order_of_work.specs.Shown.{Shown, IsLive, StandsIn, CaseOf, HasLeaf, named_sides, ShownAt, ShownWide}
+use Rattle.rg_case_folds.specs.Setting.{Setting, setting_at, case_at}
+use Rattle.rg_branch_trees.specs.Trees.{Tree.leaf, Tree.split, low_side, high_side}
+use Rattle.rg_case_folds.specs.Chords.{IsBasis}
+use Rattle.rg_case_folds.specs.Rewriting.{CaseSystem, system_fold}
+use Rattle.rg_case_folds.specs.Spreading.{spread_fold}
+use Rattle.rg_case_folds.specs.Shown.{Shown, IsLive, StandsIn, CaseOf, HasLeaf, named_sides, ShownAt, ShownWide}
 use Rattle.rg_outcome.specs.Casing.{CaseResult, CaseResult.makes, CaseResult.refutes, CaseResult.passes, LeafWide, spread_tree, CaseComes, CaseComes.row_passes, CaseComes.pivot_passes, CaseComes.place_passes, CaseComes.place_is_made, CaseComes.leaf_passes, CaseComes.is_refuted}
 use Rattle.rg_outcome.specs.Solving.{Solved, Solved.placed, Solved.refuted, Solved.passed, CasesCome, CasesCome.first_place, CasesCome.all_refuted, CasesCome.first_term, ProblemComes}
 use Rattle.rg_outcome.specs.Coming.{Separation, Separation.places, Separation.unsolvable as of_problem, Separation.too_wide as of_term, IsMade, Says}

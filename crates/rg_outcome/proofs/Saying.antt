@@ -5,8 +5,8 @@ use Rattle.rg_theory.specs.System.{System}
 use Rattle.rg_theory.specs.Net.{Place}
 use Rattle.rg_theory.specs.declared.Problem.{Problem}
 use Rattle.rg_theory.specs.Problem.{ComesBefore}
-use Rattle.rg_refuting.specs.Refutes.{Tree}
-use Rattle.rg_order_of_work.specs.Shown.{Shown}
+use Rattle.rg_cert_meaning.specs.Refutes.{Tree}
+use Rattle.rg_case_folds.specs.Shown.{Shown}
 use Rattle.rg_outcome.specs.Solving.{Solved, Solved.placed, Solved.refuted, Solved.passed}
 use Rattle.rg_outcome.specs.Coming.{Separation, IsSeparated, IsLeft, IsBehind, IsNext, ComesFrom, ComesFrom.keeps, ComesFrom.goes_on, ComesFrom.ends, ComesFrom.all_separated, ComesFrom.one_is_left, AllComeTo, IsOneResult, RefutedStay, IsRefutedIn, IsMade, Says}
 use Rattle.rg_outcome.proofs.Ordering.{cases_order}

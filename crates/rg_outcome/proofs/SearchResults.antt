@@ -13,14 +13,14 @@ use Rattle.rg_theory.specs.Problem.{IsProblem, SeparateAll}
 use Rattle.rg_theory.specs.Region.{IsRegion}
 use Rattle.rg_theory.specs.Tree.{IsTree}
 use Rattle.rg_theory.specs.Pruned.{LeavesBehind}
-use Rattle.rg_refuting.specs.Refutes.{Reason.refuted as refuted_reason}
+use Rattle.rg_cert_meaning.specs.Refutes.{Reason.refuted as refuted_reason}
 use Rattle.rg_linear.specs.Dictionary.{Relation, DictionaryRow, HasDictionary, numbers_from}
 use Rattle.rg_linear.specs.Descent.{WideAt}
 use Rattle.rg_linear.specs.Cycle.{IsZeroVector, vector_at, KeepsVectors, vector_system, CycleOutcome, CycleOutcome.free_set, CycleOutcome.too_wide as walk_passes, CycleWalk, CycleBasis, no_relation, IsCycleBasis}
 use Rattle.rg_linear.proofs.Cycles.{cycle_ends, cycle_set_knows}
-use Rattle.rg_order_of_work.specs.Setting.{setting_at}
-use Rattle.rg_order_of_work.specs.Chords.{chord_vectors, chord_system, IsBasis}
-use Rattle.rg_order_of_work.specs.Shown.{Stage, Shown}
+use Rattle.rg_case_folds.specs.Setting.{setting_at}
+use Rattle.rg_case_folds.specs.Chords.{chord_vectors, chord_system, IsBasis}
+use Rattle.rg_case_folds.specs.Shown.{Stage, Shown}
 use Rattle.rg_outcome.specs.Solving.{ProblemComes}
 use Rattle.rg_outcome.specs.Coming.{Separation, Separation.places, Separation.unsolvable as of_problem, Separation.too_wide as of_term, IsSeparated, IsLeft, IsFirstProblem}
 use Rattle.rg_outcome.specs.Outcome.{Answer, Answer.net, Answer.unsolvable, Answer.too_wide, Searched, Searched.a_cycle, Searched.all_problems, Out, Out.a_search, IsSearchRight}

@@ -7,11 +7,11 @@ use Rattle.std.specs.Prelude.{slice_get, Some}
 use Rattle.rg_theory.specs.Net.{Place}
 use Rattle.rg_theory.specs.declared.Problem.TheVariants.{Event, States}
 use Rattle.rg_theory.proofs.Lists.{slice_get_some}
-use Rattle.rg_refuting.specs.Row.{cases_of}
-use Rattle.rg_refuting.specs.Refutes.{Tree}
-use Rattle.rg_order_of_work.specs.Setting.{Setting, case_at}
-use Rattle.rg_splits.specs.Trees.{Tree.leaf}
-use Rattle.rg_order_of_work.specs.Shown.{Shown}
+use Rattle.rg_cert_meaning.specs.Row.{cases_of}
+use Rattle.rg_cert_meaning.specs.Refutes.{Tree}
+use Rattle.rg_case_folds.specs.Setting.{Setting, case_at}
+use Rattle.rg_branch_trees.specs.Trees.{Tree.leaf}
+use Rattle.rg_case_folds.specs.Shown.{Shown}
 use Rattle.rg_outcome.specs.Casing.{CaseResult, CaseResult.makes, CaseResult.refutes, CaseResult.passes, CaseComes}
 use Rattle.rg_outcome.specs.Solving.{Solved, Solved.placed, Solved.refuted, Solved.passed, CasesCome, CasesCome.first_place, CasesCome.all_refuted, CasesCome.first_term, ProblemComes}
 use Rattle.rg_outcome.specs.Coming.{IsOneResult}

@@ -16,22 +16,22 @@ use Rattle.rg_integers.specs.Sum.{number_at}
 use Rattle.rg_integers.proofs.Divisors.{exact, gcd_below}
 use Rattle.rg_integers.proofs.Order.{positive_differs}
 use Rattle.rg_fraction.specs.Rows.{IsRowGcd}
-use Rattle.rg_refuting.specs.Expression.{Term, Expression, plus}
-use Rattle.rg_refuting.specs.Row.{row_expression, form_variable, step_of}
-use Rattle.rg_refuting.specs.declared.RowName.{RowName}
-use Rattle.rg_refuting.specs.declared.Form.{Form as SplitForm}
+use Rattle.rg_cert_meaning.specs.Expression.{Term, Expression, plus}
+use Rattle.rg_cert_meaning.specs.Row.{row_expression, form_variable, step_of}
+use Rattle.rg_cert_meaning.specs.declared.RowName.{RowName}
+use Rattle.rg_cert_meaning.specs.declared.Form.{Form as SplitForm}
 use Rattle.rg_linear.specs.System.{LinearRow}
 use Rattle.rg_linear.specs.Branching.{Form}
 use Rattle.rg_linear.specs.Cycle.{CycleBasis, IsZeroVector}
-use Rattle.rg_linear.specs.Firsts.{KeepsFirsts}
-use Rattle.rg_order_of_work.specs.Setting.{Setting, CaseSetting}
-use Rattle.rg_order_of_work.specs.Chords.{IsBasis}
-use Rattle.rg_order_of_work.specs.Fold.{gives, and_then, each, Ratio, whole, quotient, add, mul, multiple_of_all}
-use Rattle.rg_order_of_work.specs.Rewriting.{is_in, has_label, free_labels, dependent_labels, dependent_term, coefficient_fold, substitute_fold, has_start, pick}
-use Rattle.rg_order_of_work.specs.Rewriting.{columns_of, column_count, Scaled, scaled_fold, terms_fold, KeptRow, divided, row_fold, names_of, IsIdle, split_forms}
-use Rattle.rg_order_of_work.specs.Rewriting.{form_low, form_high, form_fold, kept_of, system_fold, count_of, start_of}
-use Rattle.rg_order_of_work.proofs.Lists.{first, behind, where_is}
-use Rattle.rg_order_of_work.proofs.ExactRows.{not_in}
+use Rattle.rg_linear.specs.Firsts.{KeepsEqualRows}
+use Rattle.rg_case_folds.specs.Setting.{Setting, CaseSetting}
+use Rattle.rg_case_folds.specs.Chords.{IsBasis}
+use Rattle.rg_case_folds.specs.Fold.{gives, and_then, each, Ratio, whole, quotient, add, mul, multiple_of_all}
+use Rattle.rg_case_folds.specs.Rewriting.{is_in, has_label, free_labels, dependent_labels, dependent_term, coefficient_fold, substitute_fold, has_start, pick}
+use Rattle.rg_case_folds.specs.Rewriting.{columns_of, column_count, Scaled, scaled_fold, terms_fold, KeptRow, divided, row_fold, names_of, IsIdle, split_forms}
+use Rattle.rg_case_folds.specs.Rewriting.{form_low, form_high, form_fold, kept_of, system_fold, count_of, start_of}
+use Rattle.rg_case_folds.proofs.Lists.{first, behind, where_is}
+use Rattle.rg_case_folds.proofs.ExactRows.{not_in}
 use Rattle.rg_outcome.proofs.Steps.{HasSome, Makes, Each, each_none, each_cons, some_given, some_then, makes_then, some_each, makes_each, some_further, makes_further, IsOver, whole_over, some_ratio, some_quotient, some_product, sums_join, product_over, some_multiple}
 
 -- each label that isn't free has a relation
@@ -208,12 +208,12 @@ idle k = by (all_zero k.row.coeffs) k.row.constant refl
     by (inl zeros) (negsuc n) e = inr (λ (_, least). (let least' : pos 0 ≤ℤ negsuc n = subst (λ c. pos 0 ≤ℤ c) e least in omega (arith, ints)))
     by (inr some) c e = inr (λ (zeros, _). some zeros)
 
-pub some_firsts : {X K : Type 0} (key : X → K) (Drops : X → Type 0) → ((x : X) → Drops x ⊎ ¬ Drops x) → ((a b : K) → (a ≡ b) ⊎ ¬ (a ≡ b)) → (seen : List K) (xs : List X) → (kept : List X) × KeepsFirsts key Drops seen xs kept
+pub some_firsts : {X K : Type 0} (key : X → K) (Drops : X → Type 0) → ((x : X) → Drops x ⊎ ¬ Drops x) → ((a b : K) → (a ≡ b) ⊎ ¬ (a ≡ b)) → (seen : List K) (xs : List X) → (kept : List X) × KeepsEqualRows key Drops seen xs kept
 some_firsts key Drops drops same seen [] = ([], refl)
 some_firsts {X} {K} key Drops drops same seen (x ∷ xs) = by (drops x) (among same seen (key x)) (some_firsts key Drops drops same seen xs) (some_firsts key Drops drops same (key x ∷ seen) xs)
   where
-    by : Drops x ⊎ ¬ Drops x → Contains seen (key x) ⊎ ¬ Contains seen (key x) → (kept : List X) × KeepsFirsts key Drops seen xs kept → (kept : List X) × KeepsFirsts key Drops (key x ∷ seen) xs kept
-        → (kept : List X) × KeepsFirsts key Drops seen (x ∷ xs) kept
+    by : Drops x ⊎ ¬ Drops x → Contains seen (key x) ⊎ ¬ Contains seen (key x) → (kept : List X) × KeepsEqualRows key Drops seen xs kept → (kept : List X) × KeepsEqualRows key Drops (key x ∷ seen) xs kept
+        → (kept : List X) × KeepsEqualRows key Drops seen (x ∷ xs) kept
     by (inl dropped) _ (kept, keeps) _ = (kept, inl (inl dropped, keeps))
     by (inr stays) (inl has) (kept, keeps) _ = (kept, inl (inr has, keeps))
     by (inr stays) (inr lacks) _ (kept, keeps) = (x ∷ kept, inr (stays, lacks, (kept, refl, keeps)))

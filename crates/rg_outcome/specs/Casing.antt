@@ -2,18 +2,18 @@
 use Rattle.std.specs.Prelude.{◌≡◌, ◌⊎◌, ℕ, List, [], ◌∷◌, ◌++◌, Some, Result, Ok, Err}
 use Rattle.rg_theory.specs.Net.{Place}
 use Rattle.rg_theory.specs.declared.Problem.{Problem}
-use Rattle.rg_refuting.specs.Row.{Side}
-use Rattle.rg_splits.specs.Trees.{Tree.leaf, Tree.split, low_side, high_side}
-use Rattle.rg_refuting.specs.Refutes.{NamedRow, Tree}
+use Rattle.rg_cert_meaning.specs.Row.{Side}
+use Rattle.rg_branch_trees.specs.Trees.{Tree.leaf, Tree.split, low_side, high_side}
+use Rattle.rg_cert_meaning.specs.Refutes.{NamedRow, Tree}
 use Rattle.rg_integers.specs.declared.term.Wide.{Wide}
 use Rattle.rg_linear.specs.Descent.{WideAt}
 use Rattle.rg_linear.specs.Branching.{SplitTree, SplitSide, node_system, Branching, BranchOutcome.found, BranchOutcome.tree, BranchOutcome.stopped}
-use Rattle.rg_order_of_work.specs.Setting.{CaseSetting}
-use Rattle.rg_order_of_work.specs.Fold.{Ratio}
-use Rattle.rg_order_of_work.specs.Rewriting.{CaseSystem, rows_of, system_fold}
-use Rattle.rg_order_of_work.specs.Placing.{place_fold}
-use Rattle.rg_order_of_work.specs.Spreading.{spread_fold}
-use Rattle.rg_order_of_work.specs.Shown.{Stage, Shown, PointOf, named_side, named_sides}
+use Rattle.rg_case_folds.specs.Setting.{CaseSetting}
+use Rattle.rg_case_folds.specs.Fold.{Ratio}
+use Rattle.rg_case_folds.specs.Rewriting.{CaseSystem, rows_of, system_fold}
+use Rattle.rg_case_folds.specs.Placing.{place_fold}
+use Rattle.rg_case_folds.specs.Spreading.{spread_fold}
+use Rattle.rg_case_folds.specs.Shown.{Stage, Shown, PointOf, named_side, named_sides}
 
 -- a place, a tree that refutes the case, or the first term out of range
 pub data CaseResult : Type 0 where

@@ -9,12 +9,12 @@ use Rattle.rg_theory.specs.Region.{IsRegionIn}
 use Rattle.rg_theory.specs.Problem.{IsProblem, SeparateAll, IsInseparable}
 use Rattle.rg_theory.specs.Solves.{Solves}
 use Rattle.rg_theory.specs.Tree.{IsTree}
-use Rattle.rg_refuting.specs.Refutes.{Reason, Reason.unreachable, Reason.fork, Reason.refuted}
+use Rattle.rg_cert_meaning.specs.Refutes.{Reason, Reason.unreachable, Reason.fork, Reason.refuted}
 use Rattle.rg_theory.specs.Pruned.{IsPruned}
 use Rattle.rg_linear.specs.Cycle.{CycleBasis}
-use Rattle.rg_order_of_work.specs.Setting.{setting_at}
-use Rattle.rg_order_of_work.specs.Chords.{IsBasis}
-use Rattle.rg_order_of_work.specs.Shown.{Stage, Shown, CycleShown, ShownWide}
+use Rattle.rg_case_folds.specs.Setting.{setting_at}
+use Rattle.rg_case_folds.specs.Chords.{IsBasis}
+use Rattle.rg_case_folds.specs.Shown.{Stage, Shown, CycleShown, ShownWide}
 use Rattle.rg_outcome.specs.Solving.{ProblemComes}
 use Rattle.rg_outcome.specs.Coming.{Separation, Separation.places, Separation.unsolvable as of_problem, Separation.too_wide as of_term, AllComeTo}
 

@@ -5,10 +5,10 @@ use Rattle.rg_theory.specs.Net.{Place}
 use Rattle.rg_theory.specs.Region.{blocking}
 use Rattle.rg_theory.specs.declared.Problem.{Problem}
 use Rattle.rg_theory.specs.declared.Problem.TheVariants.{Event, States}
-use Rattle.rg_refuting.specs.Row.{cases_of}
-use Rattle.rg_refuting.specs.Refutes.{Tree}
-use Rattle.rg_order_of_work.specs.Setting.{Setting, case_at}
-use Rattle.rg_order_of_work.specs.Shown.{Shown}
+use Rattle.rg_cert_meaning.specs.Row.{cases_of}
+use Rattle.rg_cert_meaning.specs.Refutes.{Tree}
+use Rattle.rg_case_folds.specs.Setting.{Setting, case_at}
+use Rattle.rg_case_folds.specs.Shown.{Shown}
 use Rattle.rg_outcome.specs.Casing.{CaseResult, CaseResult.makes, CaseResult.refutes, CaseResult.passes, CaseComes}
 
 -- a place, a tree for each case, or the term out of range that is shown

@@ -11,15 +11,15 @@ use Rattle.rg_theory.proofs.Trees.{tree_arcs}
 use Rattle.rg_integers.specs.declared.term.Wide.{Wide}
 use Rattle.rg_fraction.specs.declared.fraction.Fraction.{Fraction}
 use Rattle.rg_fraction.specs.Fractions.{numerator_of, denominator_of, IsSum}
-use Rattle.rg_order_of_work.specs.Fold.{Ratio, whole, add, ratio_of, shown_result}
-use Rattle.rg_order_of_work.proofs.FoldLemmas.{add_step}
-use Rattle.rg_order_of_work.specs.Rewriting.{all_numbers}
-use Rattle.rg_order_of_work.specs.Placing.{along_tree, ratio_at}
+use Rattle.rg_case_folds.specs.Fold.{Ratio, whole, add, ratio_of, shown_result}
+use Rattle.rg_case_folds.proofs.FoldLemmas.{add_step}
+use Rattle.rg_case_folds.specs.Rewriting.{all_numbers}
+use Rattle.rg_case_folds.specs.Placing.{along_tree, ratio_at}
 use Rattle.rg_places.specs.PointValues.{ratios_of}
 use Rattle.rg_places.specs.Steps.{IsAlongTree}
 use Rattle.rg_places.proofs.FractionSteps.{ratio_there}
 use Rattle.rg_places.proofs.FoldSteps.{left_at}
-use Rattle.rg_order_of_work.proofs.Found.{all_at, all_length}
+use Rattle.rg_case_folds.proofs.Found.{all_at, all_length}
 
 -- an arc of the tree names states and a label
 pub tree_arc_in_range : (lts : System) (tree : List Arc) (i : ℕ) (d : Arc) → IsInRange lts → IsTree lts tree → i < length tree → IsArcInRange lts (slice_index_or tree i d)

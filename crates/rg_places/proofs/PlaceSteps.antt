@@ -8,17 +8,17 @@ use Rattle.rg_theory.specs.System.{System, states, labels}
 use Rattle.rg_theory.specs.Net.{Place}
 use Rattle.rg_integers.specs.declared.term.Wide.{Wide}
 use Rattle.rg_linear.specs.Cycle.{CycleBasis}
-use Rattle.rg_order_of_work.specs.Setting.{Setting}
-use Rattle.rg_order_of_work.specs.Fold.{gives, and_then, either, each, IsOne, Ratio, whole, add, mul, multiple_of_all}
-use Rattle.rg_order_of_work.proofs.FoldLemmas.{and_then_one, each_one}
-use Rattle.rg_order_of_work.proofs.OneResult.{effect_one, whole_one, along_one, shift_one}
-use Rattle.rg_order_of_work.specs.Rewriting.{all_numbers}
-use Rattle.rg_order_of_work.specs.Placing.{effect_fold, negated, made_whole, ratio_at, along_tree, least_of, is_shifted, is_lifted, missing, shift_fold, top_at, taken, place_fold}
-use Rattle.rg_order_of_work.specs.Places.{numbers_fold}
+use Rattle.rg_case_folds.specs.Setting.{Setting}
+use Rattle.rg_case_folds.specs.Fold.{gives, and_then, either, each, IsOne, Ratio, whole, add, mul, multiple_of_all}
+use Rattle.rg_case_folds.proofs.FoldLemmas.{and_then_one, each_one}
+use Rattle.rg_case_folds.proofs.OneResult.{effect_one, whole_one, along_one, shift_one}
+use Rattle.rg_case_folds.specs.Rewriting.{all_numbers}
+use Rattle.rg_case_folds.specs.Placing.{effect_fold, negated, made_whole, ratio_at, along_tree, least_of, is_shifted, is_lifted, missing, shift_fold, top_at, taken, place_fold}
+use Rattle.rg_case_folds.specs.Places.{numbers_fold}
 use Rattle.rg_places.specs.Steps.{IsAlongTree, found_fold, weights_fold}
-use Rattle.rg_order_of_work.proofs.Items.{each_length}
-use Rattle.rg_order_of_work.proofs.PlaceWeights.{taken_length, given_length}
-use Rattle.rg_order_of_work.proofs.Found.{all_length, TimesMarking}
+use Rattle.rg_case_folds.proofs.Items.{each_length}
+use Rattle.rg_case_folds.proofs.PlaceWeights.{taken_length, given_length}
+use Rattle.rg_case_folds.proofs.Found.{all_length, TimesMarking}
 
 -- ---- answers
 

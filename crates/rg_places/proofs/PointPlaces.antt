@@ -12,15 +12,15 @@ use Rattle.rg_integers.specs.Value.{SameValue}
 use Rattle.rg_linear.specs.System.{LinearSystem}
 use Rattle.rg_linear.specs.Cycle.{CycleBasis}
 use Rattle.rg_linear.proofs.Members.{IsInOrder}
-use Rattle.rg_order_of_work.specs.Fold.{Ratio, whole, ratio_of}
-use Rattle.rg_order_of_work.specs.Rewriting.{free_columns, has_start, column_count}
-use Rattle.rg_order_of_work.proofs.ColumnValues.{count_is}
-use Rattle.rg_order_of_work.specs.Placing.{ratio_at}
-use Rattle.rg_order_of_work.specs.Shown.{IsValueAt, PointOf}
-use Rattle.rg_order_of_work.specs.Meaning.{first_column}
+use Rattle.rg_case_folds.specs.Fold.{Ratio, whole, ratio_of}
+use Rattle.rg_case_folds.specs.Rewriting.{free_columns, has_start, column_count}
+use Rattle.rg_case_folds.proofs.ColumnValues.{count_is}
+use Rattle.rg_case_folds.specs.Placing.{ratio_at}
+use Rattle.rg_case_folds.specs.Shown.{IsValueAt, PointOf}
+use Rattle.rg_case_folds.specs.Meaning.{first_column}
 use Rattle.rg_cycles.proofs.Labels.{where_order}
-use Rattle.rg_order_of_work.specs.Places.{IsReduced, AreAtPoint}
-use Rattle.rg_order_of_work.proofs.Overs.{whole_reduced}
+use Rattle.rg_case_folds.specs.Places.{IsReduced, AreAtPoint}
+use Rattle.rg_case_folds.proofs.Overs.{whole_reduced}
 use Rattle.rg_places.specs.PointValues.{ratios_of, ratio_beside, point_start, point_value, HasValues}
 use Rattle.rg_places.specs.Steps.{value_by, AreFreeColumns}
 use Rattle.rg_places.specs.declared.columns.Column.{Column}

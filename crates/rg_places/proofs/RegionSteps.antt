@@ -10,17 +10,17 @@ use Rattle.rg_theory.specs.Problem.{Separates}
 use Rattle.rg_fraction.specs.declared.fraction.Fraction.{Fraction}
 use Rattle.rg_integers.specs.Range.{greatest}
 use Rattle.rg_net.specs.Shown.{shown_place}
-use Rattle.rg_order_of_work.specs.Setting.{Setting, case_at}
-use Rattle.rg_order_of_work.specs.Fold.{Ratio}
-use Rattle.rg_order_of_work.specs.Rewriting.{column_count}
-use Rattle.rg_order_of_work.specs.Placing.{place_fold}
-use Rattle.rg_order_of_work.specs.Shown.{IsLive}
-use Rattle.rg_order_of_work.proofs.FoldLemmas.{ok_is}
-use Rattle.rg_order_of_work.specs.Places.{numbers_fold, tokens_of, PlaceIsMade}
+use Rattle.rg_case_folds.specs.Setting.{Setting, case_at}
+use Rattle.rg_case_folds.specs.Fold.{Ratio}
+use Rattle.rg_case_folds.specs.Rewriting.{column_count}
+use Rattle.rg_case_folds.specs.Placing.{place_fold}
+use Rattle.rg_case_folds.specs.Shown.{IsLive}
+use Rattle.rg_case_folds.proofs.FoldLemmas.{ok_is}
+use Rattle.rg_case_folds.specs.Places.{numbers_fold, tokens_of, PlaceIsMade}
 use Rattle.rg_places.specs.PointValues.{point_start, point_value, SolvesCase}
 use Rattle.rg_places.specs.RegionPlaces.{region_tokens, IsRegionPlace, PlaceSeparates}
 use Rattle.rg_marks.specs.declared.region_place.RegionPlace.{RegionPlace}
-use Rattle.rg_order_of_work.proofs.PlacePoints.{point_makes}
+use Rattle.rg_case_folds.proofs.PlacePoints.{point_makes}
 use Rattle.rg_places.proofs.PointPlaces.{at_point}
 use Rattle.rg_places.proofs.PlaceSteps.{numbers_one, weights_of_all}
 

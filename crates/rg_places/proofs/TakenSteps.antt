@@ -10,13 +10,13 @@ use Rattle.rg_theory.specs.declared.Problem.TheVariants.{Event, States}
 use Rattle.rg_integers.specs.Range.{InRange}
 use Rattle.rg_fraction.specs.declared.fraction.Fraction.{Fraction}
 use Rattle.rg_fraction.specs.Fractions.{numerator_of}
-use Rattle.rg_order_of_work.specs.Fold.{Ratio}
-use Rattle.rg_order_of_work.specs.Rewriting.{all_numbers}
-use Rattle.rg_order_of_work.specs.Placing.{top_at, taken_by_effect, taken}
+use Rattle.rg_case_folds.specs.Fold.{Ratio}
+use Rattle.rg_case_folds.specs.Rewriting.{all_numbers}
+use Rattle.rg_case_folds.specs.Placing.{top_at, taken_by_effect, taken}
 use Rattle.rg_places.specs.PointValues.{ratios_of}
 use Rattle.rg_places.specs.Steps.{taken_to_stop}
 use Rattle.rg_places.proofs.FractionSteps.{top_there}
-use Rattle.rg_order_of_work.proofs.PlaceWeights.{taken_fits, taken_at, taken_length}
+use Rattle.rg_case_folds.proofs.PlaceWeights.{taken_fits, taken_at, taken_length}
 
 abbrev by_effects : List Fraction → List ℤ
 by_effects effects = map (λ e. taken_by_effect (numerator_of e)) effects

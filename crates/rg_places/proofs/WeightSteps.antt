@@ -11,13 +11,13 @@ use Rattle.rg_integers.specs.Sum.{number_at}
 use Rattle.rg_integers.specs.declared.term.Wide.{Wide}
 use Rattle.rg_fraction.specs.declared.fraction.Fraction.{Fraction}
 use Rattle.rg_fraction.specs.Fractions.{numerator_of}
-use Rattle.rg_order_of_work.specs.Fold.{Ratio, each, whole_sum, ratio_of}
-use Rattle.rg_order_of_work.specs.Rewriting.{all_numbers}
-use Rattle.rg_order_of_work.specs.Placing.{top_at, taken, place_of}
+use Rattle.rg_case_folds.specs.Fold.{Ratio, each, whole_sum, ratio_of}
+use Rattle.rg_case_folds.specs.Rewriting.{all_numbers}
+use Rattle.rg_case_folds.specs.Placing.{top_at, taken, place_of}
 use Rattle.rg_places.specs.PointValues.{ratios_of}
 use Rattle.rg_places.specs.Steps.{weights_fold}
-use Rattle.rg_order_of_work.proofs.PlaceWeights.{taken_at, taken_length}
-use Rattle.rg_order_of_work.proofs.Found.{all_at, all_length}
+use Rattle.rg_case_folds.proofs.PlaceWeights.{taken_at, taken_length}
+use Rattle.rg_case_folds.proofs.Found.{all_at, all_length}
 
 -- where each item's results are those of another making, so are the list's
 each_same : {A X : Type 0} (make other : A → Result X Wide → Type 0) (items : List A) → ((i : ℕ) (a : A) → i < length items → a ≡ slice_index_or items i a → (r : Result X Wide) → make a r → other a r) → (r : Result (List X) Wide) → each make items r → each other items r

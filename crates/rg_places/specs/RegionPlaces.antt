@@ -5,13 +5,13 @@ use Rattle.rg_theory.specs.declared.Class.{Class}
 use Rattle.rg_theory.specs.Region.{RegionIn}
 use Rattle.rg_theory.specs.declared.Problem.{Problem}
 use Rattle.rg_theory.specs.Problem.{Separates}
-use Rattle.rg_order_of_work.specs.Setting.{Setting}
-use Rattle.rg_order_of_work.specs.Fold.{Ratio}
+use Rattle.rg_case_folds.specs.Setting.{Setting}
+use Rattle.rg_case_folds.specs.Fold.{Ratio}
 use Rattle.rg_net.specs.Range.{IsPlaceInRange}
 use Rattle.rg_integers.specs.Range.{greatest}
 use Rattle.rg_net.specs.Shown.{shown_place}
 use Rattle.rg_marks.specs.declared.region_place.RegionPlace.{RegionPlace}
-use Rattle.rg_order_of_work.specs.Places.{numbers_fold}
+use Rattle.rg_case_folds.specs.Places.{numbers_fold}
 
 -- the tokens of the place at state s
 abbrev pub region_tokens : RegionPlace → ℕ → ℕ

@@ -1,7 +1,7 @@
 //! The columns that are effects of labels.
 ghost use Rattle.std.specs.Prelude.{◌≡◌, length, map, IfOk};
 ghost use Rattle.rg_theory.specs.System.{labels};
-ghost use Rattle.rg_order_of_work.specs.Rewriting.{free_columns};
+ghost use Rattle.rg_case_folds.specs.Rewriting.{free_columns};
 ghost use Rattle.rg_cycles.specs.View.{labels_of, cycle_of};
 ghost use Rattle.rg_case_parts.specs.ColumnViews.{TellsUsedLabels};
 ghost use Rattle.rg_places.specs.Steps.{AreFreeColumns};

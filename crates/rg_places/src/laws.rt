@@ -5,13 +5,13 @@ ghost use Rattle.std.specs.Prelude.{ℕ, List, Ok, ℤ};
 ghost use Rattle.rg_theory.specs.Net.{Place};
 ghost use Rattle.rg_linear.specs.System.{IsPoint, MeetsRows};
 ghost use Rattle.rg_linear.specs.Branching.{SplitSide, BranchOutcome, node_system, Branching, FormsWhole};
-ghost use Rattle.rg_order_of_work.specs.Setting.{Setting, CaseSetting};
-ghost use Rattle.rg_order_of_work.specs.Fold.{IsOne, Ratio};
-ghost use Rattle.rg_order_of_work.specs.Shown.{IsLive, PointOf};
-ghost use Rattle.rg_order_of_work.specs.Rewriting.{CaseSystem, rows_of};
-ghost use Rattle.rg_order_of_work.specs.Placing.{place_fold};
-ghost use Rattle.rg_order_of_work.specs.Meaning.{IsCaseOver, AreEffects, MeetsCase};
-ghost use Rattle.rg_order_of_work.specs.Places.{AreFormsWhole, AreValuesOf, AreAtPoint, numbers_fold, PlaceIsMade};
+ghost use Rattle.rg_case_folds.specs.Setting.{Setting, CaseSetting};
+ghost use Rattle.rg_case_folds.specs.Fold.{IsOne, Ratio};
+ghost use Rattle.rg_case_folds.specs.Shown.{IsLive, PointOf};
+ghost use Rattle.rg_case_folds.specs.Rewriting.{CaseSystem, rows_of};
+ghost use Rattle.rg_case_folds.specs.Placing.{place_fold};
+ghost use Rattle.rg_case_folds.specs.Meaning.{IsCaseOver, AreEffects, MeetsCase};
+ghost use Rattle.rg_case_folds.specs.Places.{AreFormsWhole, AreValuesOf, AreAtPoint, numbers_fold, PlaceIsMade};
 
 use rg_theory::Problem;
 

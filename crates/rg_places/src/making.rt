@@ -1,14 +1,14 @@
 //! From a point to its place.
 ghost use Rattle.std.specs.Prelude.{◌≡◌, ℕ, ◌+◌, ◌<◌, length, map, drop, unsigned_abs, IfOk, IsTrue};
-ghost use Rattle.rg_refuting.specs.Refutes.{IsSeparationProblem};
+ghost use Rattle.rg_cert_meaning.specs.Refutes.{IsSeparationProblem};
 ghost use Rattle.rg_theory.specs.System.{states, labels};
 ghost use Rattle.rg_spanning.specs.Spanning.{IsTreeOf};
 ghost use Rattle.rg_cycles.specs.View.{labels_of, cycle_of};
-ghost use Rattle.rg_order_of_work.specs.Rewriting.{has_start, column_count};
-ghost use Rattle.rg_order_of_work.specs.Placing.{place_fold};
-ghost use Rattle.rg_order_of_work.specs.Shown.{IsLive};
-ghost use Rattle.rg_order_of_work.specs.Fold.{Comes, ratio_of};
-ghost use Rattle.rg_order_of_work.specs.Meaning.{first_column};
+ghost use Rattle.rg_case_folds.specs.Rewriting.{has_start, column_count};
+ghost use Rattle.rg_case_folds.specs.Placing.{place_fold};
+ghost use Rattle.rg_case_folds.specs.Shown.{IsLive};
+ghost use Rattle.rg_case_folds.specs.Fold.{Comes, ratio_of};
+ghost use Rattle.rg_case_folds.specs.Meaning.{first_column};
 ghost use Rattle.rg_net.specs.Shown.{shown_place};
 ghost use Rattle.rg_places.specs.PointValues.{ratios_of, point_start, point_value, SolvesCase};
 ghost use Rattle.rg_places.specs.Steps.{found_fold, weights_fold};

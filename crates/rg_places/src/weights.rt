@@ -1,13 +1,13 @@
 //! What the labels take from a place and put on it.
 ghost use Rattle.std.specs.Prelude.{◌≡◌, ℕ, ◌<◌, ◌≤◌, ◌+◌, ℤ, pos, length, map, All, IfOk, unsigned_abs};
 ghost use Rattle.rg_theory.specs.System.{states, labels};
-ghost use Rattle.rg_refuting.specs.Refutes.{IsSeparationProblem};
+ghost use Rattle.rg_cert_meaning.specs.Refutes.{IsSeparationProblem};
 ghost use Rattle.rg_integers.specs.Range.{InRange};
 ghost use Rattle.rg_integers.specs.Sum.{number_at};
 ghost use Rattle.rg_fraction.specs.Fractions.{numerator_of};
-ghost use Rattle.rg_order_of_work.specs.Fold.{Comes, each, whole_sum, ratio_of};
-ghost use Rattle.rg_order_of_work.specs.Rewriting.{all_numbers, states_with};
-ghost use Rattle.rg_order_of_work.specs.Placing.{ratio_at, top_at, taken_by_effect, taken};
+ghost use Rattle.rg_case_folds.specs.Fold.{Comes, each, whole_sum, ratio_of};
+ghost use Rattle.rg_case_folds.specs.Rewriting.{all_numbers, states_with};
+ghost use Rattle.rg_case_folds.specs.Placing.{ratio_at, top_at, taken_by_effect, taken};
 ghost use Rattle.rg_places.specs.PointValues.{ratios_of};
 ghost use Rattle.rg_places.specs.Steps.{taken_to_stop};
 

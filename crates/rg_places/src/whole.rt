@@ -1,8 +1,8 @@
 //! Fractions without denominators.
 ghost use Rattle.std.specs.Prelude.{◌≡◌, ◌||◌, is_some, unwrap_or, pos};
 ghost use Rattle.rg_integers.specs.Range.{InRange};
-ghost use Rattle.rg_order_of_work.specs.Fold.{Comes, gives, either, each, mul, whole};
-ghost use Rattle.rg_order_of_work.specs.Placing.{made_whole};
+ghost use Rattle.rg_case_folds.specs.Fold.{Comes, gives, either, each, mul, whole};
+ghost use Rattle.rg_case_folds.specs.Placing.{made_whole};
 ghost use Rattle.rg_places.specs.PointValues.{ratios_of};
 
 use rg_case_parts::{common_denominator, products};

@@ -7,7 +7,7 @@ use Rattle.rg_theory.specs.declared.Arc.{Arc}
 use Rattle.rg_theory.specs.System.{System, states, arc, IsArcInRange, Leads, IsInRange, IsReachable}
 use Rattle.rg_theory.proofs.Arcs.{arc_in_range}
 use Rattle.rg_theory.proofs.Lists.{Contains-cons_cases}
-use Rattle.rg_firsts.proofs.Parts.{some_with}
+use Rattle.rg_line_formats.proofs.Parts.{some_with}
 use Rattle.rg_decided.proofs.Deciding.{Decided, first_there, later_there, none_there, there_or_not, all_where}
 use Rattle.rg_decided.proofs.Reaching.{reached_or_not}
 use Rattle.rg_product.specs.Product.{Factor, name_at}

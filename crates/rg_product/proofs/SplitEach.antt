@@ -5,7 +5,7 @@ use Rattle.std.proofs.lemmas.Bool.{cases_lt}
 use Rattle.std.proofs.lemmas.List.{get_or_default}
 use Rattle.rg_theory.specs.System.{System, states, Leads, IsInRange, IsAllReachable, IsForkFree}
 use Rattle.rg_theory.proofs.Arcs.{arc_in_range}
-use Rattle.rg_firsts.proofs.Things.{pigeons}
+use Rattle.rg_line_formats.proofs.Things.{pigeons}
 use Rattle.rg_product.specs.Blocks.{AreBlocks}
 use Rattle.rg_product.specs.Product.{tuple_of}
 use Rattle.rg_product.specs.Factoring.{AreReachedBy, AreParted, choices, Factoring, Factoring.fewer, IsFactoring, IsFactoring.of_one_block, IsFactoring.of_fewer, IsFactoring.of_factors}

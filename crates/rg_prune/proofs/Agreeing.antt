@@ -4,7 +4,7 @@ use Rattle.std.specs.List.{list_any}
 use Rattle.std.proofs.lemmas.Bool.{cases_eq, true≢false}
 use Rattle.std.proofs.lemmas.Option.{slice_get_within, slice_get-get_or, get_or_from_slice_get}
 use Rattle.std.proofs.lemmas.List.Elements.{Contains-append_left, Contains-push, Contains-push_cases}
-use Rattle.rg_marks.proofs.Blocking.{same_pair, with_pair, found, among}
+use Rattle.rg_marks.proofs.Refining.{same_pair, with_pair, found, among}
 use Rattle.rg_prune.specs.Differing.{AllDiffer, SomeAgree}
 
 -- no two states before s have the same pair, and the keys are their pairs

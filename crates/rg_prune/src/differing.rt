@@ -5,7 +5,7 @@ ghost use Rattle.rg_prune.specs.Differing.{AllDiffer, SomeAgree};
 use indexmap::IndexSet;
 use std::alloc::{AllocError, Global};
 
-// Whether each two states have different blocks by one of the two lists.
+// Whether each two states have different cells by one of the two lists.
 pub(crate) fn all_differ(alloc: Global, a: &[u32], b: &[u32]) -> Result<bool, AllocError>
     requires { length a.now ≡ length b.now }
     ensures yes { IfOk result (λ r. IsTrue r → AllDiffer a.now b.now) }

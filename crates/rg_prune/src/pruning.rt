@@ -113,8 +113,8 @@ fn is_needed(
     if !are_marked(lts, &separated.stops, &firsts.events) {
         return Ok(true);
     }
-    match &firsts.blocks {
-        Some(blocks) => Ok(!all_differ(alloc, blocks, &separated.blocks)?),
+    match &firsts.cells {
+        Some(cells) => Ok(!all_differ(alloc, cells, &separated.cells)?),
         None => Ok(false),
     }
 }

@@ -95,7 +95,7 @@ const ROWS: [(&[Given], [bool; 11]); 9] = [
 // Which two of four states are in one block: 0 and 1, 0 and 2, 0 and 3, 1 and 2, 1 and 3, 2 and 3.
 type Together = [bool; 6];
 
-// Places one after the other, the states and labels that each is the first to stop, and the blocks before it, where it splits one.
+// Places one after the other, the states and labels that each is the first to stop, and the cells before it, where it splits one.
 const FIRSTS: [(Given, &[(u32, u32)], Option<Together>); 5] = [
     (EMPTY, &[], None),
     (COUNTS, &[(0, 1)], Some([Y, Y, Y, Y, Y, Y])),
@@ -215,18 +215,18 @@ fn tells(lts: &Lts, separated: &Separated, wanted: [bool; 11]) -> bool
 }
 
 // Which two of the four states have the same number.
-fn together(blocks: &[u32]) -> Together {
+fn together(cells: &[u32]) -> Together {
     let pairs = [(0, 1), (0, 2), (0, 3), (1, 2), (1, 3), (2, 3)];
-    pairs.map(|(s, other)| blocks.get(s) == blocks.get(other))
+    pairs.map(|(s, other)| cells.get(s) == cells.get(other))
 }
 
 // Whether these are the problems that are wanted.
-fn are_wanted(firsts: &Firsts, events: &[(u32, u32)], blocks: Option<Together>) -> bool {
-    let told = match &firsts.blocks {
+fn are_wanted(firsts: &Firsts, events: &[(u32, u32)], cells: Option<Together>) -> bool {
+    let told = match &firsts.cells {
         Some(numbers) => Some(together(numbers)),
         None => None,
     };
-    firsts.events.as_slice() == events && told == blocks
+    firsts.events.as_slice() == events && told == cells
 }
 
 // Whether each of the places, added one after the other, is the first to separate what is wanted.
@@ -238,9 +238,9 @@ fn all_wanted(
     requires { IsAllReachable lts.now }
 {
     let mut separated = Separated::nothing(alloc, lts)?;
-    for &(one, events, blocks) in given {
+    for &(one, events, cells) in given {
         let firsts = add(alloc, lts, &mut separated, one)?;
-        if !are_wanted(&firsts, events, blocks) {
+        if !are_wanted(&firsts, events, cells) {
             return Ok(false);
         }
     }

@@ -5,7 +5,7 @@ use Rattle.std.proofs.lemmas.Int.{by_lt_z, ints}
 use Rattle.rg_integers.specs.Sum.{number_at, sum_below}
 use Rattle.rg_integers.proofs.Sums.{sum_below-same}
 use Rattle.rg_linear.specs.System.{LinearSystem, row_at as row_of, entry}
-use Rattle.rg_linear.specs.Descent.{IsPassed}
+use Rattle.rg_linear.specs.Descent.{IsSatisfied}
 use Rattle.rg_dictionary.proofs.TableRows.{length-row}
 use Rattle.rg_revised.specs.Basis.{row_over}
 use Rattle.rg_revised.specs.Rows.{row_at, RowWithin}
@@ -47,7 +47,7 @@ module _ (slots : List ℕ) (table constants : List ℤ) (named : List ℕ) (h :
 
   pub passes_at : (system : LinearSystem) (members : List ℕ) (d : ℤ) (most i : ℕ) (coeffs : List ℤ) (constant : ℤ) → IsSmallHeld system members slots d table most → i < length system.rows
       → (row_of system i).coeffs ≡ coeffs → (row_of system i).constant ≡ constant → length coeffs ≡ length slots
-      → (shares coeffs constants constant d <ℤ pos 0 → ⊥) → IsPassed system members i
+      → (shares coeffs constants constant d <ℤ pos 0 → ⊥) → IsSatisfied system members i
   passes_at system members d most i coeffs constant small lt coeffs_are constant_is each none =
       row_passes system members i (row_over system d (column_relation slots d table) i) small.held.basis.free lt
       (row_follows system members d (column_relation slots d table) small.held.basis i lt)

@@ -10,7 +10,7 @@ pub mod Keeping
 pub mod Sizes
 pub mod ColumnSums
 pub mod States
-pub mod Opening
+pub mod Vacancy
 pub mod Stepping
 pub mod Looping
 pub mod Units

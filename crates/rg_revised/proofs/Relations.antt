@@ -6,7 +6,7 @@ use Rattle.std.proofs.Math.IntN.{*ℤ_comm, zero-*ℤ, *ℤ-zero}
 use Rattle.rg_linear.specs.System.{LinearSystem, variables, row_variable, IsPoint}
 use Rattle.rg_linear.specs.Dictionary.{Relation, IsFree, DictionaryRow}
 use Rattle.rg_linear.specs.Exchange.{IsReduced}
-use Rattle.rg_linear.specs.Descent.{IsPassed, IsStuck, Chooses, IsAtZero}
+use Rattle.rg_linear.specs.Descent.{IsSatisfied, IsStuck, Chooses, IsAtZero}
 use Rattle.rg_linear.specs.Cycle.{IsSkipped, Picks}
 use Rattle.rg_integers.proofs.Order.{mul_is_zero, positive_differs, mul_not_negative, factor_not_negative}
 use Rattle.rg_integers.proofs.Sums.{sum_below-zero}
@@ -67,10 +67,10 @@ module _ (system : LinearSystem) (members : List ℕ) (i : ℕ) (k : Relation) (
   variable : row_variable system i < variables system
   variable = omega arith
 
-  pub row_passes : pos 0 ≤ℤ k.constant → IsPassed system members i
+  pub row_passes : pos 0 ≤ℤ k.constant → IsSatisfied system members i
   row_passes least = go (is_member members (row_variable system i))
     where
-      go : Contains members (row_variable system i) ⊎ ¬ Contains members (row_variable system i) → IsPassed system members i
+      go : Contains members (row_variable system i) ⊎ ¬ Contains members (row_variable system i) → IsSatisfied system members i
       go (inl member) = inl member
       go (inr lacks) =
           let (l, row, r) = multiple_row system members (row_variable system i) k free variable lacks is in

@@ -9,7 +9,7 @@ use Rattle.rg_integers.proofs.Order.{is_zero_or_not}
 use Rattle.rg_linear.specs.System.{LinearSystem, variables, row_variable, row_at as row_of, entry}
 use Rattle.rg_linear.specs.Table.{number_beside}
 use Rattle.rg_linear.specs.Exchange.{exchanged, AllFit}
-use Rattle.rg_linear.specs.Descent.{IsPassed, IsStuck, Chooses}
+use Rattle.rg_linear.specs.Descent.{IsSatisfied, IsStuck, Chooses}
 use Rattle.rg_linear.specs.Stack.{fixed_of}
 use Rattle.rg_linear.specs.Norm.{row_norm, norm_at}
 use Rattle.rg_linear.proofs.Members.{equal_or_not, differs, same}
@@ -19,7 +19,7 @@ use Rattle.rg_dictionary.proofs.TableRows.{length-row}
 use Rattle.rg_revised.specs.Basis.{IsRelationOf}
 use Rattle.rg_revised.specs.Rows.{row_at, RowWithin}
 use Rattle.rg_revised.specs.Held.{AreDistinct, relation_of, column_relation, AreRowNumbers}
-use Rattle.rg_revised.specs.Reading.{IsSmallRow, IsOwnRow, column_sum, IsRead, IsOpen}
+use Rattle.rg_revised.specs.Reading.{IsSmallRow, IsOwnRow, column_sum, IsRead, IsVacant}
 use Rattle.rg_revised.specs.State.{IsSmallHeld, IsExchangeOf, HasRoom}
 use Rattle.rg_revised.proofs.Relations.{failing_is_outside, row_passes, row_stuck, row_chooses}
 use Rattle.rg_revised.proofs.Small.{small_is_not_wide}
@@ -103,7 +103,7 @@ module _ (system : LinearSystem) (members slots : List ℕ) (d : ℤ) (table : L
       pub relation : IsRelationOf system members (row_variable system i) (relation_of slots d numbers)
       relation = row_numbers_relation system members slots d table small.held i numbers are_numbers lt
 
-      pub step_passes : (number_at numbers (length slots) <ℤ pos 0 → ⊥) → IsPassed system members i
+      pub step_passes : (number_at numbers (length slots) <ℤ pos 0 → ⊥) → IsSatisfied system members i
       step_passes none = row_passes system members i (relation_of slots d numbers) small.held.basis.free lt relation
           (by_lt_z (number_at numbers (length slots)) (pos 0) (λ less. absurd (none less)) (λ most. most))
 
@@ -112,11 +112,11 @@ module _ (system : LinearSystem) (members slots : List ℕ) (d : ℤ) (table : L
         columns_are = sym count ∙ small.held.count
 
         -- a member that isn't fixed and that the numbers name stands at an open slot
-        open_slot : (m : ℕ) → Contains members m → ¬ Contains (fixed_of system (reverse stack)) m → number_beside slots numbers m ≢ pos 0 → (q : ℕ) × IsOpen columns slots stack numbers q
+        vacant_slot : (m : ℕ) → Contains members m → ¬ Contains (fixed_of system (reverse stack)) m → number_beside slots numbers m ≢ pos 0 → (q : ℕ) × IsVacant columns slots stack numbers q
             × (get_or slots q 0 ≡ m)
-        open_slot m has loose named = at ((small.held.same m).0 has)
+        vacant_slot m has loose named = at ((small.held.same m).0 has)
           where
-            at : Contains slots m → (q : ℕ) × IsOpen columns slots stack numbers q × (get_or slots q 0 ≡ m)
+            at : Contains slots m → (q : ℕ) × IsVacant columns slots stack numbers q × (get_or slots q 0 ≡ m)
             at (q, inside, e) = (
               q,
               record {
@@ -130,18 +130,18 @@ module _ (system : LinearSystem) (members slots : List ℕ) (d : ℤ) (table : L
                 is : get_or slots q 0 ≡ m
                 is = get_or_default slots q 0 m inside ∙ e
 
-        pub step_stuck : ((q : ℕ) → ¬ IsOpen columns slots stack numbers q) → IsStuck system members (fixed_of system (reverse stack)) i
+        pub step_stuck : ((q : ℕ) → ¬ IsVacant columns slots stack numbers q) → IsStuck system members (fixed_of system (reverse stack)) i
         step_stuck none = row_stuck system members i (relation_of slots d numbers) small.held.basis.free lt relation (fixed_of system (reverse stack)) fails
-            (λ m has loose. ⊎_elim (λ z. z) (λ ne. (let (q, is, e) = open_slot m has loose ne in absurd (none q is))) (is_zero_or_not (number_beside slots numbers m)))
+            (λ m has loose. ⊎_elim (λ z. z) (λ ne. (let (q, is, e) = vacant_slot m has loose ne in absurd (none q is))) (is_zero_or_not (number_beside slots numbers m)))
 
-        module _ (p : ℕ) (is : IsOpen columns slots stack numbers p) where
-          pub step_chooses : ((q : ℕ) → IsOpen columns slots stack numbers q → slice_index slots p ≤ slice_index slots q)
+        module _ (p : ℕ) (is : IsVacant columns slots stack numbers p) where
+          pub step_chooses : ((q : ℕ) → IsVacant columns slots stack numbers q → slice_index slots p ≤ slice_index slots q)
               → Chooses system members (fixed_of system (reverse stack)) i (get_or slots p 0)
           step_chooses least = row_chooses system members i (relation_of slots d numbers) small.held.basis.free lt relation (fixed_of system (reverse stack)) fails (get_or slots p 0)
               ((small.held.same (get_or slots p 0)).1 (member_at slots p is.within))
               (λ has. (let (s, there, e) = fixed_row system stack (get_or slots p 0) has in is.not_fixed s there (e ∙ ap (λ n. n + s) (sym columns_are))))
               (λ z. is.named (sym (beside_at slots numbers p small.held.distinct is.within (let w = read.same_length in omega arith)) ∙ z))
-              (λ m has loose less. ⊎_elim (λ z. z) (λ ne. (let (q, open_q, e) = open_slot m has loose ne in let le = least q open_q in absurd (late q m e le less)))
+              (λ m has loose less. ⊎_elim (λ z. z) (λ ne. (let (q, vacant_q, e) = vacant_slot m has loose ne in let le = least q vacant_q in absurd (late q m e le less)))
               (is_zero_or_not (number_beside slots numbers m)))
             where
               late : (q m : ℕ) → get_or slots q 0 ≡ m → get_or slots p 0 ≤ get_or slots q 0 → m < get_or slots p 0 → ⊥

@@ -32,7 +32,7 @@ abbrev pub AreNamed : List ℤ → List ℕ → Type 0
 AreNamed constants indices = (f : ℕ → ℤ) → ((t : ℕ) → t < length constants → number_at constants t ≡ pos 0 → f t ≡ pos 0) → sum_over f indices ≡ sum_below (length constants) f
 
 -- the variable of slot p isn't that of a row of the stack, and the numbers name it
-pub record IsOpen (columns : ℕ) (slots stack : List ℕ) (numbers : List ℤ) (p : ℕ) : Type 0 where
+pub record IsVacant (columns : ℕ) (slots stack : List ℕ) (numbers : List ℤ) (p : ℕ) : Type 0 where
   pub within : p < length slots
   pub not_fixed : (s : ℕ) → Contains stack s → slice_index slots p ≢ columns + s
   pub named : number_at numbers p ≢ pos 0

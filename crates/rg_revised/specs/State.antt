@@ -2,14 +2,14 @@
 use Rattle.std.specs.Prelude.{◌≡◌, ℕ, ◌+◌, ◌*◌, ◌^◌, ◌<◌, ◌≤◌, List, length, slice_index, Contains, ℤ, unsigned_abs}
 use Rattle.rg_linear.specs.System.{LinearSystem, variables, row_variable}
 use Rattle.rg_linear.specs.Exchange.{exchanged, AllFit}
-use Rattle.rg_linear.specs.Descent.{IsPassed, IsStuck, Chooses}
+use Rattle.rg_linear.specs.Descent.{IsSatisfied, IsStuck, Chooses}
 use Rattle.rg_revised.specs.Basis.{IsRelationOf, HasNorms}
 use Rattle.rg_revised.specs.Rows.{row_at, TableWithin}
 use Rattle.rg_revised.specs.Reading.{AreNamed}
 use Rattle.rg_integers.specs.Sum.{number_at}
 use Rattle.rg_revised.specs.Held.{relation_of, IsHeld}
 use Rattle.rg_revised.specs.declared.step.Step.{Step}
-use Rattle.rg_revised.specs.declared.step.Step.TheVariants.{Passed, Stuck, Exchanged, Large}
+use Rattle.rg_revised.specs.declared.step.Step.TheVariants.{Satisfied, Stuck, Exchanged, Large}
 
 -- the table is held, and no number of it passes most
 pub record IsSmallHeld (system : LinearSystem) (members slots : List ℕ) (d : ℤ) (table : List ℤ) (most : ℕ) : Type 0 where
@@ -29,7 +29,7 @@ HasRoom system most = (norm : ℕ) × HasNorms system norm × (1 ≤ most) × ((
 
 -- row i, at the set of members, with the variables that are fixed, and what the slots and the table hold after the step
 abbrev pub StepTells : LinearSystem → List ℕ → List ℕ → ℕ → ℕ → List ℕ → ℤ → List ℤ → List ℤ → Step → Type 0
-StepTells system members fixed i most slots d table numbers Passed = IsPassed system members i × IsSmallHeld system members slots d table most
+StepTells system members fixed i most slots d table numbers Satisfied = IsSatisfied system members i × IsSmallHeld system members slots d table most
 StepTells system members fixed i most slots d table numbers Stuck = IsStuck system members fixed i × IsSmallHeld system members slots d table most
     × IsRelationOf system members (row_variable system i) (relation_of slots d numbers)
 StepTells system members fixed i most slots d table numbers Exchanged = (j : ℕ) × Chooses system members fixed i j × AllFit system members (row_variable system i) j
@@ -46,7 +46,7 @@ pub record HasConstants (slots : List ℕ) (table constants : List ℤ) (named :
 
 -- the step leaves a basis
 abbrev pub IsNotLarge : Step → Type 0
-IsNotLarge Passed = Unit {0}
+IsNotLarge Satisfied = Unit {0}
 IsNotLarge Stuck = Unit {0}
 IsNotLarge Exchanged = Unit {0}
 IsNotLarge Large = ⊥

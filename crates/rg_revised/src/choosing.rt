@@ -1,25 +1,25 @@
 //! The choice of the variable that leaves.
 
 ghost use Rattle.std.specs.Prelude.{◌≡◌, ◌≢◌, ◌↔◌, ◌⊎◌, ℕ, ◌+◌, ◌<◌, ◌≤◌, ◌^◌, length, slice_index, Contains, IsTrue, IfSome, IfNone};
-ghost use Rattle.rg_revised.specs.Reading.{IsOpen};
+ghost use Rattle.rg_revised.specs.Reading.{IsVacant};
 
 /// The slot of the least variable that isn't fixed and that the numbers name.
-pub(crate) fn least_open(
+pub(crate) fn least_vacant(
     columns: u32,
     slots: &[u32],
     stack: &[u32],
     numbers: &[i64],
 ) -> Option<usize>
     requires numbers { length slots.now < length numbers.now }
-    ensures is { IfSome result (IsOpen columns slots.now stack.now numbers.now) }
-    ensures least { IfSome result (λ p. (q : ℕ) → IsOpen columns slots.now stack.now numbers.now q → slice_index slots.now p ≤ slice_index slots.now q) }
-    ensures none { IfNone result ((q : ℕ) → ¬ IsOpen columns slots.now stack.now numbers.now q) }
+    ensures is { IfSome result (IsVacant columns slots.now stack.now numbers.now) }
+    ensures least { IfSome result (λ p. (q : ℕ) → IsVacant columns slots.now stack.now numbers.now q → slice_index slots.now p ≤ slice_index slots.now q) }
+    ensures none { IfNone result ((q : ℕ) → ¬ IsVacant columns slots.now stack.now numbers.now q) }
 {
     let mut best = None;
     for s in 0..slots.len() {
         if numbers[s] != 0
             && is_less(slots, best, s)
-            && is_open(columns, slots, stack, numbers, s)
+            && is_vacant(columns, slots, stack, numbers, s)
         {
             best = Some(s);
         }
@@ -28,10 +28,10 @@ pub(crate) fn least_open(
 }
 
 // Whether the variable of the slot isn't fixed, and the numbers name it.
-fn is_open(columns: u32, slots: &[u32], stack: &[u32], numbers: &[i64], s: usize) -> bool
+fn is_vacant(columns: u32, slots: &[u32], stack: &[u32], numbers: &[i64], s: usize) -> bool
     requires slot { s < length slots.now }
     requires numbers { length slots.now < length numbers.now }
-    ensures { IsTrue result ↔ IsOpen columns slots.now stack.now numbers.now s }
+    ensures { IsTrue result ↔ IsVacant columns slots.now stack.now numbers.now s }
 {
     numbers[s] != 0 && !is_fixed(columns, stack, slots[s])
 }

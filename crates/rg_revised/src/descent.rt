@@ -116,7 +116,7 @@ pub(crate) fn descend(
             }
         } else {
             match take(basis, columns, own, further, stack, i, most) {
-                Step::Passed => i += 1,
+                Step::Satisfied => i += 1,
                 Step::Stuck => return Descent::Refuted(i),
                 Step::Large => return Descent::Large,
                 Step::Exchanged => {

@@ -27,7 +27,7 @@ ghost use Rattle.rg_integers.specs.Sign.{size};
 ghost use Rattle.rg_linear.specs.System.{LinearSystem, variables, row_variable};
 ghost use Rattle.rg_linear.specs.Dictionary.{Relation, IsFree, DictionaryRow, HasDictionary, column_set};
 ghost use Rattle.rg_linear.specs.Exchange.{exchanged, AllFit, IsReduced};
-ghost use Rattle.rg_linear.specs.Descent.{IsPassed, IsStuck, Chooses};
+ghost use Rattle.rg_linear.specs.Descent.{IsSatisfied, IsStuck, Chooses};
 ghost use Rattle.rg_linear.specs.Cycle.{IsSkipped, Picks};
 ghost use Rattle.rg_revised.specs.Basis.{IsRelationOf, itself, IsBasis, row_over, AreRenewed, IsSmall};
 
@@ -55,7 +55,7 @@ pub fn rows_follow()
 
 /// Law: any relation of a row shows whether the row holds, fails or refutes.
 pub fn rows_are_judged()
-    ensures passed { (system : LinearSystem) (members : List ℕ) (i : ℕ) (k : Relation) → IsFree system members → i < length system.rows → IsRelationOf system members (row_variable system i) k → pos 0 ≤ℤ k.constant → IsPassed system members i }
+    ensures satisfied { (system : LinearSystem) (members : List ℕ) (i : ℕ) (k : Relation) → IsFree system members → i < length system.rows → IsRelationOf system members (row_variable system i) k → pos 0 ≤ℤ k.constant → IsSatisfied system members i }
     ensures outside { (system : LinearSystem) (members : List ℕ) (w : ℕ) (k : Relation) → IsFree system members → IsRelationOf system members w k → k.constant <ℤ pos 0 → ¬ Contains members w }
     ensures stuck { (system : LinearSystem) (members fixed : List ℕ) (i : ℕ) (k : Relation) → IsFree system members → i < length system.rows
         → IsRelationOf system members (row_variable system i) k → k.constant <ℤ pos 0 → ((m : ℕ) → Contains members m → ¬ Contains fixed m → k.coefficient m ≡ pos 0)

@@ -8,13 +8,13 @@ use Rattle.rg_theory.specs.System.{states, labels}
 use Rattle.rg_integers.specs.Range.{InRange}
 use Rattle.rg_integers.specs.Sum.{sum_over}
 use Rattle.rg_linear.specs.Branching.{Form, form_at, AreBounded}
-use Rattle.rg_refuting.specs.declared.RowName.{RowName}
-use Rattle.rg_order_of_work.specs.Setting.{CaseSetting}
-use Rattle.rg_order_of_work.specs.Fold.{each}
-use Rattle.rg_order_of_work.specs.Rewriting.{split_forms, form_low, KeptRow, CaseSystem, rows_of}
-use Rattle.rg_order_of_work.specs.Meaning.{IsCaseOver}
-use Rattle.rg_order_of_work.proofs.FormBounds.{forms_bounded}
-use Rattle.rg_order_of_work.proofs.FormRows.{form_fits}
+use Rattle.rg_cert_meaning.specs.declared.RowName.{RowName}
+use Rattle.rg_case_folds.specs.Setting.{CaseSetting}
+use Rattle.rg_case_folds.specs.Fold.{each}
+use Rattle.rg_case_folds.specs.Rewriting.{split_forms, form_low, KeptRow, CaseSystem, rows_of}
+use Rattle.rg_case_folds.specs.Meaning.{IsCaseOver}
+use Rattle.rg_case_folds.proofs.FormBounds.{forms_bounded}
+use Rattle.rg_case_folds.proofs.FormRows.{form_fits}
 use Rattle.rg_rows.specs.declared.named_form.NamedForm.{NamedForm}
 use Rattle.rg_rows.specs.View.{AreIndices, fold_of}
 use Rattle.rg_rows.specs.Forms.{linear_form, split_of, StandsInRow, IsFormOf, AreFormsOf}

@@ -7,10 +7,10 @@ use Rattle.std.proofs.lemmas.Option.{slice_get-map}
 use Rattle.rg_theory.specs.declared.Class.{Class}
 use Rattle.rg_theory.specs.System.{System}
 use Rattle.rg_integers.specs.declared.term.Wide.{Wide}
-use Rattle.rg_refuting.specs.Row.{shared_expression}
-use Rattle.rg_order_of_work.specs.Setting.{Setting}
-use Rattle.rg_order_of_work.specs.Fold.{shown_result}
-use Rattle.rg_order_of_work.specs.Rewriting.{Scaled, KeptRow, terms_fold, row_fold}
+use Rattle.rg_cert_meaning.specs.Row.{shared_expression}
+use Rattle.rg_case_folds.specs.Setting.{Setting}
+use Rattle.rg_case_folds.specs.Fold.{shown_result}
+use Rattle.rg_case_folds.specs.Rewriting.{Scaled, KeptRow, terms_fold, row_fold}
 use Rattle.rg_case_parts.specs.declared.columns.Columns.{Columns}
 use Rattle.rg_case_parts.specs.ColumnViews.{TellsUsedLabels, AreColumns}
 use Rattle.rg_rows.specs.declared.case_row.CaseRow.{CaseRow}

@@ -7,15 +7,15 @@ use Rattle.rg_theory.specs.declared.Class.{Class}
 use Rattle.rg_theory.specs.declared.Problem.{Problem}
 use Rattle.rg_theory.specs.declared.Problem.TheVariants.{Event, States}
 use Rattle.rg_theory.specs.System.{System, states, labels}
-use Rattle.rg_refuting.specs.declared.RowName.{RowName}
-use Rattle.rg_refuting.specs.Row.{case_consumer}
-use Rattle.rg_refuting.specs.declared.Form.{Form}
-use Rattle.rg_order_of_work.specs.Rewriting.{numbers_where, has_label, used_labels, states_with, has_start, all_numbers, problem_rows, names_of, splits_start, split_forms}
-use Rattle.rg_order_of_work.proofs.Forms.{start_of_bound}
-use Rattle.rg_order_of_work.proofs.Lists.{Contains-map, where_has}
+use Rattle.rg_cert_meaning.specs.declared.RowName.{RowName}
+use Rattle.rg_cert_meaning.specs.Row.{case_consumer}
+use Rattle.rg_cert_meaning.specs.declared.Form.{Form}
+use Rattle.rg_case_folds.specs.Rewriting.{numbers_where, has_label, used_labels, states_with, has_start, all_numbers, problem_rows, names_of, splits_start, split_forms}
+use Rattle.rg_case_folds.proofs.Forms.{start_of_bound}
+use Rattle.rg_case_folds.proofs.Lists.{Contains-map, where_has}
 use Rattle.rg_rows.specs.Forms.{form_in, put_form, forms_in, case_forms}
-use Rattle.rg_refuting.specs.declared.RowName.TheVariants as row_name
-use Rattle.rg_refuting.specs.declared.Form.TheVariants as split_form
+use Rattle.rg_cert_meaning.specs.declared.RowName.TheVariants as row_name
+use Rattle.rg_cert_meaning.specs.declared.Form.TheVariants as split_form
 
 forms-append : (class : Class) (xs ys : List RowName) → forms_in class (xs ++ ys) ≡ forms_in class xs ++ forms_in class ys
 forms-append class [] ys = refl

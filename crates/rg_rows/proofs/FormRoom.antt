@@ -9,12 +9,12 @@ use Rattle.rg_theory.specs.declared.Problem.{Problem}
 use Rattle.rg_theory.specs.ClassWords.{HasNumbersInRange}
 use Rattle.rg_theory.specs.System.{System, states, labels}
 use Rattle.rg_integers.specs.Sum.{sum_over}
-use Rattle.rg_refuting.specs.declared.Form.{Form}
-use Rattle.rg_order_of_work.specs.Rewriting.{has_label, used_labels, all_numbers, splits_start, split_forms, form_low, form_high}
+use Rattle.rg_cert_meaning.specs.declared.Form.{Form}
+use Rattle.rg_case_folds.specs.Rewriting.{has_label, used_labels, all_numbers, splits_start, split_forms, form_low, form_high}
 use Rattle.rg_case_parts.proofs.Picking.{where_few}
 use Rattle.rg_rows.specs.Forms.{split_of}
 use Rattle.rg_rows.specs.declared.named_form.NamedForm.{NamedForm}
-use Rattle.rg_refuting.specs.declared.Form.TheVariants as split_form
+use Rattle.rg_cert_meaning.specs.declared.Form.TheVariants as split_form
 
 -- the bounds of a form
 pub bounds_ordered : (lts : System) (class : Class) (split : Form) → form_low split ≤ℤ form_high lts class split

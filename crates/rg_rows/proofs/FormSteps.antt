@@ -8,19 +8,19 @@ use Rattle.rg_theory.specs.declared.Class.{Class}
 use Rattle.rg_theory.specs.ClassWords.{HasNumbersInRange}
 use Rattle.rg_integers.specs.declared.term.Wide.{Wide}
 use Rattle.rg_linear.specs.Branching.{Form}
-use Rattle.rg_refuting.specs.Expression.{Term, Expression, plus}
-use Rattle.rg_refuting.specs.declared.RowName.{RowName}
-use Rattle.rg_refuting.specs.Row.{row_expression}
-use Rattle.rg_refuting.specs.Row.{form_variable, step_of}
-use Rattle.rg_refuting.specs.declared.Form.{Form as SplitForm}
-use Rattle.rg_order_of_work.specs.Setting.{Setting, CaseSetting}
-use Rattle.rg_order_of_work.specs.Fold.{each}
-use Rattle.rg_order_of_work.specs.Rewriting.{Scaled, column_count, terms_fold, form_fold, form_low, form_high, KeptRow}
-use Rattle.rg_order_of_work.specs.FormRows.{form_row}
-use Rattle.rg_order_of_work.proofs.FormRows.{same_terms, form_over_row}
-use Rattle.rg_order_of_work.proofs.Forms.{each_at}
-use Rattle.rg_order_of_work.proofs.Folding.{behind, each_next, each_fails, each_ends}
-use Rattle.rg_order_of_work.proofs.Items.{from_index}
+use Rattle.rg_cert_meaning.specs.Expression.{Term, Expression, plus}
+use Rattle.rg_cert_meaning.specs.declared.RowName.{RowName}
+use Rattle.rg_cert_meaning.specs.Row.{row_expression}
+use Rattle.rg_cert_meaning.specs.Row.{form_variable, step_of}
+use Rattle.rg_cert_meaning.specs.declared.Form.{Form as SplitForm}
+use Rattle.rg_case_folds.specs.Setting.{Setting, CaseSetting}
+use Rattle.rg_case_folds.specs.Fold.{each}
+use Rattle.rg_case_folds.specs.Rewriting.{Scaled, column_count, terms_fold, form_fold, form_low, form_high, KeptRow}
+use Rattle.rg_case_folds.specs.FormRows.{form_row}
+use Rattle.rg_case_folds.proofs.FormRows.{same_terms, form_over_row}
+use Rattle.rg_case_folds.proofs.Forms.{each_at}
+use Rattle.rg_case_folds.proofs.Folding.{behind, each_next, each_fails, each_ends}
+use Rattle.rg_case_folds.proofs.Items.{from_index}
 use Rattle.rg_integers.specs.Range.{InRange}
 use Rattle.rg_rows.specs.declared.case_row.CaseRow.{CaseRow}
 use Rattle.rg_rows.specs.declared.named_form.NamedForm.{NamedForm}
@@ -28,8 +28,8 @@ use Rattle.rg_rows.specs.View.{kept_row, fold_of}
 use Rattle.rg_rows.specs.Forms.{linear_form, split_of, form_in, put_form, forms_in, IsPartOf}
 use Rattle.rg_rows.specs.Making.{IsMade}
 use Rattle.rg_rows.proofs.Placing.{row_got}
-use Rattle.rg_refuting.specs.declared.RowName.TheVariants as row_name
-use Rattle.rg_refuting.specs.declared.Form.TheVariants as split_form
+use Rattle.rg_cert_meaning.specs.declared.RowName.TheVariants as row_name
+use Rattle.rg_cert_meaning.specs.declared.Form.TheVariants as split_form
 
 -- the row that the form is of
 pub form_in_row : (initial : ℕ) (class : Class) (name : RowName) (split : SplitForm) → form_in class name ≡ Some split → name ≡ form_row initial split

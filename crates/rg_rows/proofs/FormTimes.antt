@@ -17,15 +17,15 @@ use Rattle.rg_integers.proofs.Divisors.{exact}
 use Rattle.rg_integers.proofs.Casts.{back}
 use Rattle.rg_linear.specs.System.{row_at}
 use Rattle.rg_linear.specs.Cycle.{IsZeroVector}
-use Rattle.rg_refuting.specs.Row.{row_expression}
-use Rattle.rg_refuting.specs.declared.RowName.{RowName}
-use Rattle.rg_order_of_work.specs.Setting.{CaseSetting}
-use Rattle.rg_order_of_work.specs.Fold.{each}
-use Rattle.rg_order_of_work.specs.Rewriting.{KeptRow, CaseSystem, rows_of}
-use Rattle.rg_order_of_work.specs.FormRows.{form_row, IsMultipleOfRow}
-use Rattle.rg_order_of_work.proofs.FormRows.{multiple_of_kept, number_times, number_zero}
-use Rattle.rg_order_of_work.proofs.SystemRows.{made_from}
-use Rattle.rg_order_of_work.proofs.OneResult.{row_one}
+use Rattle.rg_cert_meaning.specs.Row.{row_expression}
+use Rattle.rg_cert_meaning.specs.declared.RowName.{RowName}
+use Rattle.rg_case_folds.specs.Setting.{CaseSetting}
+use Rattle.rg_case_folds.specs.Fold.{each}
+use Rattle.rg_case_folds.specs.Rewriting.{KeptRow, CaseSystem, rows_of}
+use Rattle.rg_case_folds.specs.FormRows.{form_row, IsMultipleOfRow}
+use Rattle.rg_case_folds.proofs.FormRows.{multiple_of_kept, number_times, number_zero}
+use Rattle.rg_case_folds.proofs.SystemRows.{made_from}
+use Rattle.rg_case_folds.proofs.OneResult.{row_one}
 use Rattle.rg_rows.specs.declared.named_form.NamedForm.{NamedForm}
 use Rattle.rg_rows.specs.View.{AreIndices, fold_of}
 use Rattle.rg_rows.specs.Forms.{linear_form, split_of, StandsInRow}

@@ -9,18 +9,18 @@ use Rattle.rg_theory.specs.declared.Class.{Class}
 use Rattle.rg_theory.specs.declared.Problem.{Problem}
 use Rattle.rg_theory.specs.declared.Problem.TheVariants.{Event, States}
 use Rattle.rg_theory.specs.System.{System, states, labels}
-use Rattle.rg_refuting.specs.Row.{case_consumer}
-use Rattle.rg_refuting.specs.declared.RowName.{RowName}
+use Rattle.rg_cert_meaning.specs.Row.{case_consumer}
+use Rattle.rg_cert_meaning.specs.declared.RowName.{RowName}
 use Rattle.rg_linear.specs.System.{LinearRow, row_at}
-use Rattle.rg_linear.specs.Firsts.{KeepsFirsts}
+use Rattle.rg_linear.specs.Firsts.{KeepsEqualRows}
 use Rattle.rg_linear.proofs.Firsts.{kept_is, kept_count}
-use Rattle.rg_order_of_work.specs.Rewriting.{numbers_where, used_labels, has_label, has_label_at, states_with, has_start, problem_rows, names_of, KeptRow, IsIdle}
+use Rattle.rg_case_folds.specs.Rewriting.{numbers_where, used_labels, has_label, has_label_at, states_with, has_start, problem_rows, names_of, KeptRow, IsIdle}
 use Rattle.rg_linear.specs.declared.row.Row.{Row}
 use Rattle.rg_linear.specs.View.{linear_row, linear_system, IsWellFormed}
 use Rattle.rg_rows.specs.declared.case_row.CaseRow.{CaseRow}
 use Rattle.rg_rows.specs.View.{kept_row}
 use Rattle.rg_case_parts.proofs.Picking.{where_few}
-use Rattle.rg_refuting.specs.declared.RowName.TheVariants as row_name
+use Rattle.rg_cert_meaning.specs.declared.RowName.TheVariants as row_name
 
 -- ---- how many rows are named
 
@@ -62,7 +62,7 @@ from_map f [] y (k, lt, e) = absurd (omega arith)
 from_map f (x ∷ xs) y (zero, lt, e) = (x, (0, omega arith, refl), e)
 from_map f (x ∷ xs) y (suc k, lt, e) = let (z, (j, below, is), same) = from_map f xs y (k, omega arith, e) in (z, (suc j, omega arith, is), same)
 
-module _ (columns : ℕ) (all : List CaseRow) (rows : List Row) (kept : List KeptRow) (shown : map linear_row rows ≡ map (λ k. k.row) kept) (firsts : KeepsFirsts (λ k. k.row) IsIdle [] (map kept_row all) kept) (lengths : All (λ r. length (arc_slice_items r.coeffs) ≡ columns) all) where
+module _ (columns : ℕ) (all : List CaseRow) (rows : List Row) (kept : List KeptRow) (shown : map linear_row rows ≡ map (λ k. k.row) kept) (firsts : KeepsEqualRows (λ k. k.row) IsIdle [] (map kept_row all) kept) (lengths : All (λ r. length (arc_slice_items r.coeffs) ≡ columns) all) where
   named_fits : (r : CaseRow) → Contains all r → Fits columns (kept_row r).row
   named_fits r (k, lt, is) = record { one_each = subst (λ (x : CaseRow). length (arc_slice_items x.coeffs) ≡ columns) is (lengths k r lt); coeffs = r.coeffs_in_range; constant = r.constant_in_range }
 

@@ -10,9 +10,9 @@ use Rattle.std.proofs.lemmas.Bool.Decides.{Decides-int_eq}
 use Rattle.std.proofs.lemmas.Slice.Eq.{slice_eq-Decides}
 use Rattle.std.proofs.Math.Seq.{drop-cons}
 use Rattle.rg_linear.specs.System.{LinearRow}
-use Rattle.rg_linear.specs.Firsts.{KeepsFirsts}
+use Rattle.rg_linear.specs.Firsts.{KeepsEqualRows}
 use Rattle.rg_linear.proofs.Members.{Contains-cons_cases}
-use Rattle.rg_order_of_work.specs.Rewriting.{KeptRow, IsIdle}
+use Rattle.rg_case_folds.specs.Rewriting.{KeptRow, IsIdle}
 use Rattle.rg_cycles.proofs.Firsts.{has_numbers}
 use Rattle.rg_rows.specs.declared.case_row.CaseRow.{CaseRow}
 use Rattle.rg_rows.specs.View.{numbers_of, kept_row}
@@ -34,7 +34,7 @@ same_row r s e = let (f, g) = ends r.coeffs s.coeffs r.constant s.constant e in 
 pub record KeptSoFar (all : List KeptRow) (has : List ℤ → Bool) (i : ℕ) (kept : List KeptRow) : Type 0 where
   pub seen : List LinearRow
   pub tells : (r : LinearRow) → Decides (has (numbers_of r)) (Contains seen r)
-  pub rest : (more : List KeptRow) → KeepsFirsts (λ k. k.row) IsIdle seen (drop i all) more → KeepsFirsts (λ k. k.row) IsIdle [] all (kept ++ more)
+  pub rest : (more : List KeptRow) → KeepsEqualRows (λ k. k.row) IsIdle seen (drop i all) more → KeepsEqualRows (λ k. k.row) IsIdle [] all (kept ++ more)
 
 pub kept-start : (all : List KeptRow) (has : List ℤ → Bool) → ((q : List ℤ) → has q ≡ false) → KeptSoFar all has 0 []
 kept-start all has none = record {
@@ -43,8 +43,8 @@ kept-start all has none = record {
   rest = λ more h. h;
 }
 
-pub kept-end : (all : List KeptRow) (has : List ℤ → Bool) (i : ℕ) (kept : List KeptRow) → KeptSoFar all has i kept → length all ≤ i → KeepsFirsts (λ k. k.row) IsIdle [] all kept
-kept-end all has i kept k past = subst (KeepsFirsts (λ k. k.row) IsIdle [] all) (append-nil kept) (k.rest [] (subst (λ l. KeepsFirsts (λ k. k.row) IsIdle k.seen l []) (sym (drop_all i all past)) refl))
+pub kept-end : (all : List KeptRow) (has : List ℤ → Bool) (i : ℕ) (kept : List KeptRow) → KeptSoFar all has i kept → length all ≤ i → KeepsEqualRows (λ k. k.row) IsIdle [] all kept
+kept-end all has i kept k past = subst (KeepsEqualRows (λ k. k.row) IsIdle [] all) (append-nil kept) (k.rest [] (subst (λ l. KeepsEqualRows (λ k. k.row) IsIdle k.seen l []) (sym (drop_all i all past)) refl))
 
 module _ (all : List KeptRow) (has has' : List ℤ → Bool) (i : ℕ) (kept : List KeptRow) (k : KeptSoFar all has i kept) (x : KeptRow) (is : drop i all ≡ x ∷ drop (i + 1) all) where
   -- row i is idle, or was seen before
@@ -52,7 +52,7 @@ module _ (all : List KeptRow) (has has' : List ℤ → Bool) (i : ℕ) (kept : L
   kept-drop drops same = record {
     seen = k.seen;
     tells = λ r. (λ e. (k.tells r).0 (sym (same (numbers_of r)) ∙ e), λ h. same (numbers_of r) ∙ (k.tells r).1 h);
-    rest = λ more h. k.rest more (subst (λ l. KeepsFirsts (λ y. y.row) IsIdle k.seen l more) (sym is) (inl (⊎_elim (λ z. inl z) (λ e. inr ((k.tells x.row).0 e)) drops, h)));
+    rest = λ more h. k.rest more (subst (λ l. KeepsEqualRows (λ y. y.row) IsIdle k.seen l more) (sym is) (inl (⊎_elim (λ z. inl z) (λ e. inr ((k.tells x.row).0 e)) drops, h)));
   }
 
   -- row i is kept
@@ -60,7 +60,7 @@ module _ (all : List KeptRow) (has has' : List ℤ → Bool) (i : ℕ) (kept : L
   kept-push busy fresh same = record {
     seen = x.row ∷ k.seen;
     tells = λ r. (λ e. found r (pointwise int_eq (numbers_of x.row) (numbers_of r)) refl (sym (same (numbers_of r)) ∙ e), λ h. same (numbers_of r) ∙ there r h);
-    rest = λ more h. subst (KeepsFirsts (λ y. y.row) IsIdle [] all) (sym (append_assoc kept (x ∷ []) more)) (k.rest (x ∷ more) (subst (λ l. KeepsFirsts (λ y. y.row) IsIdle k.seen l (x ∷ more)) (sym is) (inr (busy, (λ seen. false≢true (sym fresh ∙ ((k.tells x.row).1 seen))), (more, refl, h)))));
+    rest = λ more h. subst (KeepsEqualRows (λ y. y.row) IsIdle [] all) (sym (append_assoc kept (x ∷ []) more)) (k.rest (x ∷ more) (subst (λ l. KeepsEqualRows (λ y. y.row) IsIdle k.seen l (x ∷ more)) (sym is) (inr (busy, (λ seen. false≢true (sym fresh ∙ ((k.tells x.row).1 seen))), (more, refl, h)))));
   }
     where
       found : (r : LinearRow) (b : Bool) → pointwise int_eq (numbers_of x.row) (numbers_of r) ≡ b → cond b true (has (numbers_of r)) ≡ true → Contains (x.row ∷ k.seen) r

@@ -4,19 +4,19 @@ use Rattle.std.specs.Prelude.{ℤ, pos, IfOk}
 use Rattle.rg_theory.specs.System.{labels}
 use Rattle.rg_integers.specs.declared.term.Wide.{Wide}
 use Rattle.rg_linear.specs.Branching.{Form}
-use Rattle.rg_refuting.specs.Expression.{Term, Expression}
-use Rattle.rg_refuting.specs.declared.RowName.{RowName}
+use Rattle.rg_cert_meaning.specs.Expression.{Term, Expression}
+use Rattle.rg_cert_meaning.specs.declared.RowName.{RowName}
 use Rattle.rg_fraction.specs.declared.fraction.Fraction.{Fraction}
 use Rattle.rg_fraction.specs.Fractions.{numerator_of, denominator_of, IsValue, IsProduct}
-use Rattle.rg_order_of_work.specs.Setting.{Setting, CaseSetting}
-use Rattle.rg_order_of_work.proofs.FoldLemmas.{mul_step}
-use Rattle.rg_order_of_work.specs.Fold.{shown_result, ratio_of, each, Ratio, whole, mul}
-use Rattle.rg_order_of_work.specs.Rewriting.{start_of, count_of, substitute_fold, columns_of, Scaled, scaled_fold, terms_fold, KeptRow, divided, row_fold, names_of, split_forms, form_fold, column_count, CaseSystem, IsIdle, system_fold}
-use Rattle.rg_linear.specs.Firsts.{KeepsFirsts}
+use Rattle.rg_case_folds.specs.Setting.{Setting, CaseSetting}
+use Rattle.rg_case_folds.proofs.FoldLemmas.{mul_step}
+use Rattle.rg_case_folds.specs.Fold.{shown_result, ratio_of, each, Ratio, whole, mul}
+use Rattle.rg_case_folds.specs.Rewriting.{start_of, count_of, substitute_fold, columns_of, Scaled, scaled_fold, terms_fold, KeptRow, divided, row_fold, names_of, split_forms, form_fold, column_count, CaseSystem, IsIdle, system_fold}
+use Rattle.rg_linear.specs.Firsts.{KeepsEqualRows}
 use Rattle.rg_rows.specs.View.{fold_of}
 use Rattle.rg_rows.proofs.Counted.{substitute_same}
 use Rattle.rg_case_parts.proofs.Picking.{columns_length}
-use Rattle.rg_order_of_work.proofs.Folding.{whole_is}
+use Rattle.rg_case_folds.proofs.Folding.{whole_is}
 
 -- ---- from the counts of labels to the columns
 
@@ -79,6 +79,6 @@ module _ (s : CaseSetting) (names : List RowName) (named : names ≡ names_of s.
     forms_fail w h = inr (all, subst (λ l. each (fold_of s) l (Ok all)) named made, inl h)
 
     pub case_made : (forms : List Form) (shown : CaseSystem) → each (form_fold s.setting) (split_forms s.lts s.class s.problem) (Ok forms)
-        → shown.columns ≡ column_count s.lts s.basis s.class → KeepsFirsts (λ k. k.row) IsIdle [] all shown.kept → shown.forms ≡ forms
+        → shown.columns ≡ column_count s.lts s.basis s.class → KeepsEqualRows (λ k. k.row) IsIdle [] all shown.kept → shown.forms ≡ forms
         → system_fold s (Ok shown)
     case_made forms shown forms_made columns firsts same = (all, subst (λ l. each (fold_of s) l (Ok all)) named made, (forms, forms_made, (columns, firsts, same)))

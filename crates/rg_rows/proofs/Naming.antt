@@ -6,14 +6,14 @@ use Rattle.std.proofs.lemmas.Bool.{and_from, eqb-true}
 use Rattle.rg_theory.specs.declared.Class.{Class}
 use Rattle.rg_theory.specs.declared.Problem.{Problem}
 use Rattle.rg_theory.specs.System.{System, states, labels}
-use Rattle.rg_refuting.specs.Row.{case_consumer}
-use Rattle.rg_refuting.specs.declared.RowName.{RowName}
-use Rattle.rg_order_of_work.specs.Rewriting.{numbers_where, has_label, used_labels, has_start, all_numbers, problem_rows, names_of}
-use Rattle.rg_order_of_work.proofs.Folding.{where_taken, where_left, where_ends}
+use Rattle.rg_cert_meaning.specs.Row.{case_consumer}
+use Rattle.rg_cert_meaning.specs.declared.RowName.{RowName}
+use Rattle.rg_case_folds.specs.Rewriting.{numbers_where, has_label, used_labels, has_start, all_numbers, problem_rows, names_of}
+use Rattle.rg_case_folds.proofs.Folding.{where_taken, where_left, where_ends}
 use Rattle.rg_case_parts.specs.declared.columns.Columns.{Columns}
 use Rattle.rg_case_parts.specs.ColumnViews.{TellsUsedLabels, AreColumns}
 use Rattle.rg_rows.specs.View.{users, makers}
-use Rattle.rg_refuting.specs.declared.RowName.TheVariants as row_name
+use Rattle.rg_cert_meaning.specs.declared.RowName.TheVariants as row_name
 
 -- so far the rows of the numbers before i that pass the test are named
 module _ (make : ℕ → RowName) (test : ℕ → Bool) (i n : ℕ) (done all : List RowName) (so_far : done ++ map make (numbers_where test i (n - i)) ≡ all) where

@@ -10,12 +10,12 @@ use Rattle.rg_theory.specs.declared.Problem.TheVariants.{Event, States}
 use Rattle.rg_theory.specs.System.{System, states}
 use Rattle.rg_integers.specs.declared.term.Wide.{Wide}
 use Rattle.rg_fraction.specs.declared.fold_stop.FoldStop.{FoldStop}
-use Rattle.rg_refuting.specs.Expression.{Expression, plus, minus}
-use Rattle.rg_refuting.specs.Row.{row_expression, shared_expression}
-use Rattle.rg_refuting.specs.declared.RowName.{RowName}
-use Rattle.rg_order_of_work.specs.Setting.{Setting, CaseSetting}
-use Rattle.rg_order_of_work.specs.Fold.{Comes, shown_result}
-use Rattle.rg_order_of_work.specs.Rewriting.{has_start, column_count, terms_fold, row_fold}
+use Rattle.rg_cert_meaning.specs.Expression.{Expression, plus, minus}
+use Rattle.rg_cert_meaning.specs.Row.{row_expression, shared_expression}
+use Rattle.rg_cert_meaning.specs.declared.RowName.{RowName}
+use Rattle.rg_case_folds.specs.Setting.{Setting, CaseSetting}
+use Rattle.rg_case_folds.specs.Fold.{Comes, shown_result}
+use Rattle.rg_case_folds.specs.Rewriting.{has_start, column_count, terms_fold, row_fold}
 use Rattle.rg_case_parts.specs.StatesNamed.{TermNamesStateBelow}
 use Rattle.rg_rows.specs.declared.case_row.CaseRow.{CaseRow}
 use Rattle.rg_rows.specs.declared.form_terms.FormTerms.{FormTerms}
@@ -24,10 +24,10 @@ use Rattle.rg_rows.specs.declared.kind.Kind.{Kind}
 use Rattle.rg_rows.specs.declared.kind.Kind.TheVariants as kind
 use Rattle.rg_rows.specs.View.{kept_row, row_in, terms_of}
 use Rattle.rg_rows.specs.Sharing.{or_wide, row_of_kind, rows_of_kind, forms_of_kind, IsSharedRow, AreSharedTerms, AreRowsOfKind, AreTermsOfKind, IsCommonOf, IsRowInCase, AreTermsInCase}
-use Rattle.rg_reasons.proofs.Places.{get_is}
+use Rattle.rg_cert_data.proofs.Places.{get_is}
 use Rattle.rg_rows.specs.declared.common.Common.{Common}
 use Rattle.rg_rows.proofs.Terms.{one}
-use Rattle.rg_refuting.specs.declared.Variable.TheVariants.{Tokens}
+use Rattle.rg_cert_meaning.specs.declared.Variable.TheVariants.{Tokens}
 
 -- ---- what the rows of a kind say
 

@@ -9,12 +9,12 @@ use Rattle.rg_theory.specs.ClassWords.{HasNumbersInRange}
 use Rattle.rg_theory.specs.Tree.{IsTree}
 use Rattle.rg_integers.specs.declared.term.Wide.{Wide}
 use Rattle.rg_integers.specs.Range.{InRange}
-use Rattle.rg_refuting.specs.Row.{row_expression, step_of}
-use Rattle.rg_order_of_work.specs.Setting.{CaseSetting}
-use Rattle.rg_order_of_work.specs.Fold.{each}
-use Rattle.rg_order_of_work.specs.Rewriting.{Scaled, terms_fold, form_fold, form_low, form_high}
-use Rattle.rg_order_of_work.specs.FormRows.{form_row}
-use Rattle.rg_order_of_work.proofs.StartAlone.{start_alone}
+use Rattle.rg_cert_meaning.specs.Row.{row_expression, step_of}
+use Rattle.rg_case_folds.specs.Setting.{CaseSetting}
+use Rattle.rg_case_folds.specs.Fold.{each}
+use Rattle.rg_case_folds.specs.Rewriting.{Scaled, terms_fold, form_fold, form_low, form_high}
+use Rattle.rg_case_folds.specs.FormRows.{form_row}
+use Rattle.rg_case_folds.proofs.StartAlone.{start_alone}
 use Rattle.rg_rows.specs.declared.case_row.CaseRow.{CaseRow}
 use Rattle.rg_rows.specs.declared.named_form.NamedForm.{NamedForm}
 use Rattle.rg_rows.specs.View.{kept_row, fold_of}
@@ -22,9 +22,9 @@ use Rattle.rg_rows.specs.Forms.{linear_form, split_of, IsPartOf}
 use Rattle.rg_rows.specs.Making.{IsMade}
 use Rattle.rg_rows.proofs.FormSteps.{terms_are, form_of_terms, form_of_none, times_row, row_at_index}
 use Rattle.rg_rows.proofs.Placing.{row_got}
-use Rattle.rg_refuting.specs.declared.RowName.{RowName}
-use Rattle.rg_refuting.specs.declared.RowName.TheVariants as row_name
-use Rattle.rg_refuting.specs.declared.Form.TheVariants as split_form
+use Rattle.rg_cert_meaning.specs.declared.RowName.{RowName}
+use Rattle.rg_cert_meaning.specs.declared.RowName.TheVariants as row_name
+use Rattle.rg_cert_meaning.specs.declared.Form.TheVariants as split_form
 
 step_positive : (class : Class) → HasNumbersInRange class → pos 0 <ℤ pos (step_of class split_form.Start)
 step_positive class bound = let h = some class.marking bound.marking in omega (arith, ints)

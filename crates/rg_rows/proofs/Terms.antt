@@ -6,19 +6,19 @@ use Rattle.rg_theory.specs.declared.Class.{Class}
 use Rattle.rg_theory.specs.declared.Problem.{Problem}
 use Rattle.rg_theory.specs.declared.Problem.TheVariants.{Event, States}
 use Rattle.rg_theory.specs.System.{System, states}
-use Rattle.rg_refuting.specs.Expression.{Term as SumTerm, plus, minus}
-use Rattle.rg_refuting.specs.Row.{row_expression, apart_expression, order_of}
-use Rattle.rg_refuting.specs.declared.RowName.{RowName}
-use Rattle.rg_refuting.specs.Refutes.{IsSeparationProblem}
-use Rattle.rg_order_of_work.specs.Rewriting.{has_label_at, states_with, problem_rows, names_of}
+use Rattle.rg_cert_meaning.specs.Expression.{Term as SumTerm, plus, minus}
+use Rattle.rg_cert_meaning.specs.Row.{row_expression, apart_expression, order_of}
+use Rattle.rg_cert_meaning.specs.declared.RowName.{RowName}
+use Rattle.rg_cert_meaning.specs.Refutes.{IsSeparationProblem}
+use Rattle.rg_case_folds.specs.Rewriting.{has_label_at, states_with, problem_rows, names_of}
 use Rattle.rg_theory.proofs.Lists.{Contains-cons_cases}
-use Rattle.rg_order_of_work.proofs.Lists.{nothing, where_is}
-use Rattle.rg_order_of_work.proofs.Names.{each_problem_name, each_name}
+use Rattle.rg_case_folds.proofs.Lists.{nothing, where_is}
+use Rattle.rg_case_folds.proofs.Names.{each_problem_name, each_name}
 use Rattle.rg_case_parts.specs.StatesNamed.{TermNamesStateBelow}
-use Rattle.rg_order_of_work.specs.Setting.{CaseSetting}
+use Rattle.rg_case_folds.specs.Setting.{CaseSetting}
 use Rattle.rg_rows.specs.View.{AreNamesWithin}
-use Rattle.rg_refuting.specs.declared.RowName.TheVariants as row_name
-use Rattle.rg_refuting.specs.declared.Variable.TheVariants.{Tokens, Effect}
+use Rattle.rg_cert_meaning.specs.declared.RowName.TheVariants as row_name
+use Rattle.rg_cert_meaning.specs.declared.Variable.TheVariants.{Tokens, Effect}
 
 pub one : (n : ℕ) (t : SumTerm) → TermNamesStateBelow n t → All (TermNamesStateBelow n) (t ∷ [])
 one n t h = All-cons (TermNamesStateBelow n) t [] h (All-nil (TermNamesStateBelow n))

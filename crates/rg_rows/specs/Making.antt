@@ -5,8 +5,8 @@ use Rattle.rg_theory.specs.declared.Class.{Class}
 use Rattle.rg_theory.specs.System.{System}
 use Rattle.rg_theory.specs.ClassWords.{HasNumbersInRange}
 use Rattle.rg_integers.specs.Range.{InRange}
-use Rattle.rg_order_of_work.specs.Rewriting.{KeptRow, form_low, form_high}
-use Rattle.rg_order_of_work.specs.FormRows.{form_row}
+use Rattle.rg_case_folds.specs.Rewriting.{KeptRow, form_low, form_high}
+use Rattle.rg_case_folds.specs.FormRows.{form_row}
 use Rattle.rg_rows.specs.declared.named_form.NamedForm.{NamedForm}
 use Rattle.rg_rows.specs.Forms.{split_of, IsPartOf}
 

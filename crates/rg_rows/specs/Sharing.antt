@@ -6,11 +6,11 @@ use Rattle.rg_theory.specs.System.{System, states, labels}
 use Rattle.rg_integers.specs.declared.term.Wide.{Wide}
 use Rattle.rg_fraction.specs.declared.fold_stop.FoldStop.{FoldStop}
 use Rattle.rg_fraction.specs.declared.fold_stop.FoldStop.TheVariants as stop
-use Rattle.rg_refuting.specs.Row.{shared_expression, row_expression}
-use Rattle.rg_refuting.specs.declared.RowName.{RowName}
-use Rattle.rg_order_of_work.specs.Setting.{Setting, CaseSetting}
-use Rattle.rg_order_of_work.specs.Fold.{shown_result}
-use Rattle.rg_order_of_work.specs.Rewriting.{has_start, column_count, terms_fold, row_fold}
+use Rattle.rg_cert_meaning.specs.Row.{shared_expression, row_expression}
+use Rattle.rg_cert_meaning.specs.declared.RowName.{RowName}
+use Rattle.rg_case_folds.specs.Setting.{Setting, CaseSetting}
+use Rattle.rg_case_folds.specs.Fold.{shown_result}
+use Rattle.rg_case_folds.specs.Rewriting.{has_start, column_count, terms_fold, row_fold}
 use Rattle.rg_case_parts.specs.ColumnViews.{AreColumns}
 use Rattle.rg_rows.specs.declared.case_row.CaseRow.{CaseRow}
 use Rattle.rg_rows.specs.declared.form_terms.FormTerms.{FormTerms}
@@ -18,7 +18,7 @@ use Rattle.rg_rows.specs.declared.kind.Kind.{Kind}
 use Rattle.rg_rows.specs.declared.kind.Kind.TheVariants as kind
 use Rattle.rg_rows.specs.declared.common.Common.{Common}
 use Rattle.rg_rows.specs.View.{kept_row, terms_of, fold_of}
-use Rattle.rg_refuting.specs.declared.RowName.TheVariants as row_name
+use Rattle.rg_cert_meaning.specs.declared.RowName.TheVariants as row_name
 
 -- a value, or a step out of range as the reason for none
 abbrev pub or_wide : {T : Type 0} → Result T Wide → Result T FoldStop

@@ -1,7 +1,7 @@
 -- What a system with names and factors shows.
 use Rattle.std.specs.Prelude.{◌≡◌, map}
-use Rattle.rg_order_of_work.specs.Fold.{ratio_of}
-use Rattle.rg_order_of_work.specs.Rewriting.{CaseSystem, rows_of}
+use Rattle.rg_case_folds.specs.Fold.{ratio_of}
+use Rattle.rg_case_folds.specs.Rewriting.{CaseSystem, rows_of}
 use Rattle.rg_rows.specs.Forms.{linear_form}
 use Rattle.rg_rows.specs.declared.named_system.NamedSystem.{NamedSystem}
 

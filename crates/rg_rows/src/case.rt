@@ -1,6 +1,6 @@
 //! How many cases a separation problem has.
 ghost use Rattle.std.specs.Prelude.{◌≡◌, ◌≤◌};
-ghost use Rattle.rg_refuting.specs.Row.{cases_of};
+ghost use Rattle.rg_cert_meaning.specs.Row.{cases_of};
 
 use rg_lts::Lts;
 use rg_theory::{Class, Problem};

@@ -6,8 +6,8 @@ ghost use Rattle.rg_linear.specs.Cycle.{IsZeroVector};
 ghost use Rattle.rg_linear.specs.Norm.{row_norm, kept_norm};
 
 use crate::row_numbers::RowNumbers;
+use rg_cert_meaning::RowName;
 use rg_fraction::Fraction;
-use rg_refuting::RowName;
 use std::sync::ArcSlice;
 
 /// A row over the columns: it is the named row times the factor, which is positive. Its numbers are its coefficients,

@@ -5,21 +5,21 @@ ghost use Rattle.rg_theory.specs.Limits.{most_labels};
 ghost use Rattle.rg_theory.specs.System.{labels};
 ghost use Rattle.rg_spanning.specs.Spanning.{IsTreeOf};
 ghost use Rattle.rg_cycles.specs.View.{labels_of, cycle_of};
-ghost use Rattle.rg_order_of_work.specs.Rewriting.{column_count};
+ghost use Rattle.rg_case_folds.specs.Rewriting.{column_count};
 ghost use Rattle.rg_case_parts.specs.SettingViews.{shown_setting};
 ghost use Rattle.rg_case_parts.specs.ColumnViews.{AreColumns};
 ghost use Rattle.rg_rows.specs.Sharing.{or_wide, AreRowsOfKind, AreTermsOfKind, IsCommonOf, IsRowInCase, AreTermsInCase};
-ghost use Rattle.rg_order_of_work.specs.Setting.{Setting as ShownSetting, CaseSetting};
+ghost use Rattle.rg_case_folds.specs.Setting.{Setting as ShownSetting, CaseSetting};
 
 use crate::case_row::CaseRow;
 use crate::form_terms::FormTerms;
 use crate::kind::Kind;
 use crate::rewriting::{form_terms, row};
 use rg_case_parts::{Columns, Setting};
+use rg_cert_meaning::RowName;
 use rg_cycles::Basis;
 use rg_fraction::FoldStop;
 use rg_integers::Wide;
-use rg_refuting::RowName;
 use std::alloc::{AllocError, Global};
 
 /// The rows and forms of a system and a class that don't depend on the problem: `tokens` and `cap` by state, `up`, `down`

@@ -1,7 +1,7 @@
 //! Rows and forms in memory of their own.
 ghost use Rattle.std.specs.Prelude.{◌≡◌, map, IfOk};
-ghost use Rattle.rg_order_of_work.specs.Setting.{Setting};
-ghost use Rattle.rg_order_of_work.specs.Fold.{shown_result};
+ghost use Rattle.rg_case_folds.specs.Setting.{Setting};
+ghost use Rattle.rg_case_folds.specs.Fold.{shown_result};
 ghost use Rattle.rg_rows.specs.View.{kept_row, terms_of};
 ghost use Rattle.rg_rows.specs.Sharing.{IsCommonOf};
 

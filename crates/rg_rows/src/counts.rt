@@ -2,12 +2,12 @@
 ghost use Rattle.std.specs.Prelude.{◌≡◌, ℕ, ◌<◌, ◌≤◌, length, map, All, IfOk};
 ghost use Rattle.rg_integers.specs.Range.{InRange};
 ghost use Rattle.rg_integers.specs.Sum.{number_at};
-ghost use Rattle.rg_order_of_work.specs.Rewriting.{count_of};
-ghost use Rattle.rg_reasons.specs.Sums.{expression_of};
+ghost use Rattle.rg_case_folds.specs.Rewriting.{count_of};
+ghost use Rattle.rg_cert_data.specs.Sums.{expression_of};
 ghost use Rattle.rg_case_parts.specs.StatesNamed.{TermNamesStateBelow};
 
 use rg_case_parts::count;
-use rg_reasons::Expression;
+use rg_cert_data::Expression;
 use rg_spanning::Tree;
 use std::alloc::{AllocError, Global};
 

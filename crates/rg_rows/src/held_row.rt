@@ -2,22 +2,22 @@
 ghost use Rattle.std.specs.Prelude.{◌≡◌, [], length, IfOk};
 ghost use Rattle.std.specs.Arc.{arc_slice_items};
 ghost use Rattle.rg_theory.specs.System.{labels};
-ghost use Rattle.rg_refuting.specs.Row.{row_expression};
-ghost use Rattle.rg_reasons.specs.Sums.{expression_of};
+ghost use Rattle.rg_cert_meaning.specs.Row.{row_expression};
+ghost use Rattle.rg_cert_data.specs.Sums.{expression_of};
 ghost use Rattle.rg_spanning.specs.Spanning.{IsTreeOf};
 ghost use Rattle.rg_cycles.specs.View.{labels_of};
 ghost use Rattle.rg_case_parts.specs.SettingViews.{shown_setting, shown_case};
 ghost use Rattle.rg_rows.specs.View.{kept_row, row_in, columns_in, IsNameWithin, fold_of};
 ghost use Rattle.rg_rows.specs.Sharing.{IsCommonOf};
-ghost use Rattle.rg_order_of_work.specs.Fold.{Comes};
+ghost use Rattle.rg_case_folds.specs.Fold.{Comes};
 
 use crate::case_row::CaseRow;
 use crate::common::Common;
 use crate::rewriting::row;
 use rg_case_parts::CaseSetting;
+use rg_cert_data::{Expression, expression};
+use rg_cert_meaning::RowName;
 use rg_fraction::FoldStop;
-use rg_reasons::{Expression, expression};
-use rg_refuting::RowName;
 use std::alloc::Global;
 
 // A row of a case.

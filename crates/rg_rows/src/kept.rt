@@ -1,15 +1,15 @@
 //! Which rows are kept.
 ghost use Rattle.std.specs.Prelude.{◌↔◌, ◌≡◌, ◌^◌, ◌<◌, ◌++◌, ◌∷◌, [], List, length, IsTrue, map, IfOk, OnOk};
-ghost use Rattle.rg_linear.specs.Firsts.{KeepsFirsts};
-ghost use Rattle.rg_order_of_work.specs.Rewriting.{KeptRow, IsIdle};
+ghost use Rattle.rg_linear.specs.Firsts.{KeepsEqualRows};
+ghost use Rattle.rg_case_folds.specs.Rewriting.{KeptRow, IsIdle};
 ghost use Rattle.rg_rows.specs.View.{kept_row, row_in, ShowsRows, AreIndices};
 
 use crate::case_row::CaseRow;
 use crate::held_row::HeldRow;
 use indexmap::IndexSet;
+use rg_cert_meaning::RowName;
 use rg_fraction::Fraction;
 use rg_linear::Row;
-use rg_refuting::RowName;
 use std::alloc::{AllocError, Global};
 
 /// Rows, each with its name and its factor.
@@ -24,7 +24,7 @@ pub(crate) struct CaseRows {
 // that are kept, and for each row the number of the kept row that it is, 0 where it is left out.
 pub(crate) fn firsts(alloc: Global, all: &[HeldRow<'_>]) -> Result<(CaseRows, Vec<u32>), AllocError>
     requires few { length all.now < 2 ^ 32 }
-    ensures { IfOk result (λ r. (kept : List KeptRow) × ShowsRows r.0 kept × KeepsFirsts (λ k. k.row) IsIdle [] (map kept_row (map row_in all.now)) kept × AreIndices (map kept_row (map row_in all.now)) kept r.1.items) }
+    ensures { IfOk result (λ r. (kept : List KeptRow) × ShowsRows r.0 kept × KeepsEqualRows (λ k. k.row) IsIdle [] (map kept_row (map row_in all.now)) kept × AreIndices (map kept_row (map row_in all.now)) kept r.1.items) }
 {
     let mut seen = IndexSet::with_capacity(alloc, all.len())?;
     let mut indices = Vec::with_capacity(alloc, all.len())?;

@@ -1,13 +1,13 @@
 //! The rows that speak of no problem.
 ghost use Rattle.std.specs.Prelude.{◌≡◌, []};
-ghost use Rattle.rg_refuting.specs.Row.{shared_expression};
-ghost use Rattle.rg_reasons.specs.Sums.{expression_of};
+ghost use Rattle.rg_cert_meaning.specs.Row.{shared_expression};
+ghost use Rattle.rg_cert_data.specs.Sums.{expression_of};
 ghost use Rattle.rg_rows.specs.Sharing.{row_of_kind, rows_of_kind, forms_of_kind};
 
 use rg_case_parts::has_start;
+use rg_cert_data::{Expression, ProblemCase, expression};
+use rg_cert_meaning::RowName;
 use rg_lts::Lts;
-use rg_reasons::{Expression, ProblemCase, expression};
-use rg_refuting::RowName;
 use rg_theory::{Class, Problem};
 
 // A kind of rows that speak of no problem: `Tokens` and `Cap` have one by state, the others one by label.

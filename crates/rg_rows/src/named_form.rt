@@ -1,5 +1,5 @@
 //! A form with its name.
-use rg_refuting::Form;
+use rg_cert_meaning::Form;
 use std::sync::ArcSlice;
 
 /// A form of a case, the tokens at a state, the effect of a label or the tokens at the start in steps of the class's

@@ -1,15 +1,15 @@
 //! The named rows of a case.
 ghost use Rattle.std.specs.Prelude.{◌≡◌, ◌<◌, ◌++◌, length, map, IfOk, OnOk};
 ghost use Rattle.rg_theory.specs.System.{states, labels};
-ghost use Rattle.rg_refuting.specs.Refutes.{IsSeparationProblem};
-ghost use Rattle.rg_order_of_work.specs.Rewriting.{all_numbers, problem_rows, names_of};
+ghost use Rattle.rg_cert_meaning.specs.Refutes.{IsSeparationProblem};
+ghost use Rattle.rg_case_folds.specs.Rewriting.{all_numbers, problem_rows, names_of};
 ghost use Rattle.rg_case_parts.specs.ColumnViews.{AreColumns};
 ghost use Rattle.rg_rows.specs.View.{users, makers};
-ghost use Rattle.rg_refuting.specs.declared.RowName.TheVariants as row_name;
+ghost use Rattle.rg_cert_meaning.specs.declared.RowName.TheVariants as row_name;
 
 use crate::problem_names::problem_rows;
 use rg_case_parts::{CaseSetting, Columns, Setting};
-use rg_refuting::RowName;
+use rg_cert_meaning::RowName;
 use std::alloc::{AllocError, Global};
 
 // The rows in order: those of the problem; `tokens` by state where Start is a column; in a bounded class `cap` by

@@ -1,13 +1,13 @@
 //! The rows of a problem itself.
 ghost use Rattle.std.specs.Prelude.{◌≡◌, ◌<◌, ◌++◌, ◌∷◌, [], map, IfOk, OnOk};
 ghost use Rattle.rg_theory.specs.System.{labels};
-ghost use Rattle.rg_refuting.specs.Refutes.{IsSeparationProblem};
-ghost use Rattle.rg_order_of_work.specs.Rewriting.{states_with, problem_rows};
-ghost use Rattle.rg_refuting.specs.declared.RowName.TheVariants as row_name;
+ghost use Rattle.rg_cert_meaning.specs.Refutes.{IsSeparationProblem};
+ghost use Rattle.rg_case_folds.specs.Rewriting.{states_with, problem_rows};
+ghost use Rattle.rg_cert_meaning.specs.declared.RowName.TheVariants as row_name;
 
 use rg_case_parts::states_with;
+use rg_cert_meaning::RowName;
 use rg_lts::Lts;
-use rg_refuting::RowName;
 use rg_theory::{Class, Problem};
 use std::alloc::{AllocError, Global};
 

@@ -6,17 +6,17 @@ use Rattle.std.proofs.lemmas.List.{length-map}
 use Rattle.rg_theory.specs.declared.Problem.{Problem}
 use Rattle.rg_theory.specs.declared.Problem.TheVariants.{Event, States}
 use Rattle.rg_theory.specs.Net.{Place}
-use Rattle.rg_refuting.specs.Row.{cases_of}
-use Rattle.rg_refuting.specs.Refutes.{Tree}
-use Rattle.rg_order_of_work.specs.Setting.{Setting as ShownSetting, case_at}
-use Rattle.rg_order_of_work.specs.Shown.{Shown, IsLive}
-use Rattle.rg_reasons.specs.declared.certificate.Case.{Case}
-use Rattle.rg_reasons.specs.Certificates.{case_tree}
+use Rattle.rg_cert_meaning.specs.Row.{cases_of}
+use Rattle.rg_cert_meaning.specs.Refutes.{Tree}
+use Rattle.rg_case_folds.specs.Setting.{Setting as ShownSetting, case_at}
+use Rattle.rg_case_folds.specs.Shown.{Shown, IsLive}
+use Rattle.rg_cert_data.specs.declared.certificate.Case.{Case}
+use Rattle.rg_cert_data.specs.Certificates.{case_tree}
 use Rattle.rg_outcome.specs.Casing.{CaseResult, CaseComes, CaseResult.makes, CaseResult.refutes, CaseResult.passes}
 use Rattle.rg_outcome.specs.Solving as solved
 use Rattle.rg_outcome.specs.Solving.{Solved, ProblemComes, NoneMakes, NonePasses, CasesCome, CasesCome.first_place, CasesCome.all_refuted, CasesCome.first_term, Solved.placed, Solved.passed}
 use Rattle.rg_separate.specs.declared.problem.Tried.{Tried}
-use Rattle.rg_reasons.specs.declared.wide_at.WideAt.{WideAt}
+use Rattle.rg_cert_data.specs.declared.wide_at.WideAt.{WideAt}
 use Rattle.rg_separate.specs.View.{shown_of}
 use Rattle.rg_separate.specs.Deciding.{HaveCome}
 use Rattle.rg_separate.proofs.Trying.{case_more}

@@ -5,16 +5,16 @@ use Rattle.rg_theory.specs.System.{System}
 use Rattle.rg_lts.specs.WellFormed.{IsWellFormed}
 use Rattle.rg_theory.specs.Net.{Place}
 use Rattle.rg_theory.specs.declared.Problem.{Problem}
-use Rattle.rg_refuting.specs.Refutes.{Tree}
+use Rattle.rg_cert_meaning.specs.Refutes.{Tree}
 use Rattle.rg_net.specs.Shown.{shown_place}
 use Rattle.rg_net.specs.declared.net.Place.{Place as PlaceOfCode}
-use Rattle.rg_order_of_work.specs.Shown.{Shown, CycleShown}
+use Rattle.rg_case_folds.specs.Shown.{Shown, CycleShown}
 use Rattle.rg_theory.specs.declared.Class.{Class}
 use Rattle.rg_marks.specs.declared.separated.Separated.{Separated}
 use Rattle.rg_marks.specs.declared.firsts.Firsts.{Firsts}
 use Rattle.rg_cycles.specs.declared.stop.CycleWide.{CycleWide}
 use Rattle.rg_cycles.specs.View.{cycle_of}
-use Rattle.rg_reasons.specs.declared.certificate.Reason.{Reason}
+use Rattle.rg_cert_data.specs.declared.certificate.Reason.{Reason}
 use Rattle.rg_marks.specs.declared.region_place.RegionPlace.{RegionPlace}
 use Rattle.rg_outcome.specs.Solving as solved
 use Rattle.rg_outcome.specs.Solving.{Solved, Solved.placed, Solved.passed, ProblemComes}
@@ -28,7 +28,7 @@ use Rattle.rg_blocks.specs.declared.separation.SeparationOutcome.TheVariants as 
 use Rattle.rg_separate.specs.declared.problem.ProblemAnswer.TheVariants as problem_answer
 use Rattle.rg_separate.specs.declared.separation.Separation.TheVariants as separation
 use Rattle.rg_case_parts.specs.declared.setting.Setting.{Setting}
-use Rattle.rg_reasons.specs.declared.wide_at.WideAt.{WideAt}
+use Rattle.rg_cert_data.specs.declared.wide_at.WideAt.{WideAt}
 use Rattle.rg_separate.specs.Passing.{cycle_passed}
 use Rattle.rg_separate.specs.View.{shown_of}
 use Rattle.rg_separate.specs.Answer.{AreSeparating, IsSearched}

@@ -10,23 +10,23 @@ use Rattle.rg_integers.specs.declared.term.Wide.{Wide}
 use Rattle.rg_fraction.specs.declared.fraction.Fraction.{Fraction}
 use Rattle.rg_fraction.specs.Fractions.{IsValue, IsProduct, numerator_of, denominator_of}
 use Rattle.rg_integers.specs.Range.{InRange}
-use Rattle.rg_refuting.specs.Row.{Side}
+use Rattle.rg_cert_meaning.specs.Row.{Side}
 use Rattle.rg_linear.specs.System.{LinearSystem}
 use Rattle.rg_linear.specs.Branching.{Weight, weights_from, form_at, SplitSide}
-use Rattle.rg_order_of_work.specs.Fold.{Ratio, whole, ratio_of, shown_result, mul}
-use Rattle.rg_order_of_work.specs.Rewriting.{CaseSystem}
-use Rattle.rg_order_of_work.specs.Spreading.{share_fold, kept_at, name_of, side_at, named_at, split_factor, factor_of}
-use Rattle.rg_order_of_work.proofs.FoldLemmas.{ratio_one, new_step, mul_step}
-use Rattle.rg_order_of_work.proofs.Scaling.{whole_ratio}
+use Rattle.rg_case_folds.specs.Fold.{Ratio, whole, ratio_of, shown_result, mul}
+use Rattle.rg_case_folds.specs.Rewriting.{CaseSystem}
+use Rattle.rg_case_folds.specs.Spreading.{share_fold, kept_at, name_of, side_at, named_at, split_factor, factor_of}
+use Rattle.rg_case_folds.proofs.FoldLemmas.{ratio_one, new_step, mul_step}
+use Rattle.rg_case_folds.proofs.Scaling.{whole_ratio}
 use Rattle.rg_rows.specs.declared.named_system.NamedSystem.{NamedSystem}
 use Rattle.rg_rows.specs.declared.named_form.NamedForm.{NamedForm}
 use Rattle.rg_rows.specs.Forms.{linear_form, split_of}
 use Rattle.rg_rows.specs.Shown.{ShowsCase}
 use Rattle.rg_farkas.specs.Leaves.{share_of}
 use Rattle.rg_separate.specs.Casing.{sides_among}
-use Rattle.rg_refuting.specs.declared.RowName.{RowName}
-use Rattle.rg_refuting.specs.declared.RowName.TheVariants as row_name
-use Rattle.rg_refuting.specs.declared.Form.TheVariants as split_form
+use Rattle.rg_cert_meaning.specs.declared.RowName.{RowName}
+use Rattle.rg_cert_meaning.specs.declared.RowName.TheVariants as row_name
+use Rattle.rg_cert_meaning.specs.declared.Form.TheVariants as split_form
 
 -- ---- the weights of multipliers
 

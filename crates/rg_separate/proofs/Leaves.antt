@@ -8,23 +8,23 @@ use Rattle.std.proofs.lemmas.List.Elements.{All-nil, All-cons, All-map, All-weak
 use Rattle.rg_theory.specs.System.{System}
 use Rattle.rg_theory.specs.declared.Class.{Class}
 use Rattle.rg_theory.specs.declared.Problem.{Problem}
-use Rattle.rg_refuting.specs.Row.{RowStands, row_expression, Side}
-use Rattle.rg_refuting.specs.declared.Form.{Form as SplitForm}
-use Rattle.rg_refuting.specs.Refutes.{LeafRefutes}
+use Rattle.rg_cert_meaning.specs.Row.{RowStands, row_expression, Side}
+use Rattle.rg_cert_meaning.specs.declared.Form.{Form as SplitForm}
+use Rattle.rg_cert_meaning.specs.Refutes.{LeafRefutes}
 use Rattle.rg_integers.specs.declared.term.Wide.{Wide}
 use Rattle.rg_fraction.specs.declared.fraction.Fraction.{Fraction}
 use Rattle.rg_linear.specs.Branching.{SplitSide, side_row, Weight, SplitTree, BranchOutcome.tree, Branching, Form, form_at, weights_from, node_system}
-use Rattle.rg_order_of_work.specs.Setting.{Setting as ShownSetting}
-use Rattle.rg_order_of_work.specs.Fold.{each}
-use Rattle.rg_order_of_work.specs.Meaning.{IsCaseOver}
-use Rattle.rg_order_of_work.specs.Rewriting.{CaseSystem, split_forms, form_low, form_fold, rows_of}
-use Rattle.rg_order_of_work.proofs.Forms.{IsSplitOf, split_is}
-use Rattle.rg_order_of_work.specs.Spreading.{Share, share_fold, leaf_fold, spread_fold}
-use Rattle.rg_order_of_work.specs.Shown.{SpreadShown, HasLeaf, named_side, named_sides}
+use Rattle.rg_case_folds.specs.Setting.{Setting as ShownSetting}
+use Rattle.rg_case_folds.specs.Fold.{each}
+use Rattle.rg_case_folds.specs.Meaning.{IsCaseOver}
+use Rattle.rg_case_folds.specs.Rewriting.{CaseSystem, split_forms, form_low, form_fold, rows_of}
+use Rattle.rg_case_folds.proofs.Forms.{IsSplitOf, split_is}
+use Rattle.rg_case_folds.specs.Spreading.{Share, share_fold, leaf_fold, spread_fold}
+use Rattle.rg_case_folds.specs.Shown.{SpreadShown, HasLeaf, named_side, named_sides}
 use Rattle.rg_cycles.specs.View.{cycle_of}
-use Rattle.rg_reasons.specs.Trees as reasons
-use Rattle.rg_splits.specs.Trees.{TreeNode.leaf_node, TreeNode.split_node}
-use Rattle.rg_reasons.specs.Certificates.{IsFormOf, IsNodeOf}
+use Rattle.rg_cert_data.specs.Trees as reasons
+use Rattle.rg_branch_trees.specs.Trees.{TreeNode.leaf_node, TreeNode.split_node}
+use Rattle.rg_cert_data.specs.Certificates.{IsFormOf, IsNodeOf}
 use Rattle.rg_branch.specs.View.{TreeNode}
 use Rattle.rg_branch.specs.Asked.{IsSideOf}
 use Rattle.rg_rows.specs.declared.named_system.NamedSystem.{NamedSystem}
@@ -34,7 +34,7 @@ use Rattle.rg_rows.specs.Shown.{ShowsCase}
 use Rattle.rg_farkas.specs.Refuting.{SharesRefute}
 use Rattle.rg_farkas.specs.Leaves.{share_of, IsLeafWith, RefutesCase}
 use Rattle.rg_farkas.proofs.Multipliers.{node_names_stand, node_names_in_range, node_shares_refute}
-use Rattle.rg_reasons.specs.declared.wide_at.Stage.TheVariants.{Spread}
+use Rattle.rg_cert_data.specs.declared.wide_at.Stage.TheVariants.{Spread}
 use Rattle.rg_case_parts.specs.SettingViews.{shown_setting, shown_case}
 use Rattle.rg_case_parts.specs.declared.setting.CaseSetting.{CaseSetting}
 use Rattle.rg_separate.specs.Casing.{IsCase, IsNamedSystem, forms_in, AreRefuting, VisitStands, IsMadeOf, sides_among, SharesFold, LeafPasses}
@@ -42,8 +42,8 @@ use Rattle.rg_separate.specs.Passing.{passed_at}
 use Rattle.rg_separate.proofs.Factors.{weights_are, weights_few}
 use Rattle.rg_separate.proofs.PlaceOfPoint.{asked, case_over}
 use Rattle.rg_separate.proofs.Walking.{IsWalk, walk_leaf}
-use Rattle.rg_refuting.specs.declared.RowName.{RowName}
-use Rattle.rg_refuting.specs.declared.Form.TheVariants as split_form
+use Rattle.rg_cert_meaning.specs.declared.RowName.{RowName}
+use Rattle.rg_cert_meaning.specs.declared.Form.TheVariants as split_form
 
 -- ---- the forms of a class are of the system
 

@@ -3,9 +3,9 @@ use Rattle.std.proofs.Common.{◌≡◌, ℕ, List, [], Err, refl, subst}
 use Rattle.std.specs.Prelude.{ℤ}
 use Rattle.rg_integers.specs.declared.term.Wide.{Wide}
 use Rattle.rg_linear.specs.Branching.{SplitSide, Branching, BranchOutcome.stopped}
-use Rattle.rg_order_of_work.specs.Rewriting.{system_fold}
-use Rattle.rg_order_of_work.specs.Shown.{CycleShown, RowShown, PivotShown, named_sides}
-use Rattle.rg_order_of_work.specs.Chords.{chord_vectors}
+use Rattle.rg_case_folds.specs.Rewriting.{system_fold}
+use Rattle.rg_case_folds.specs.Shown.{CycleShown, RowShown, PivotShown, named_sides}
+use Rattle.rg_case_folds.specs.Chords.{chord_vectors}
 use Rattle.rg_theory.specs.declared.Arc.{Arc}
 use Rattle.rg_theory.specs.System.{System, labels}
 use Rattle.rg_theory.specs.Tree.{IsTree}
@@ -17,7 +17,7 @@ use Rattle.rg_cycles.specs.View.{cycle_of}
 use Rattle.rg_feasible.specs.declared.settled.PivotWide.{PivotWide}
 use Rattle.rg_feasible.specs.Settling.{wide_at}
 use Rattle.rg_rows.specs.declared.named_system.NamedSystem.{NamedSystem}
-use Rattle.rg_reasons.specs.declared.wide_at.Stage.TheVariants.{Row}
+use Rattle.rg_cert_data.specs.declared.wide_at.Stage.TheVariants.{Row}
 use Rattle.rg_case_parts.specs.SettingViews.{shown_case}
 use Rattle.rg_case_parts.specs.declared.setting.CaseSetting.{CaseSetting}
 use Rattle.rg_separate.specs.Casing.{IsCase, IsNamedSystem, forms_in}

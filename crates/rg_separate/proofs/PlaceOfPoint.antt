@@ -7,7 +7,7 @@ use Rattle.rg_theory.specs.declared.Class.{Class}
 use Rattle.rg_theory.specs.declared.Problem.{Problem}
 use Rattle.rg_theory.specs.declared.Problem.TheVariants.{Event, States}
 use Rattle.rg_theory.specs.Problem.{IsProblem}
-use Rattle.rg_refuting.specs.Refutes.{IsSeparationProblem}
+use Rattle.rg_cert_meaning.specs.Refutes.{IsSeparationProblem}
 use Rattle.rg_integers.specs.Value.{SameValue}
 use Rattle.rg_integers.specs.declared.term.Wide.{Wide}
 use Rattle.rg_fraction.specs.declared.fraction.Fraction.{Fraction}
@@ -19,12 +19,12 @@ use Rattle.rg_linear.proofs.Having.{columns_have}
 use Rattle.rg_linear.proofs.Widths.{descent_has}
 use Rattle.rg_linear.proofs.Splits.{found_well}
 use Rattle.rg_linear.specs.Cycle.{CycleBasis}
-use Rattle.rg_order_of_work.specs.Fold.{Ratio, whole, ratio_of}
-use Rattle.rg_order_of_work.specs.Rewriting.{column_count, rows_of}
-use Rattle.rg_order_of_work.specs.Placing.{ratio_at, place_fold}
-use Rattle.rg_order_of_work.specs.Shown.{IsValueAt, PointOf, PlaceShown, named_sides}
-use Rattle.rg_order_of_work.specs.Meaning.{IsCaseOver}
-use Rattle.rg_order_of_work.proofs.ColumnValues.{columns_of_case}
+use Rattle.rg_case_folds.specs.Fold.{Ratio, whole, ratio_of}
+use Rattle.rg_case_folds.specs.Rewriting.{column_count, rows_of}
+use Rattle.rg_case_folds.specs.Placing.{ratio_at, place_fold}
+use Rattle.rg_case_folds.specs.Shown.{IsValueAt, PointOf, PlaceShown, named_sides}
+use Rattle.rg_case_folds.specs.Meaning.{IsCaseOver}
+use Rattle.rg_case_folds.proofs.ColumnValues.{columns_of_case}
 use Rattle.rg_cycles.specs.View.{cycle_of}
 use Rattle.rg_theory.specs.Net.{Place}
 use Rattle.rg_outcome.specs.Casing.{CaseResult.makes, CaseResult.passes, CaseComes, CaseComes.place_is_made, CaseComes.place_passes}
@@ -32,7 +32,7 @@ use Rattle.rg_branch.specs.Answer.{AreValuesAt, IsFoundPoint, IsWholeSolution}
 use Rattle.rg_rows.specs.declared.named_system.NamedSystem.{NamedSystem}
 use Rattle.rg_places.specs.PointValues.{ratios_of, point_start, point_value, SolvesCase}
 use Rattle.rg_places.proofs.PointPlaces.{point_of}
-use Rattle.rg_reasons.specs.declared.wide_at.Stage.TheVariants.{Place as PlaceStage}
+use Rattle.rg_cert_data.specs.declared.wide_at.Stage.TheVariants.{Place as PlaceStage}
 use Rattle.rg_case_parts.specs.SettingViews.{shown_setting, shown_case}
 use Rattle.rg_case_parts.specs.declared.setting.CaseSetting.{CaseSetting}
 use Rattle.rg_separate.specs.Casing.{IsCase, IsNamedSystem, forms_in}

@@ -11,10 +11,10 @@ use Rattle.rg_linear.specs.Dictionary.{Relation, DictionaryRow, HasDictionary}
 use Rattle.rg_linear.proofs.Members.{is_member}
 use Rattle.rg_linear.proofs.Points.{constant_left, zero_point_of}
 use Rattle.rg_feasible.specs.Settling.{IsBasicPoint}
-use Rattle.rg_order_of_work.specs.Fold.{whole, ratio_of, IsRatio}
-use Rattle.rg_order_of_work.specs.Shown.{IsValueAt}
-use Rattle.rg_order_of_work.proofs.FoldLemmas.{ratio_one, new_step}
-use Rattle.rg_order_of_work.proofs.Scaling.{whole_ratio}
+use Rattle.rg_case_folds.specs.Fold.{whole, ratio_of, IsRatio}
+use Rattle.rg_case_folds.specs.Shown.{IsValueAt}
+use Rattle.rg_case_folds.proofs.FoldLemmas.{ratio_one, new_step}
+use Rattle.rg_case_folds.proofs.Scaling.{whole_ratio}
 
 -- ---- the values at a set
 

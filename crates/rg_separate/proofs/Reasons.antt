@@ -11,11 +11,11 @@ use Rattle.rg_theory.specs.declared.Problem.TheVariants.{Event, States}
 use Rattle.rg_theory.specs.Problem.{IsProblem}
 use Rattle.rg_theory.specs.ClassWords.{HasNumbersInRange}
 use Rattle.rg_theory.proofs.Arcs.{arc_in_range}
-use Rattle.rg_refuting.specs.Row.{cases_of}
-use Rattle.rg_refuting.specs.Refutes.{Tree, TreeRefutes}
-use Rattle.rg_reasons.specs.declared.certificate.Case.{Case}
-use Rattle.rg_reasons.specs.declared.certificate.Reason.TheVariants as reason
-use Rattle.rg_reasons.specs.Certificates.{case_tree, IsTreeOf}
+use Rattle.rg_cert_meaning.specs.Row.{cases_of}
+use Rattle.rg_cert_meaning.specs.Refutes.{Tree, TreeRefutes}
+use Rattle.rg_cert_data.specs.declared.certificate.Case.{Case}
+use Rattle.rg_cert_data.specs.declared.certificate.Reason.TheVariants as reason
+use Rattle.rg_cert_data.specs.Certificates.{case_tree, IsTreeOf}
 use Rattle.rg_separate.specs.Deciding.{RefutesCase, IsGoodReason}
 
 -- where there are two states, some label leads to the one that isn't initial

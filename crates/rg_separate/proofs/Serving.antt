@@ -1,7 +1,7 @@
 -- What the problems solve with.
 use Rattle.std.proofs.Common.{◌≡◌, Result, Ok, Err, IfOk, ◌∙◌}
 use Rattle.rg_memory.specs.declared.NoMemory.{NoMemory}
-use Rattle.rg_order_of_work.specs.Setting.{Setting}
+use Rattle.rg_case_folds.specs.Setting.{Setting}
 use Rattle.rg_case_parts.specs.SettingViews.{shown_setting}
 use Rattle.rg_rows.specs.Sharing.{IsCommonOf}
 use Rattle.rg_separate.specs.declared.solving.Problems.{Problems}

@@ -3,16 +3,16 @@ use Rattle.std.proofs.Common.{◌≡◌, ℕ, ◌+◌, ◌<◌, List, [], ◌∷
 use Rattle.std.specs.Prelude.{Bool, ℤ}
 use Rattle.std.proofs.lemmas.List.{get_or-map, length-map, map-append, take_more}
 use Rattle.std.proofs.lemmas.List.Elements.{All-nil, All-cons, All-weaker}
-use Rattle.rg_refuting.specs.declared.Form.{Form as SplitForm}
-use Rattle.rg_refuting.specs.Row.{Side}
-use Rattle.rg_refuting.specs.Sides.{side_of}
+use Rattle.rg_cert_meaning.specs.declared.Form.{Form as SplitForm}
+use Rattle.rg_cert_meaning.specs.Row.{Side}
+use Rattle.rg_cert_meaning.specs.Sides.{side_of}
 use Rattle.rg_linear.specs.Branching.{Form, SplitSide, SidesWithin, Weight}
 use Rattle.rg_branch.specs.Asked.{IsSideOf, AreSidesOf}
 use Rattle.rg_branch.specs.View.{weight_of}
 use Rattle.rg_rows.specs.declared.named_form.NamedForm.{NamedForm}
 use Rattle.rg_rows.specs.Forms.{linear_form, split_of}
 use Rattle.rg_separate.specs.Casing.{sides_among}
-use Rattle.rg_refuting.specs.declared.Form.TheVariants as split_form
+use Rattle.rg_cert_meaning.specs.declared.Form.TheVariants as split_form
 
 -- one side by name
 abbrev named : List SplitForm → SplitSide → Side

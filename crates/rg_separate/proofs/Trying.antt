@@ -6,10 +6,10 @@ use Rattle.std.proofs.lemmas.List.{get_or_append_left, get_or_push}
 use Rattle.rg_theory.specs.System.{System}
 use Rattle.rg_theory.specs.declared.Class.{Class}
 use Rattle.rg_theory.specs.declared.Problem.{Problem}
-use Rattle.rg_order_of_work.specs.Shown.{ShownWide}
-use Rattle.rg_reasons.specs.declared.certificate.Case.{Case}
+use Rattle.rg_case_folds.specs.Shown.{ShownWide}
+use Rattle.rg_cert_data.specs.declared.certificate.Case.{Case}
 use Rattle.rg_separate.specs.declared.problem.Tried.{Tried}
-use Rattle.rg_reasons.specs.declared.wide_at.WideAt.{WideAt}
+use Rattle.rg_cert_data.specs.declared.wide_at.WideAt.{WideAt}
 use Rattle.rg_separate.specs.View.{shown_of}
 use Rattle.rg_separate.specs.Deciding.{RefutesCase, AreTried}
 

@@ -7,9 +7,9 @@ use Rattle.std.proofs.lemmas.List.{map-append, length-map}
 use Rattle.std.proofs.lemmas.List.Elements.{All-nil, All-cons, All-append, All-push, All-head, All-tail, All-weaker}
 use Rattle.rg_linear.specs.System.{LinearSystem}
 use Rattle.rg_linear.specs.Descent.{DescentFromStart, Outcome.point, multiplier_of}
-use Rattle.rg_splits.specs.Trees.{Tree.leaf, Tree.split, low_side, high_side, TreeNode.leaf_node, TreeNode.split_node, preorder, placed_nodes}
-use Rattle.rg_splits.specs.Turning.{turned}
-use Rattle.rg_splits.proofs.Turning.{turned_low, turned_high}
+use Rattle.rg_branch_trees.specs.Trees.{Tree.leaf, Tree.split, low_side, high_side, TreeNode.leaf_node, TreeNode.split_node, preorder, placed_nodes}
+use Rattle.rg_branch_trees.specs.Turning.{turned}
+use Rattle.rg_branch_trees.proofs.Turning.{turned_low, turned_high}
 use Rattle.rg_linear.specs.Branching.{Form, form_at, SplitSide, Weight, SplitTree, side_row, node_system}
 use Rattle.rg_linear.specs.Branching.{FirstFraction, BranchOutcome, BranchOutcome.found, BranchOutcome.tree, BranchOutcome.stopped, IsEnd, BranchFrom, BranchFrom.passes}
 use Rattle.rg_linear.specs.Branching.{BranchFrom.refutes, BranchFrom.whole, BranchFrom.low_ends, BranchFrom.high_ends, BranchFrom.both_refuted, Branching, AreBounded}
@@ -17,7 +17,7 @@ use Rattle.rg_linear.specs.Branching.{low_end, high_end, low_at, high_at}
 use Rattle.rg_linear.specs.Room.{room}
 use Rattle.rg_linear.proofs.Refuting.{refuted_is_sound}
 use Rattle.rg_linear.proofs.Endings.{Within, within_start, within_low, within_high, split_within, gap-low, gap-high}
-use Rattle.rg_order_of_work.specs.Shown.{HasLeaf}
+use Rattle.rg_case_folds.specs.Shown.{HasLeaf}
 use Rattle.rg_branch.specs.Asked.{IsSideOf, AreSidesOf}
 use Rattle.rg_separate.specs.Casing.{Visit, next_sides, VisitStands}
 

@@ -4,24 +4,24 @@ use Rattle.std.specs.Prelude.{ℤ, slice_index_or}
 use Rattle.std.proofs.lemmas.List.{map-append, length-map, get_or_default}
 use Rattle.std.proofs.Math.Seq.{get_or-append_seam}
 use Rattle.std.proofs.lemmas.List.Elements.{All-nil, All-push, All-head, All-tail}
-use Rattle.rg_refuting.specs.Row.{FormStands, Side}
-use Rattle.rg_refuting.specs.declared.Form.{Form}
+use Rattle.rg_cert_meaning.specs.Row.{FormStands, Side}
+use Rattle.rg_cert_meaning.specs.declared.Form.{Form}
 use Rattle.rg_theory.specs.System.{System}
 use Rattle.rg_theory.specs.declared.Class.{Class}
 use Rattle.rg_theory.specs.declared.Problem.{Problem}
-use Rattle.rg_splits.specs.Trees.{Tree.leaf, Tree.split, low_side, high_side, TreeNode.leaf_node, TreeNode.split_node, preorder, placed_nodes}
-use Rattle.rg_refuting.specs.Refutes.{Tree, TreeRefutes}
+use Rattle.rg_branch_trees.specs.Trees.{Tree.leaf, Tree.split, low_side, high_side, TreeNode.leaf_node, TreeNode.split_node, preorder, placed_nodes}
+use Rattle.rg_cert_meaning.specs.Refutes.{Tree, TreeRefutes}
 use Rattle.rg_integers.specs.declared.term.Wide.{Wide}
 use Rattle.rg_linear.specs.Branching.{SplitSide, Weight, SplitTree, BranchOutcome.tree, Branching, AreBounded}
 use Rattle.rg_linear.specs.Room.{room}
-use Rattle.rg_order_of_work.specs.Rewriting.{split_forms, CaseSystem, rows_of}
-use Rattle.rg_order_of_work.proofs.Forms.{IsSplitOf, split_is, start_split}
-use Rattle.rg_order_of_work.specs.Shown.{HasLeaf, named_side, named_sides}
-use Rattle.rg_reasons.specs.declared.certificate.Case.{Case}
-use Rattle.rg_reasons.specs.Trees as reasons
-use Rattle.rg_reasons.specs.Trees.{nodes_of}
-use Rattle.rg_reasons.specs.Certificates.{IsNodeOf, case_tree}
-use Rattle.rg_reasons.proofs.Trees.{tree_is}
+use Rattle.rg_case_folds.specs.Rewriting.{split_forms, CaseSystem, rows_of}
+use Rattle.rg_case_folds.proofs.Forms.{IsSplitOf, split_is, start_split}
+use Rattle.rg_case_folds.specs.Shown.{HasLeaf, named_side, named_sides}
+use Rattle.rg_cert_data.specs.declared.certificate.Case.{Case}
+use Rattle.rg_cert_data.specs.Trees as reasons
+use Rattle.rg_cert_data.specs.Trees.{nodes_of}
+use Rattle.rg_cert_data.specs.Certificates.{IsNodeOf, case_tree}
+use Rattle.rg_cert_data.proofs.Trees.{tree_is}
 use Rattle.rg_branch.specs.View.{TreeNode}
 use Rattle.rg_branch.specs.Answer.{IsSplitTree}
 use Rattle.rg_outcome.specs.Casing.{spread_tree, CaseResult.passes, CaseComes, CaseComes.is_refuted, CaseComes.leaf_passes}
@@ -30,12 +30,12 @@ use Rattle.rg_rows.specs.Shown.{ShowsCase}
 use Rattle.rg_case_parts.specs.SettingViews.{shown_case}
 use Rattle.rg_separate.specs.declared.case.CaseAnswer.TheVariants as answer
 use Rattle.rg_case_parts.specs.declared.setting.CaseSetting.{CaseSetting}
-use Rattle.rg_reasons.specs.declared.wide_at.Stage.TheVariants.{Spread}
+use Rattle.rg_cert_data.specs.declared.wide_at.Stage.TheVariants.{Spread}
 use Rattle.rg_separate.specs.Casing.{IsNamedSystem, forms_in, Visit, next_sides, VisitStands, IsMadeOf, LeafPasses}
 use Rattle.rg_separate.specs.Passing.{passed_at}
 use Rattle.rg_separate.specs.Deciding.{RefutesCase, CaseComesTo}
 use Rattle.rg_separate.proofs.Visits.{Follows, tree_follows, nodes_visited, IsLeafOf, leaves_visited, visits_stand}
-use Rattle.rg_refuting.specs.declared.Form.TheVariants as split_form
+use Rattle.rg_cert_meaning.specs.declared.Form.TheVariants as split_form
 
 -- ---- the form of a split stands in the class
 

@@ -10,16 +10,16 @@ use Rattle.rg_integers.specs.Range.{greatest}
 use Rattle.rg_net.specs.declared.net.Place.{Place as PlaceOfCode}
 use Rattle.rg_marks.specs.declared.firsts.Firsts.{Firsts}
 use Rattle.rg_marks.specs.Firsts.{AreAllFirsts}
-use Rattle.rg_reasons.specs.declared.certificate.Certificate.{Certificate}
+use Rattle.rg_cert_data.specs.declared.certificate.Certificate.{Certificate}
 use Rattle.rg_net.specs.Shown.{shown_place}
 use Rattle.rg_theory.specs.declared.Problem.{Problem}
-use Rattle.rg_refuting.specs.Refutes.{Tree, Reason.refuted, Accepts}
+use Rattle.rg_cert_meaning.specs.Refutes.{Tree, Reason.refuted, Accepts}
 use Rattle.rg_outcome.specs.Coming as outcome
 use Rattle.rg_outcome.specs.Outcome.{Searched}
-use Rattle.rg_reasons.specs.Certificates.{reason_of, IsCertificateOf}
-use Rattle.rg_order_of_work.specs.Shown.{ShownWide}
+use Rattle.rg_cert_data.specs.Certificates.{reason_of, IsCertificateOf}
+use Rattle.rg_case_folds.specs.Shown.{ShownWide}
 use Rattle.rg_separate.specs.View.{shown_of}
-use Rattle.rg_reasons.specs.declared.wide_at.WideAt.{WideAt}
+use Rattle.rg_cert_data.specs.declared.wide_at.WideAt.{WideAt}
 use Rattle.rg_separate.specs.declared.separation.Separation.{Separation}
 use Rattle.rg_separate.specs.declared.separation.Separation.TheVariants.{Places, Unsolvable, TooWide}
 use Rattle.rg_separate.specs.declared.separation.SeparationWithFirsts.{SeparationWithFirsts}

@@ -1,29 +1,29 @@
 -- One case: its system, and what its branching leaves.
 use Rattle.std.specs.Prelude.{◌≡◌, ℕ, ◌^◌, ◌<◌, List, [], ◌∷◌, ◌++◌, map, length, slice_index_or, ℤ, ◌≤ℤ◌, Result, Ok, Err}
 use Rattle.rg_theory.specs.Problem.{IsProblem}
-use Rattle.rg_refuting.specs.Row.{RowStands, row_expression, cases_of, Side}
-use Rattle.rg_refuting.specs.declared.Form.{Form as SplitForm}
-use Rattle.rg_refuting.specs.Refutes.{NamedRow, LeafRefutes}
+use Rattle.rg_cert_meaning.specs.Row.{RowStands, row_expression, cases_of, Side}
+use Rattle.rg_cert_meaning.specs.declared.Form.{Form as SplitForm}
+use Rattle.rg_cert_meaning.specs.Refutes.{NamedRow, LeafRefutes}
 use Rattle.rg_integers.specs.declared.term.Wide.{Wide}
 use Rattle.rg_linear.specs.System.{LinearSystem, AreFarkasMultipliers}
-use Rattle.rg_splits.specs.Trees as splits
-use Rattle.rg_splits.specs.Trees.{low_side, TreeNode.leaf_node, TreeNode.split_node}
-use Rattle.rg_splits.specs.Turning.{turned}
+use Rattle.rg_branch_trees.specs.Trees as splits
+use Rattle.rg_branch_trees.specs.Trees.{low_side, TreeNode.leaf_node, TreeNode.split_node}
+use Rattle.rg_branch_trees.specs.Turning.{turned}
 use Rattle.rg_linear.specs.Branching.{Form, form_at, SplitSide, Weight, weights_from, node_system}
-use Rattle.rg_order_of_work.specs.Fold.{each}
-use Rattle.rg_order_of_work.specs.Rewriting.{CaseSystem, split_forms, system_fold}
-use Rattle.rg_order_of_work.specs.Spreading.{Share, share_fold, spread_fold}
-use Rattle.rg_order_of_work.specs.Shown.{IsLive, named_sides}
+use Rattle.rg_case_folds.specs.Fold.{each}
+use Rattle.rg_case_folds.specs.Rewriting.{CaseSystem, split_forms, system_fold}
+use Rattle.rg_case_folds.specs.Spreading.{Share, share_fold, spread_fold}
+use Rattle.rg_case_folds.specs.Shown.{IsLive, named_sides}
 use Rattle.rg_branch.specs.View.{TreeNode}
 use Rattle.rg_branch.specs.Asked.{AreSidesOf}
 use Rattle.rg_rows.specs.Forms.{linear_form, split_of, AreFormsOf}
 use Rattle.rg_rows.specs.Shown.{ShowsCase}
 use Rattle.rg_rows.specs.declared.named_system.NamedSystem.{NamedSystem}
-use Rattle.rg_reasons.specs.Trees as reasons
+use Rattle.rg_cert_data.specs.Trees as reasons
 use Rattle.rg_case_parts.specs.declared.setting.CaseSetting.{CaseSetting}
 use Rattle.rg_separate.specs.Keeping.{IsSetting}
 use Rattle.rg_case_parts.specs.SettingViews.{shown_case}
-use Rattle.rg_refuting.specs.declared.Form.TheVariants as split_form
+use Rattle.rg_cert_meaning.specs.declared.Form.TheVariants as split_form
 
 -- the problem is of the system, its label has an arc, and the case is one of its cases
 pub record IsCase (c : CaseSetting) : Type 0 where

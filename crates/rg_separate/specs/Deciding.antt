@@ -3,19 +3,19 @@ use Rattle.std.specs.Prelude.{◌≡◌, ◌⊎◌, ℕ, ◌<◌, List, [], leng
 use Rattle.rg_theory.specs.System.{System}
 use Rattle.rg_theory.specs.declared.Class.{Class}
 use Rattle.rg_theory.specs.declared.Problem.{Problem}
-use Rattle.rg_refuting.specs.Refutes.{Tree, Reason.refuted, TreeRefutes, Accepts}
+use Rattle.rg_cert_meaning.specs.Refutes.{Tree, Reason.refuted, TreeRefutes, Accepts}
 use Rattle.rg_net.specs.Shown.{shown_place}
-use Rattle.rg_order_of_work.specs.Setting.{case_at}
-use Rattle.rg_order_of_work.specs.Shown.{Shown, ShownWide}
+use Rattle.rg_case_folds.specs.Setting.{case_at}
+use Rattle.rg_case_folds.specs.Shown.{Shown, ShownWide}
 use Rattle.rg_outcome.specs.Casing.{CaseResult, CaseResult.makes, CaseResult.refutes, CaseResult.passes, CaseComes}
 use Rattle.rg_theory.specs.Problem.{IsProblem}
 use Rattle.rg_outcome.specs.Coming.{Separation, Separation.unsolvable, Separation.too_wide}
 use Rattle.rg_outcome.specs.Outcome.{Searched}
 use Rattle.rg_outcome.specs.Solving as solved
 use Rattle.rg_outcome.specs.Solving.{Solved.placed, Solved.passed, NoneMakes, NonePasses, ProblemComes}
-use Rattle.rg_reasons.specs.declared.certificate.Case.{Case}
-use Rattle.rg_reasons.specs.declared.certificate.Reason.{Reason}
-use Rattle.rg_reasons.specs.Certificates.{case_tree, reason_of, IsWhole, IsTreeOf, IsCertificateOf}
+use Rattle.rg_cert_data.specs.declared.certificate.Case.{Case}
+use Rattle.rg_cert_data.specs.declared.certificate.Reason.{Reason}
+use Rattle.rg_cert_data.specs.Certificates.{case_tree, reason_of, IsWhole, IsTreeOf, IsCertificateOf}
 use Rattle.rg_places.specs.RegionPlaces.{IsRegionPlace, PlaceSeparates}
 use Rattle.rg_case_parts.specs.SettingViews.{shown_setting, shown_case}
 use Rattle.rg_separate.specs.declared.case.CaseAnswer.{CaseAnswer}

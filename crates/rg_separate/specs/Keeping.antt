@@ -12,8 +12,8 @@ use Rattle.rg_marks.specs.Firsts.{AreAllFirsts}
 use Rattle.rg_marks.specs.declared.firsts.Firsts.{Firsts}
 use Rattle.rg_marks.specs.declared.separated.Separated.{Separated}
 use Rattle.rg_spanning.specs.Spanning.{IsTreeOf}
-use Rattle.rg_order_of_work.specs.Rewriting.{column_count}
-use Rattle.rg_order_of_work.specs.Chords.{IsBasis}
+use Rattle.rg_case_folds.specs.Rewriting.{column_count}
+use Rattle.rg_case_folds.specs.Chords.{IsBasis}
 use Rattle.rg_cycles.specs.View.{labels_of, cycle_of}
 use Rattle.rg_rows.specs.Sharing.{IsCommonOf}
 use Rattle.rg_marks.specs.declared.region_place.RegionPlace.{RegionPlace}

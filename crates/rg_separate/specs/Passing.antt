@@ -1,15 +1,15 @@
 -- What is shown of a number that passes.
 use Rattle.std.specs.Prelude.{ℕ, List, [], None}
-use Rattle.rg_refuting.specs.Row.{Side}
+use Rattle.rg_cert_meaning.specs.Row.{Side}
 use Rattle.rg_integers.specs.declared.term.Wide.{Wide}
-use Rattle.rg_order_of_work.specs.Shown as shown
-use Rattle.rg_order_of_work.specs.Shown.{Shown}
+use Rattle.rg_case_folds.specs.Shown as shown
+use Rattle.rg_case_folds.specs.Shown.{Shown}
 use Rattle.rg_cycles.specs.declared.stop.CycleWide.{CycleWide}
 use Rattle.rg_outcome.specs.Casing.{step_at, term_at}
 use Rattle.rg_feasible.specs.Settling.{wide_at}
 use Rattle.rg_feasible.specs.declared.settled.PivotWide.{PivotWide}
 use Rattle.rg_case_parts.specs.declared.setting.CaseSetting.{CaseSetting}
-use Rattle.rg_reasons.specs.declared.wide_at.Stage.{Stage}
+use Rattle.rg_cert_data.specs.declared.wide_at.Stage.{Stage}
 use Rattle.rg_separate.specs.View.{stage_of}
 
 -- the first step out of range in this stage of a case, below these sides

@@ -4,8 +4,8 @@ use Rattle.rg_theory.specs.declared.Problem.{Problem}
 use Rattle.rg_fraction.specs.declared.fraction.Fraction.{Fraction}
 use Rattle.rg_net.specs.declared.net.Place.{Place}
 use Rattle.rg_marks.specs.declared.region_place.RegionPlace.{RegionPlace}
-use Rattle.rg_order_of_work.specs.Setting.{Setting}
-use Rattle.rg_order_of_work.specs.Shown.{IsLive}
+use Rattle.rg_case_folds.specs.Setting.{Setting}
+use Rattle.rg_case_folds.specs.Shown.{IsLive}
 use Rattle.rg_places.specs.PointValues.{point_start, point_value, SolvesCase}
 use Rattle.rg_places.specs.RegionPlaces.{IsRegionPlace, PlaceSeparates, AreTokensMade}
 

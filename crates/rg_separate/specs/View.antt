@@ -1,11 +1,11 @@
 -- What a term out of range shows.
 use Rattle.std.specs.Prelude.{map}
-use Rattle.rg_refuting.specs.Sides.{side_of}
-use Rattle.rg_order_of_work.specs.Shown as shown
-use Rattle.rg_order_of_work.specs.Shown.{Shown}
-use Rattle.rg_reasons.specs.declared.wide_at.Stage.{Stage}
-use Rattle.rg_reasons.specs.declared.wide_at.Stage.TheVariants.{Cycle, Row, Pivot, Place, Spread}
-use Rattle.rg_reasons.specs.declared.wide_at.WideAt.{WideAt}
+use Rattle.rg_cert_meaning.specs.Sides.{side_of}
+use Rattle.rg_case_folds.specs.Shown as shown
+use Rattle.rg_case_folds.specs.Shown.{Shown}
+use Rattle.rg_cert_data.specs.declared.wide_at.Stage.{Stage}
+use Rattle.rg_cert_data.specs.declared.wide_at.Stage.TheVariants.{Cycle, Row, Pivot, Place, Spread}
+use Rattle.rg_cert_data.specs.declared.wide_at.WideAt.{WideAt}
 
 abbrev pub stage_of : Stage → shown.Stage
 stage_of Cycle = shown.Stage.cycle

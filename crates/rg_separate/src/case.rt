@@ -1,7 +1,7 @@
 //! One case of a problem.
 ghost use Rattle.std.specs.Prelude.{◌≡◌, map, IfOk};
 ghost use Rattle.rg_linear.specs.Branching.{form_at};
-ghost use Rattle.rg_refuting.specs.Sides.{side_of};
+ghost use Rattle.rg_cert_meaning.specs.Sides.{side_of};
 ghost use Rattle.rg_branch.specs.View.{forms_of};
 ghost use Rattle.rg_branch.specs.Asked.{CanBranch, AreSidesOf};
 ghost use Rattle.rg_rows.specs.Forms.{linear_form, split_of, AreFormsOf};
@@ -17,12 +17,12 @@ use crate::sides::named_triples;
 use crate::workspace::Workspace;
 use rg_branch::{Bounded, BranchStop, Solver, Whole};
 use rg_case_parts::CaseSetting;
+use rg_cert_data::{Case, Stage, WideAt};
+use rg_cert_meaning::Form;
 use rg_feasible::PivotWide;
 use rg_fraction::FoldStop;
 use rg_integers::Wide;
 use rg_marks::RegionPlace;
-use rg_reasons::{Case, Stage, WideAt};
-use rg_refuting::Form;
 use rg_rows::{NamedForm, NamedSystem, system_with};
 use std::alloc::{AllocError, Global};
 

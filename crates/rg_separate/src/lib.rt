@@ -15,6 +15,6 @@ mod solving;
 mod workspace;
 
 pub use place::make_place;
+pub use rg_cert_data::{Stage, WideAt};
 pub use rg_memory::NoMemory;
-pub use rg_reasons::{Stage, WideAt};
 pub use separation::{Separation, SeparationWithFirsts, separate, separate_with_firsts};

@@ -1,14 +1,14 @@
 //! The place of a point of one case.
 ghost use Rattle.std.specs.Prelude.{◌≡◌, ◌<◌, length, IfOk};
 ghost use Rattle.rg_theory.specs.System.{labels};
-ghost use Rattle.rg_refuting.specs.Refutes.{IsSeparationProblem};
-ghost use Rattle.rg_refuting.specs.Row.{cases_of};
+ghost use Rattle.rg_cert_meaning.specs.Refutes.{IsSeparationProblem};
+ghost use Rattle.rg_cert_meaning.specs.Row.{cases_of};
 ghost use Rattle.rg_spanning.specs.Spanning.{IsTreeOf};
 ghost use Rattle.rg_cycles.specs.View.{labels_of, cycle_of};
-ghost use Rattle.rg_order_of_work.specs.Setting.{setting_at};
-ghost use Rattle.rg_order_of_work.specs.Rewriting.{column_count};
-ghost use Rattle.rg_order_of_work.specs.Fold.{Comes};
-ghost use Rattle.rg_order_of_work.specs.Placing.{place_fold};
+ghost use Rattle.rg_case_folds.specs.Setting.{setting_at};
+ghost use Rattle.rg_case_folds.specs.Rewriting.{column_count};
+ghost use Rattle.rg_case_folds.specs.Fold.{Comes};
+ghost use Rattle.rg_case_folds.specs.Placing.{place_fold};
 ghost use Rattle.rg_net.specs.Shown.{shown_place};
 ghost use Rattle.rg_places.specs.PointValues.{point_start, point_value};
 ghost use Rattle.rg_separate.specs.Points.{IsPlaceOf};

@@ -6,12 +6,12 @@ ghost use Rattle.rg_separate.specs.Deciding.{CaseTells, CaseComesTo};
 
 use crate::case::{CaseAnswer, passed};
 use crate::sides::named_triples;
+use rg_branch_trees::Side;
 use rg_case_parts::CaseSetting;
+use rg_cert_data::Stage;
 use rg_fraction::{FoldStop, Fraction};
 use rg_places::make_place;
-use rg_reasons::Stage;
 use rg_rows::NamedSystem;
-use rg_splits::Side;
 use std::alloc::{AllocError, Global};
 
 // The place of the point at which the branching has ended, below these splits.

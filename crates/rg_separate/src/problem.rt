@@ -1,13 +1,13 @@
 //! One problem, by its cases.
 ghost use Rattle.std.specs.Prelude.{◌≡◌, ℕ, length, map, Some, unwrap_or, slice_get, IfOk};
-ghost use Rattle.rg_refuting.specs.Row.{cases_of};
-ghost use Rattle.rg_refuting.specs.Refutes.{Reason.refuted};
-ghost use Rattle.rg_reasons.specs.declared.certificate.Case.{Case};
-ghost use Rattle.rg_reasons.specs.Certificates.{case_tree, reason_of};
+ghost use Rattle.rg_cert_meaning.specs.Row.{cases_of};
+ghost use Rattle.rg_cert_meaning.specs.Refutes.{Reason.refuted};
+ghost use Rattle.rg_cert_data.specs.declared.certificate.Case.{Case};
+ghost use Rattle.rg_cert_data.specs.Certificates.{case_tree, reason_of};
 ghost use Rattle.rg_theory.specs.ClassWords.{HasNumbersInRange};
 ghost use Rattle.rg_theory.specs.System.{IsAllReachable};
 ghost use Rattle.rg_theory.specs.Problem.{IsProblem};
-ghost use Rattle.rg_order_of_work.specs.Shown.{IsLive};
+ghost use Rattle.rg_case_folds.specs.Shown.{IsLive};
 ghost use Rattle.rg_separate.specs.Keeping.{IsSetting, Serves};
 ghost use Rattle.rg_separate.specs.Deciding.{RefutesCase, AreTried, CasesCameTo, IsGoodReason, ProblemTells, ProblemComesTo};
 
@@ -15,9 +15,9 @@ use crate::case::{CaseAnswer, solve_case};
 use crate::dead::{blocked, is_dead};
 use crate::workspace::Workspace;
 use rg_case_parts::{CaseSetting, Setting};
+use rg_cert_data::{Case, Reason, WideAt};
 use rg_lts::Lts;
 use rg_marks::RegionPlace;
-use rg_reasons::{Case, Reason, WideAt};
 use rg_rows::cases;
 use rg_theory::{Class, Problem};
 use std::alloc::{AllocError, Global};

@@ -2,9 +2,9 @@
 ghost use Rattle.std.specs.Prelude.{◌≡◌, length, map, OnOk, IfOk, IsErrOf};
 ghost use Rattle.rg_integers.specs.declared.term.Wide.{Wide};
 ghost use Rattle.rg_fraction.specs.declared.fold_stop.FoldStop.TheVariants as stop;
-ghost use Rattle.rg_reasons.specs.Trees.{node_of as made_node_of};
-ghost use Rattle.rg_reasons.specs.Certificates.{IsNodeOf};
-ghost use Rattle.rg_splits.specs.Trees.{TreeNode.leaf_node};
+ghost use Rattle.rg_cert_data.specs.Trees.{node_of as made_node_of};
+ghost use Rattle.rg_cert_data.specs.Certificates.{IsNodeOf};
+ghost use Rattle.rg_branch_trees.specs.Trees.{TreeNode.leaf_node};
 ghost use Rattle.rg_branch.specs.View.{weight_of, node_of};
 ghost use Rattle.rg_branch.specs.Answer.{IsSplitTree};
 ghost use Rattle.rg_separate.specs.Casing.{IsCase, IsNamedSystem, forms_in, VisitStands, next_sides, IsMadeOf, LeafPasses};
@@ -14,12 +14,12 @@ use crate::case::{CaseAnswer, passed};
 use crate::shares::shares;
 use crate::sides::{named_sides, named_triples};
 use rg_branch::RawNode;
+use rg_branch_trees::{Side, turn};
 use rg_case_parts::CaseSetting;
+use rg_cert_data::{Case, Node, Stage};
 use rg_farkas::spread_in;
 use rg_fraction::FoldStop;
-use rg_reasons::{Case, Node, Stage};
 use rg_rows::NamedSystem;
-use rg_splits::{Side, turn};
 use std::alloc::{AllocError, Global};
 
 // The tree with which the branching has ended, node by node in preorder.

@@ -1,20 +1,20 @@
 //! The named rows of a leaf with their multipliers.
 ghost use Rattle.std.specs.Prelude.{◌≡◌, ◌+◌, ◌<◌, ◌≤ℤ◌, pos, length, map, All, IfOk};
 ghost use Rattle.rg_integers.specs.Range.{InRange};
-ghost use Rattle.rg_order_of_work.specs.Fold.{Comes, whole, ratio_of, shown_result};
-ghost use Rattle.rg_order_of_work.specs.Rewriting.{CaseSystem};
-ghost use Rattle.rg_order_of_work.specs.Spreading.{share_fold, name_of, split_factor, factor_of};
+ghost use Rattle.rg_case_folds.specs.Fold.{Comes, whole, ratio_of, shown_result};
+ghost use Rattle.rg_case_folds.specs.Rewriting.{CaseSystem};
+ghost use Rattle.rg_case_folds.specs.Spreading.{share_fold, name_of, split_factor, factor_of};
 ghost use Rattle.rg_branch.specs.View.{weight_of};
 ghost use Rattle.rg_rows.specs.Forms.{linear_form, split_of};
 ghost use Rattle.rg_rows.specs.Shown.{ShowsCase};
 ghost use Rattle.rg_farkas.specs.Leaves.{share_of};
 ghost use Rattle.rg_separate.specs.Casing.{sides_among, SharesFold};
 
+use rg_branch_trees::Side;
+use rg_cert_meaning::{Form, RowName};
 use rg_fraction::{FoldStop, Fraction};
 use rg_integers::Wide;
-use rg_refuting::{Form, RowName};
 use rg_rows::{NamedForm, NamedSystem};
-use rg_splits::Side;
 use std::alloc::Global;
 
 // The named rows of the weights below these splits, each with its row's multiplier times its factor.

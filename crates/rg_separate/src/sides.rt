@@ -1,12 +1,12 @@
 //! The sides of splits, with their forms by name.
 ghost use Rattle.std.specs.Prelude.{◌≡◌, ◌<◌, length, map, All, IfOk};
-ghost use Rattle.rg_refuting.specs.Sides.{side_of};
+ghost use Rattle.rg_cert_meaning.specs.Sides.{side_of};
 ghost use Rattle.rg_rows.specs.Forms.{split_of};
 ghost use Rattle.rg_separate.specs.Casing.{sides_among};
 
-use rg_refuting::{Form, Side as NamedSide};
+use rg_branch_trees::Side;
+use rg_cert_meaning::{Form, Side as NamedSide};
 use rg_rows::NamedForm;
-use rg_splits::Side;
 use std::alloc::{AllocError, Global};
 
 // The sides with their forms by name.

@@ -11,8 +11,8 @@ use crate::problem::{ProblemAnswer, solve_problem};
 use crate::workspace::Workspace;
 use rg_blocks::{ProblemOutcome, Solving};
 use rg_case_parts::Setting;
+use rg_cert_data::Reason;
 use rg_memory::NoMemory;
-use rg_reasons::Reason;
 use rg_theory::Problem;
 use std::alloc::Global;
 

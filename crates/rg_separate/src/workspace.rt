@@ -1,7 +1,7 @@
 //! What one thread solves with.
 ghost use Rattle.std.specs.Prelude.{◌≡◌, IfOk};
 ghost use Rattle.rg_rows.specs.Sharing.{IsCommonOf};
-ghost use Rattle.rg_order_of_work.specs.Setting.{Setting};
+ghost use Rattle.rg_case_folds.specs.Setting.{Setting};
 
 use rg_branch::Solver;
 use rg_memory::NoMemory;

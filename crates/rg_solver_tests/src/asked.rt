@@ -1,6 +1,6 @@
 //! Classes of several conditions, and problems that may be asked.
 ghost use Rattle.std.specs.Prelude.{IsTrue};
-ghost use Rattle.rg_refuting.specs.Refutes.{IsSeparationProblem};
+ghost use Rattle.rg_cert_meaning.specs.Refutes.{IsSeparationProblem};
 
 use rg_lts::Lts;
 use rg_samples::{NONBRANCHING, PLAIN, TWO_MARKING};

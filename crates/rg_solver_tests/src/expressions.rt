@@ -1,10 +1,10 @@
 //! Rows and counts of the word a b a.
 use rg_case_parts::{count, start};
+use rg_cert_data::Term::{Minus, Plus};
+use rg_cert_data::{Expression, ProblemCase, expression};
+use rg_cert_meaning::Variable::{Effect, Tokens};
+use rg_cert_meaning::{Form, RowName, Side};
 use rg_lts::Lts;
-use rg_reasons::Term::{Minus, Plus};
-use rg_reasons::{Expression, ProblemCase, expression};
-use rg_refuting::Variable::{Effect, Tokens};
-use rg_refuting::{Form, RowName, Side};
 use rg_samples::{ABA, NONBRANCHING, system};
 use rg_spanning::Tree;
 use rg_theory::ALL_NETS;

@@ -1,10 +1,10 @@
 //! The laws are called as any function is, and do nothing.
-use rg_farkas::node_multipliers_refute;
-use rg_order_of_work::meaning::{
+use rg_case_folds::meaning::{
     columns_are_values, forms_are_exact, points_are_exact, rows_are_named, solutions_are_given,
     start_and_free_effects_mean, unused_labels_are_free, whole_parts_keep_rows,
     whole_points_separate,
 };
+use rg_farkas::node_multipliers_refute;
 use rg_outcome::{
     blocks_come_to_the_same, outcome_is_one, outcome_is_right, placed_separates,
     refuted_is_inseparable, separation_is_one, separation_says, solving_is_one,

@@ -2,7 +2,7 @@
 ghost use Rattle.std.specs.Prelude.{◌≡◌, length, IsTrue, IfOk};
 ghost use Rattle.rg_theory.specs.System.{labels};
 ghost use Rattle.rg_spanning.specs.Spanning.{IsTreeOf};
-ghost use Rattle.rg_order_of_work.specs.Rewriting.{column_count};
+ghost use Rattle.rg_case_folds.specs.Rewriting.{column_count};
 ghost use Rattle.rg_cycles.specs.View.{labels_of, cycle_of};
 
 use crate::asked::{PLAIN_ONE_MARKING, PLAIN_TWO_MARKING, PURE_PLAIN, is_asked};

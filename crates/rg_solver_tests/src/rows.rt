@@ -12,9 +12,9 @@ use crate::asked::{
 };
 use crate::bases::basis;
 use rg_case_parts::{CaseSetting, Setting};
+use rg_cert_meaning::RowName;
 use rg_fraction::Fraction;
 use rg_linear::Row;
-use rg_refuting::RowName;
 use rg_rows::{Common, NamedForm, NamedSystem, cases, system_with};
 use rg_samples::{
     ABA, CHOICE, CYCLE, IN_TURN, LOOP_AND_STEP, NONBRANCHING, PLAIN, PURE, SAFE, STEP, system,

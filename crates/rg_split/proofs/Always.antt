@@ -10,8 +10,8 @@ use Rattle.rg_theory.specs.Limits.{most_labels}
 use Rattle.rg_theory.specs.ClassWords.{no_condition}
 use Rattle.rg_theory.proofs.Arcs.{arc_in_range}
 use Rattle.rg_lts.specs.WellFormed.{IsWellFormed}
-use Rattle.rg_firsts.proofs.Parts.{some_with}
-use Rattle.rg_refuting.specs.Refutes.{Reason, Reason.unreachable as of_state, Reason.fork, Reason.refuted}
+use Rattle.rg_line_formats.proofs.Parts.{some_with}
+use Rattle.rg_cert_meaning.specs.Refutes.{Reason, Reason.unreachable as of_state, Reason.fork, Reason.refuted}
 use Rattle.rg_outcome.specs.Outcome.{Answer, Answer.net as of_net, Answer.unsolvable as of_reason, Answer.too_wide as of_term, Out}
 use Rattle.rg_split.specs.Erasing.{old_label, Erases}
 use Rattle.rg_split.specs.Round.{IsToldApart}

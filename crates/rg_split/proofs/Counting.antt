@@ -14,20 +14,20 @@ use Rattle.rg_theory.proofs.Lists.{find_any}
 use Rattle.rg_lts.proofs.OrderedArcs.{Ordered, has_from}
 use Rattle.rg_integers.specs.Sum.{sum_over}
 use Rattle.rg_integers.proofs.ListSums.{sum_over-same, sum_over-zero}
-use Rattle.rg_refuting.specs.Expression.{Expression, coefficient_in, value_of, numbers_by}
-use Rattle.rg_refuting.specs.declared.Variable.{Variable}
-use Rattle.rg_refuting.specs.declared.RowName.{RowName}
-use Rattle.rg_refuting.specs.Row.{SharedStands, shared_expression, EventStands, event_expression, consumer_of, RowStands, row_expression, Says}
-use Rattle.rg_refuting.specs.Refutes.{NamedRow, IsMultiplier, coefficient_sum, constant_sum, LeafRefutes, IsSeparationProblem}
-use Rattle.rg_refuting.proofs.Rows.{Says-times}
-use Rattle.rg_refuting.proofs.Sums.{no_contradiction}
-use Rattle.rg_order_of_work.specs.Spreading.{arc_name}
+use Rattle.rg_cert_meaning.specs.Expression.{Expression, coefficient_in, value_of, numbers_by}
+use Rattle.rg_cert_meaning.specs.declared.Variable.{Variable}
+use Rattle.rg_cert_meaning.specs.declared.RowName.{RowName}
+use Rattle.rg_cert_meaning.specs.Row.{SharedStands, shared_expression, EventStands, event_expression, consumer_of, RowStands, row_expression, Says}
+use Rattle.rg_cert_meaning.specs.Refutes.{NamedRow, IsMultiplier, coefficient_sum, constant_sum, LeafRefutes, IsSeparationProblem}
+use Rattle.rg_cert_meaning.proofs.Rows.{Says-times}
+use Rattle.rg_cert_meaning.proofs.Sums.{no_contradiction}
+use Rattle.rg_case_folds.specs.Spreading.{arc_name}
 use Rattle.rg_decided.proofs.Deciding.{Decided, find_number}
 use Rattle.rg_split.specs.Parts.{arc_multiplier, Counts}
 use Rattle.rg_split.proofs.ArcSums.{is_arc, IsArcOf, parted, others, sum_of_others, others_have}
 use Rattle.rg_split.proofs.Signs.{is_zero, some_positive, some_negative}
-use Rattle.rg_refuting.specs.declared.RowName.TheVariants as row_name
-use Rattle.rg_refuting.specs.declared.Variable.TheVariants.{Effect}
+use Rattle.rg_cert_meaning.specs.declared.RowName.TheVariants as row_name
+use Rattle.rg_cert_meaning.specs.declared.Variable.TheVariants.{Effect}
 
 -- ---- rows that stand among all nets
 

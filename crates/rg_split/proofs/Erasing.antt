@@ -10,9 +10,9 @@ use Rattle.rg_theory.specs.System.{System, states, labels, arc, HasArc, IsArcInR
 use Rattle.rg_theory.specs.Limits.{most_labels}
 use Rattle.rg_lts.specs.WellFormed.{AreNames, IsWellFormed}
 use Rattle.rg_lts.proofs.OrderedArcs.{before_itself}
-use Rattle.rg_firsts.proofs.Things.{map_there, map_from, pigeons}
-use Rattle.rg_splits.specs.Trees.{Tree.leaf, Tree.split}
-use Rattle.rg_refuting.specs.Refutes.{Reason, Reason.unreachable, Reason.fork, Reason.refuted}
+use Rattle.rg_line_formats.proofs.Things.{map_there, map_from, pigeons}
+use Rattle.rg_branch_trees.specs.Trees.{Tree.leaf, Tree.split}
+use Rattle.rg_cert_meaning.specs.Refutes.{Reason, Reason.unreachable, Reason.fork, Reason.refuted}
 use Rattle.rg_split.specs.Erasing.{old_label, Erases}
 use Rattle.rg_split.specs.Parts.{SplitsLabel, is_moved}
 use Rattle.rg_split.specs.Rounds.{Labelling, relabelled, first_name, IsNext}

@@ -15,22 +15,22 @@ use Rattle.rg_lts.specs.WellFormed.{IsWellFormed}
 use Rattle.rg_integers.specs.Range.{InRange}
 use Rattle.rg_integers.specs.Sign.{size}
 use Rattle.rg_integers.specs.declared.term.Wide.{Wide}
-use Rattle.rg_refuting.specs.Expression.{Expression, coefficient_in}
-use Rattle.rg_refuting.specs.declared.Variable.{Variable}
-use Rattle.rg_refuting.specs.Row.{Side, SharedStands, shared_expression, EventStands, event_expression, consumer_of, RowStands, row_expression}
-use Rattle.rg_refuting.specs.declared.RowName.{RowName}
-use Rattle.rg_refuting.specs.Refutes.{NamedRow, IsSeparationProblem}
+use Rattle.rg_cert_meaning.specs.Expression.{Expression, coefficient_in}
+use Rattle.rg_cert_meaning.specs.declared.Variable.{Variable}
+use Rattle.rg_cert_meaning.specs.Row.{Side, SharedStands, shared_expression, EventStands, event_expression, consumer_of, RowStands, row_expression}
+use Rattle.rg_cert_meaning.specs.declared.RowName.{RowName}
+use Rattle.rg_cert_meaning.specs.Refutes.{NamedRow, IsSeparationProblem}
 use Rattle.rg_linear.specs.System.{AreFarkasMultipliers}
 use Rattle.rg_linear.specs.Cycle.{CycleBasis}
 use Rattle.rg_linear.specs.Branching.{SplitSide, weights_from, node_system}
-use Rattle.rg_reasons.specs.Certificates.{IsFormOf, IsRowNameOf, IsVariableWithin}
-use Rattle.rg_order_of_work.specs.Setting.{Setting, setting_at, case_at}
-use Rattle.rg_order_of_work.specs.Chords.{IsBasis}
-use Rattle.rg_order_of_work.specs.Fold.{and_then, gives, each, joined, further, whole, whole_sum, whole_product}
-use Rattle.rg_order_of_work.specs.Rewriting.{CaseSystem, rows_of, system_fold}
-use Rattle.rg_order_of_work.specs.Shown.{IsLive}
-use Rattle.rg_order_of_work.specs.Meaning.{IsCaseOver}
-use Rattle.rg_order_of_work.specs.Spreading.{Share, share_fold, arc_name, named_from, multiplier_among, sizes_fold, variables_of, checked_leaf, chord_arcs, leaf_fold, spread_fold, factor_of}
+use Rattle.rg_cert_data.specs.Certificates.{IsFormOf, IsRowNameOf, IsVariableWithin}
+use Rattle.rg_case_folds.specs.Setting.{Setting, setting_at, case_at}
+use Rattle.rg_case_folds.specs.Chords.{IsBasis}
+use Rattle.rg_case_folds.specs.Fold.{and_then, gives, each, joined, further, whole, whole_sum, whole_product}
+use Rattle.rg_case_folds.specs.Rewriting.{CaseSystem, rows_of, system_fold}
+use Rattle.rg_case_folds.specs.Shown.{IsLive}
+use Rattle.rg_case_folds.specs.Meaning.{IsCaseOver}
+use Rattle.rg_case_folds.specs.Spreading.{Share, share_fold, arc_name, named_from, multiplier_among, sizes_fold, variables_of, checked_leaf, chord_arcs, leaf_fold, spread_fold, factor_of}
 use Rattle.rg_farkas.specs.Refuting.{SharesRefute}
 use Rattle.rg_farkas.specs.View.{AreRowsWithin}
 use Rattle.rg_farkas.proofs.Asked.{rows_within, says_arcs, arcs_stand}
@@ -41,8 +41,8 @@ use Rattle.rg_farkas.proofs.Small.{each_made, has_variable}
 use Rattle.rg_outcome.proofs.Steps.{Each, IsOver, makes_each, product_over}
 use Rattle.rg_split.proofs.AllNets.{no_numbers}
 use Rattle.rg_split.proofs.Counting.{RefutesFirst}
-use Rattle.rg_refuting.specs.declared.RowName.TheVariants as row_name
-use Rattle.rg_refuting.specs.declared.Variable.TheVariants.{Tokens, Effect}
+use Rattle.rg_cert_meaning.specs.declared.RowName.TheVariants as row_name
+use Rattle.rg_cert_meaning.specs.declared.Variable.TheVariants.{Tokens, Effect}
 
 -- ---- what is made in a sum
 

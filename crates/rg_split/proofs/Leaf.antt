@@ -9,18 +9,18 @@ use Rattle.rg_theory.specs.declared.Problem.TheVariants.{Event, States}
 use Rattle.rg_theory.specs.ClassWords.{no_condition}
 use Rattle.rg_theory.specs.Problem.{IsProblem}
 use Rattle.rg_lts.specs.WellFormed.{IsWellFormed}
-use Rattle.rg_splits.specs.Trees.{Tree.leaf}
-use Rattle.rg_refuting.specs.Refutes.{NamedRow, Tree, Reason.unreachable as of_state, Reason.fork, Reason.refuted as of_trees}
+use Rattle.rg_branch_trees.specs.Trees.{Tree.leaf}
+use Rattle.rg_cert_meaning.specs.Refutes.{NamedRow, Tree, Reason.unreachable as of_state, Reason.fork, Reason.refuted as of_trees}
 use Rattle.rg_linear.specs.System.{LinearSystem, AreFarkasMultipliers}
 use Rattle.rg_linear.specs.Cycle.{CycleBasis}
 use Rattle.rg_linear.specs.Descent.{multiplier_of}
 use Rattle.rg_linear.specs.Branching.{Form, SplitTree, BranchFrom, BranchFrom.passes as branch_passes, BranchFrom.refutes as branch_refutes, BranchFrom.whole, BranchFrom.low_ends}
 use Rattle.rg_linear.specs.Branching.{BranchFrom.high_ends, BranchFrom.both_refuted, BranchOutcome, BranchOutcome.tree, SplitSide, IsEnd, weights_from, node_system}
 use Rattle.rg_linear.proofs.Refuting.{refuted_is_sound}
-use Rattle.rg_order_of_work.specs.Setting.{case_at}
-use Rattle.rg_order_of_work.specs.Rewriting.{CaseSystem, rows_of, system_fold}
-use Rattle.rg_order_of_work.specs.Spreading.{spread_fold}
-use Rattle.rg_order_of_work.specs.Shown.{Shown, IsLive}
+use Rattle.rg_case_folds.specs.Setting.{case_at}
+use Rattle.rg_case_folds.specs.Rewriting.{CaseSystem, rows_of, system_fold}
+use Rattle.rg_case_folds.specs.Spreading.{spread_fold}
+use Rattle.rg_case_folds.specs.Shown.{Shown, IsLive}
 use Rattle.rg_outcome.specs.Casing.{CaseResult, spread_tree, CaseComes, CaseComes.row_passes, CaseComes.pivot_passes, CaseComes.place_passes, CaseComes.place_is_made, CaseComes.leaf_passes, CaseComes.is_refuted}
 use Rattle.rg_outcome.specs.Solving.{Solved, Solved.placed, Solved.refuted, Solved.passed, CasesCome, CasesCome.first_place, CasesCome.all_refuted, CasesCome.first_term, ProblemComes}
 use Rattle.rg_outcome.specs.Coming.{Separation, Separation.places as of_places, Separation.unsolvable as of_problem, Separation.too_wide as of_term, Says}

@@ -6,7 +6,7 @@ use Rattle.rg_theory.specs.System.{System, arc}
 use Rattle.rg_theory.specs.Limits.{most_labels}
 use Rattle.rg_lts.specs.Draft.{names_alone, IsArcWithin}
 use Rattle.rg_lts.specs.WellFormed.{AreNames, IsWellFormed}
-use Rattle.rg_firsts.specs.Parts.{AreParts}
+use Rattle.rg_line_formats.specs.Parts.{AreParts}
 use Rattle.rg_split.specs.Building.{arcs_with}
 
 with_long : (ts : List ℕ) (arcs : List Arc) → length ts ≡ length arcs → length (arcs_with ts arcs) ≡ length arcs

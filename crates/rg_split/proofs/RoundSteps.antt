@@ -12,12 +12,12 @@ use Rattle.rg_theory.specs.System.{System, labels, arc, IsInRange}
 use Rattle.rg_theory.specs.Limits.{most_labels}
 use Rattle.rg_theory.specs.ClassWords.{no_condition}
 use Rattle.rg_lts.specs.WellFormed.{AreNames, IsWellFormed}
-use Rattle.rg_firsts.specs.Parts.{IsSystemWith}
-use Rattle.rg_firsts.proofs.Parts.{one_with}
-use Rattle.rg_refuting.specs.Refutes.{Reason}
-use Rattle.rg_reasons.specs.declared.certificate.Reason.{Reason as ReasonOfCode}
-use Rattle.rg_reasons.specs.declared.certificate.Reason.TheVariants as of_code
-use Rattle.rg_reasons.specs.Certificates.{reason_of}
+use Rattle.rg_line_formats.specs.Parts.{IsSystemWith}
+use Rattle.rg_line_formats.proofs.Parts.{one_with}
+use Rattle.rg_cert_meaning.specs.Refutes.{Reason}
+use Rattle.rg_cert_data.specs.declared.certificate.Reason.{Reason as ReasonOfCode}
+use Rattle.rg_cert_data.specs.declared.certificate.Reason.TheVariants as of_code
+use Rattle.rg_cert_data.specs.Certificates.{reason_of}
 use Rattle.rg_outcome.specs.Outcome.{Out, Answer.unsolvable as of_reason}
 use Rattle.rg_split.specs.Erasing.{old_label}
 use Rattle.rg_split.specs.Naming.{IsNewName}

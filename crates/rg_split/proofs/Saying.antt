@@ -6,8 +6,8 @@ use Rattle.rg_theory.specs.Solves.{Solves}
 use Rattle.rg_theory.specs.Class.{InClass}
 use Rattle.rg_theory.specs.ClassWords.{no_condition}
 use Rattle.rg_lts.specs.WellFormed.{IsWellFormed}
-use Rattle.rg_refuting.specs.Refutes.{Reason, Reason.unreachable as of_state, Reason.fork, Reason.refuted}
-use Rattle.rg_order_of_work.specs.Shown.{Shown}
+use Rattle.rg_cert_meaning.specs.Refutes.{Reason, Reason.unreachable as of_state, Reason.fork, Reason.refuted}
+use Rattle.rg_case_folds.specs.Shown.{Shown}
 use Rattle.rg_outcome.specs.Coming.{Separation, Separation.places as of_places, Separation.unsolvable as of_problem, Separation.too_wide as of_wide}
 use Rattle.rg_outcome.specs.Outcome.{Answer, Answer.net as of_net, Answer.unsolvable as of_reason, Answer.too_wide as of_term, Gives, Out, Out.a_state, Out.a_fork, Out.a_search}
 use Rattle.rg_outcome.proofs.Right.{answer_right}

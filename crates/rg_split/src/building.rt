@@ -2,10 +2,10 @@
 ghost use Rattle.std.specs.Prelude.{◌≡◌, ◌<◌, ◌≤◌, length, map, All, IfOk};
 ghost use Rattle.rg_theory.specs.Limits.{most_labels};
 ghost use Rattle.rg_lts.specs.WellFormed.{AreNames};
-ghost use Rattle.rg_firsts.specs.Parts.{IsSystemWith};
+ghost use Rattle.rg_line_formats.specs.Parts.{IsSystemWith};
 ghost use Rattle.rg_split.specs.Building.{arcs_with};
 
-use rg_firsts::build;
+use rg_line_formats::build;
 use rg_lts::Lts;
 use rg_memory::NoMemory;
 use rg_theory::Arc;

@@ -6,7 +6,7 @@ ghost use Rattle.rg_theory.specs.System.{labels};
 ghost use Rattle.rg_theory.specs.Limits.{most_labels};
 ghost use Rattle.rg_theory.specs.ClassWords.{no_condition};
 ghost use Rattle.rg_lts.specs.WellFormed.{IsWellFormed};
-ghost use Rattle.rg_reasons.specs.Certificates.{reason_of, HasWholeCases};
+ghost use Rattle.rg_cert_data.specs.Certificates.{reason_of, HasWholeCases};
 ghost use Rattle.rg_outcome.specs.Outcome.{Out, Answer.unsolvable as of_reason};
 ghost use Rattle.rg_synth.specs.Answer.{IsRightCertificate};
 ghost use Rattle.rg_split.specs.Round.{IsToldApart};
@@ -15,12 +15,12 @@ ghost use Rattle.rg_split.specs.Answer.{labelling_of, IfEnds, IfGoesOn, EndsRoun
 
 use crate::building::{label_names, with_labels};
 use crate::name::new_name;
-use crate::part::part_of;
+use crate::relabelling::relabelling_of;
 use crate::splitting::Splitting;
+use rg_cert_data::{Certificate, Reason};
 use rg_lts::{Lts, MOST_LABELS};
 use rg_memory::NoMemory;
 use rg_ports::Gate;
-use rg_reasons::{Certificate, Reason};
 use rg_synth::{Answer, synthesize};
 use rg_theory::{ALL_NETS, Arc};
 use std::alloc::Global;
@@ -141,12 +141,12 @@ fn next(alloc: Global, lts: &Lts, now: &Labelling, reason: &Reason) -> Result<La
 {
     lts.is_well_formed();
     now.system.is_well_formed();
-    let part = part_of(alloc, &now.system, reason)?;
-    let first = now.old[part.label as usize];
+    let relabelling = relabelling_of(alloc, &now.system, reason)?;
+    let first = now.old[relabelling.label as usize];
     let name = new_name(alloc, &now.system, lts.label_name(first))?;
     let mut names = label_names(alloc, &now.system)?;
     names.push(name.as_str())?;
-    let system = with_labels(alloc, &now.system, &names, &part.labels)?;
+    let system = with_labels(alloc, &now.system, &names, &relabelling.labels)?;
     let mut old = Vec::new(alloc);
     old.extend_from_slice(&now.old)?;
     old.push(first)?;

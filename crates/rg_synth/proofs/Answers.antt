@@ -9,16 +9,16 @@ use Rattle.rg_theory.specs.ClassWords.{HasNumbersInRange}
 use Rattle.rg_theory.proofs.Arcs.{arc_in_range}
 use Rattle.rg_net.specs.Shown.{shown_place}
 use Rattle.rg_net.specs.declared.net.Place.{Place as PlaceOfCode}
-use Rattle.rg_refuting.specs.Refutes.{Reason, Accepts}
-use Rattle.rg_refuting.proofs.Accepted.{accepted}
+use Rattle.rg_cert_meaning.specs.Refutes.{Reason, Accepts}
+use Rattle.rg_cert_meaning.proofs.Accepted.{accepted}
 use Rattle.rg_theory.specs.Pruned.{IsPruned}
-use Rattle.rg_reasons.specs.declared.certificate.Certificate.{Certificate}
-use Rattle.rg_reasons.specs.declared.certificate.Reason.TheVariants.{Unreachable, Fork}
-use Rattle.rg_reasons.specs.Certificates.{reason_of, IsCertificateOf}
+use Rattle.rg_cert_data.specs.declared.certificate.Certificate.{Certificate}
+use Rattle.rg_cert_data.specs.declared.certificate.Reason.TheVariants.{Unreachable, Fork}
+use Rattle.rg_cert_data.specs.Certificates.{reason_of, IsCertificateOf}
 use Rattle.rg_outcome.specs.Coming.{Separation, Separation.places as places_of, Separation.unsolvable as problem_of, Separation.too_wide as term_of}
 use Rattle.rg_outcome.specs.Outcome.{Gives, Searched, Out, Out.a_state, Out.a_fork, Out.a_search, Answer.net as of_net, Answer.unsolvable as of_reason, Answer.too_wide as of_term}
 use Rattle.rg_separate.specs.View.{shown_of}
-use Rattle.rg_reasons.specs.declared.wide_at.WideAt.{WideAt}
+use Rattle.rg_cert_data.specs.declared.wide_at.WideAt.{WideAt}
 use Rattle.rg_separate.specs.declared.separation.Separation.TheVariants as separation
 use Rattle.rg_separate.specs.Answer.{IsSearched}
 use Rattle.rg_synth.specs.Answer.{IsReason, IsRightCertificate}

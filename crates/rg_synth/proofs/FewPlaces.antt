@@ -9,7 +9,7 @@ use Rattle.rg_outcome.specs.Coming.{Separation, Separation.places, Separation.un
 use Rattle.rg_outcome.specs.Outcome.{Answer.net as of_net, Gives, Searched, Searched.all_problems, Out, Out.a_search}
 use Rattle.rg_blocks.proofs.RankLemmas.{top_rank}
 use Rattle.rg_separate.proofs.Few.{few_from}
-use Rattle.rg_order_of_work.specs.Setting.{setting_at}
+use Rattle.rg_case_folds.specs.Setting.{setting_at}
 
 left_short : (lts : System) (front kept left : List Place) → LeavesBehind lts front kept left → length left ≤ length kept
 left_short lts front [] left none = let n = ap length none in omega arith

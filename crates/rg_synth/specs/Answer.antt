@@ -10,12 +10,12 @@ use Rattle.rg_theory.specs.Class.{IsBounded, InClass, NoNet}
 use Rattle.rg_net.specs.Range.{IsNetInRange}
 use Rattle.rg_integers.specs.Range.{greatest}
 use Rattle.rg_theory.specs.Pruned.{net_without}
-use Rattle.rg_refuting.specs.Refutes.{Reason, Reason.unreachable, Reason.fork, Reason.refuted, Accepts}
-use Rattle.rg_reasons.specs.declared.certificate.Certificate.{Certificate}
-use Rattle.rg_reasons.specs.Certificates.{reason_of, IsCertificateOf}
+use Rattle.rg_cert_meaning.specs.Refutes.{Reason, Reason.unreachable, Reason.fork, Reason.refuted, Accepts}
+use Rattle.rg_cert_data.specs.declared.certificate.Certificate.{Certificate}
+use Rattle.rg_cert_data.specs.Certificates.{reason_of, IsCertificateOf}
 use Rattle.rg_outcome.specs.Outcome as outcome
 use Rattle.rg_separate.specs.View.{shown_of}
-use Rattle.rg_reasons.specs.declared.wide_at.WideAt.{WideAt}
+use Rattle.rg_cert_data.specs.declared.wide_at.WideAt.{WideAt}
 use Rattle.rg_synth.specs.declared.answer.Answer.{Answer}
 use Rattle.rg_synth.specs.declared.answer.Answer.TheVariants.{Net as OfNet, Unsolvable, TooWide}
 

@@ -10,6 +10,6 @@ mod synthesis;
 
 pub use answer::Answer;
 pub use laws::net_is_small;
+pub use rg_cert_data::{Stage, WideAt};
 pub use rg_memory::NoMemory;
-pub use rg_reasons::{Stage, WideAt};
 pub use synthesis::synthesize;

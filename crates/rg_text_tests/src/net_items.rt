@@ -1,5 +1,5 @@
 //! The items of a net file.
-use rg_netitems::{ItemFault, one_answer, read_items, tokens_go_on};
+use rg_net_grammar::{ItemFault, one_answer, read_items, tokens_go_on};
 use std::test::Fail;
 
 #[test]

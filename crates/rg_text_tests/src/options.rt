@@ -1,7 +1,7 @@
 //! The bytes of tokens, and the options that they complete.
 ghost use Rattle.std.specs.Prelude.{◌<◌};
 
-use rg_items::{
+use rg_grammar::{
     FoundSetting, ListPosition, ListStep, completed, list_lead, list_wanted, name_of, text_of,
     value_of,
 };

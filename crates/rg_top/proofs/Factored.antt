@@ -15,8 +15,8 @@ use Rattle.rg_net.specs.NetText.{net_text}
 use Rattle.rg_net.specs.Range.{IsNetInRange}
 use Rattle.rg_netfile.specs.Spells.{Spells as NetSpells}
 use Rattle.rg_netfile.proofs.PrintedTexts.{printed_spelled}
-use Rattle.rg_reasons.specs.declared.certificate.Certificate.{Certificate}
-use Rattle.rg_reasons.specs.Certificates.{reason_of, claim_of}
+use Rattle.rg_cert_data.specs.declared.certificate.Certificate.{Certificate}
+use Rattle.rg_cert_data.specs.Certificates.{reason_of, claim_of}
 use Rattle.rg_cert.specs.Text.{cert_text}
 use Rattle.rg_cert.specs.Spells.{Spells as CertificateSpells}
 use Rattle.rg_cert.proofs.Printed.{text_spells}
@@ -28,7 +28,7 @@ use Rattle.rg_product.specs.Factoring.{factors, one_block, IsFactoring, IsFactor
 use Rattle.rg_product.specs.Beside.{net_beside}
 use Rattle.rg_product.proofs.ProductSquares.{joined_is_one_block, one_block_no_product}
 use Rattle.rg_factor_nets.specs.Answer.{IsNetBeside as IsMadeOfNets, IsCertificateOfFactor, IsTermOfFactor}
-use Rattle.rg_reasons.specs.declared.wide_at.WideAt.{WideAt}
+use Rattle.rg_cert_data.specs.declared.wide_at.WideAt.{WideAt}
 use Rattle.rg_separate.specs.View.{shown_of}
 use Rattle.rg_synth.specs.Answer.{IsOpen}
 use Rattle.rg_messages.specs.FactorTexts.{one_block_text, factors_text, unsolvable_factor_line}

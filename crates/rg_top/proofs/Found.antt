@@ -7,8 +7,8 @@ use Rattle.rg_lts.specs.WellFormed.{IsWellFormed}
 use Rattle.rg_net.specs.NetText.{net_text}
 use Rattle.rg_netfile.specs.Spells.{Spells as NetSpells}
 use Rattle.rg_netfile.proofs.PrintedTexts.{printed_spelled}
-use Rattle.rg_reasons.specs.declared.certificate.Certificate.{Certificate}
-use Rattle.rg_reasons.specs.Certificates.{reason_of, claim_of}
+use Rattle.rg_cert_data.specs.declared.certificate.Certificate.{Certificate}
+use Rattle.rg_cert_data.specs.Certificates.{reason_of, claim_of}
 use Rattle.rg_outcome.specs.Outcome.{Out, Answer.net as of_net, Answer.unsolvable as of_reason}
 use Rattle.rg_cert.specs.Text.{cert_text}
 use Rattle.rg_cert.specs.Spells.{Spells as CertificateSpells}

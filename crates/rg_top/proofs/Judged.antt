@@ -6,7 +6,7 @@ use Rattle.rg_theory.specs.declared.Class.{Class}
 use Rattle.rg_lts.specs.WellFormed.{IsWellFormed}
 use Rattle.rg_cert.specs.declared.fault.CertFault.{CertFault}
 use Rattle.rg_cert.specs.declared.fault.CertFault.TheVariants.{NoMemory as LacksMemory}
-use Rattle.rg_reasons.specs.Certificates.{Claim}
+use Rattle.rg_cert_data.specs.Certificates.{Claim}
 use Rattle.rg_cert.specs.Spells.{Spells}
 use Rattle.rg_cert.specs.Faults.{FirstFault}
 use Rattle.rg_cert.proofs.OneClaim.{one_claim, not_both}

@@ -1,7 +1,7 @@
 -- `selftest` ends in one way for a number.
 use Rattle.std.proofs.Common.{◌≡◌, inl, inr, ℕ, List, [], ◌++◌, length, refl, sym, ap, ap₂, subst, ◌∙◌}
 use Rattle.rg_theory.specs.System.{System}
-use Rattle.rg_order_of_work.specs.Shown.{Shown}
+use Rattle.rg_case_folds.specs.Shown.{Shown}
 use Rattle.rg_outcome.specs.Outcome.{Out, Answer, Answer.net as of_net, Answer.unsolvable as of_reason, Answer.too_wide as of_term}
 use Rattle.rg_separate.specs.View.{shown_of}
 use Rattle.rg_messages.specs.CheckedTexts.{yes_line}

@@ -3,7 +3,7 @@ use Rattle.std.proofs.Common.{◌⊎◌, inl, inr, ℕ, List, Some, Result, Ok, 
 use Rattle.rg_ports.specs.Shelf.{Files}
 use Rattle.rg_theory.specs.System.{System}
 use Rattle.rg_lts.specs.WellFormed.{IsWellFormed}
-use Rattle.rg_order_of_work.specs.Shown.{Shown}
+use Rattle.rg_case_folds.specs.Shown.{Shown}
 use Rattle.rg_commands.specs.declared.forms.Form.{Form}
 use Rattle.rg_commands.specs.declared.usage.Usage.{Usage}
 use Rattle.rg_commands.specs.Requests.{Work, net, judgement, verdict, conversion, factoring, splitting, comparison, examination, HasClassNumbers, Asked, of_system, generation, self_test, HasBounds}

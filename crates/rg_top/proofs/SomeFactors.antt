@@ -6,8 +6,8 @@ use Rattle.rg_theory.specs.System.{System, IsInRange, IsAllReachable, IsForkFree
 use Rattle.rg_theory.specs.declared.Class.{Class}
 use Rattle.rg_theory.specs.ClassWords.{HasNumbersInRange}
 use Rattle.rg_decided.proofs.Deciding.{each_or_first}
-use Rattle.rg_refuting.specs.Refutes.{Reason}
-use Rattle.rg_order_of_work.specs.Shown.{Shown}
+use Rattle.rg_cert_meaning.specs.Refutes.{Reason}
+use Rattle.rg_case_folds.specs.Shown.{Shown}
 use Rattle.rg_outcome.specs.Outcome.{Out, Answer, Answer.net as of_net, Answer.unsolvable as of_reason, Answer.too_wide as of_term}
 use Rattle.rg_product.specs.Product.{Factor, IsFactorAt, AreInRange}
 use Rattle.rg_product.specs.Factoring.{Factoring, factors, one_block, fewer, IsFactoring, IsFactoring.of_factors}

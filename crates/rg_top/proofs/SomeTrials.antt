@@ -6,15 +6,15 @@ use Rattle.std.proofs.lemmas.Option.{slice_get_within}
 use Rattle.rg_theory.specs.declared.Arc.{Arc}
 use Rattle.rg_theory.specs.System.{System, states, labels, IsArcInRange, IsInRange}
 use Rattle.rg_theory.specs.ClassWords.{no_condition, HasNumbersInRange}
-use Rattle.rg_firsts.specs.First.{number_of}
-use Rattle.rg_firsts.proofs.Numbers.{number_at}
-use Rattle.rg_firsts.proofs.Parts.{some_with}
-use Rattle.rg_firsts.proofs.Things.{map_from}
+use Rattle.rg_line_formats.specs.First.{number_of}
+use Rattle.rg_line_formats.proofs.Numbers.{number_at}
+use Rattle.rg_line_formats.proofs.Parts.{some_with}
+use Rattle.rg_line_formats.proofs.Things.{map_from}
 use Rattle.rg_families.specs.declared.Kind.{Kind}
 use Rattle.rg_families.specs.declared.Kind.TheVariants.{Lock}
 use Rattle.rg_families.specs.Named.{Drawing, arc_of, IsSystemOf, IsSound}
 use Rattle.rg_families.specs.Families.{IsFamilyNumber, IsOfFamily, drawn}
-use Rattle.rg_order_of_work.specs.Shown.{Shown}
+use Rattle.rg_case_folds.specs.Shown.{Shown}
 use Rattle.rg_outcome.specs.Outcome.{Out, Answer, Answer.net as of_net, Answer.unsolvable as of_reason, Answer.too_wide as of_term}
 use Rattle.rg_commands.specs.Requests.{IsTestNumber}
 use Rattle.rg_top.specs.SelfTest.{Trial, most_users, lock_class, grid_trial, doubling_trial, lock_trial, IsConclusive, IsTerm, TrialsPass, SelfTestIsDue, by_answers}

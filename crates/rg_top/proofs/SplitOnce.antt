@@ -2,7 +2,7 @@
 use Rattle.std.proofs.Common.{◌≡◌, ℕ, List, refl, ap, ◌∙◌}
 use Rattle.rg_theory.specs.System.{System, labels, IsLeastUnreachable}
 use Rattle.rg_theory.specs.Net.{Net, Place}
-use Rattle.rg_order_of_work.specs.Shown.{Shown}
+use Rattle.rg_case_folds.specs.Shown.{Shown}
 use Rattle.rg_separate.specs.View.{shown_of}
 use Rattle.rg_split.specs.Rounds.{Labelling, labelling, Splitting, Splitting.done as done, Splitting.unreachable as unreachable, Splitting.full as full, Splitting.too_wide as passes, SplitsTo}
 use Rattle.rg_commands.specs.declared.splitting.SplitOutput.{SplitOutput}

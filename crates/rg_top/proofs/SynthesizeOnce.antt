@@ -5,7 +5,7 @@ use Rattle.rg_theory.specs.Net.{Net}
 use Rattle.rg_theory.specs.declared.Class.{Class}
 use Rattle.rg_net.specs.NetText.{net_text}
 use Rattle.rg_cert.specs.Text.{cert_text}
-use Rattle.rg_order_of_work.specs.Shown.{Shown}
+use Rattle.rg_case_folds.specs.Shown.{Shown}
 use Rattle.rg_outcome.specs.Outcome.{Out, Answer, Answer.net as of_net, Answer.unsolvable as of_reason, Answer.too_wide as of_term}
 use Rattle.rg_separate.specs.View.{shown_of}
 use Rattle.rg_top.specs.End.{End, says_yes, says_no, shows_term, HasStatus}

@@ -1,8 +1,8 @@
 -- Statuses of one end, and the line of a term.
 use Rattle.std.proofs.Common.{◌≡◌, refl, ap, sym, subst}
 use Rattle.rg_separate.specs.View.{stage_of}
-use Rattle.rg_reasons.specs.declared.wide_at.Stage.{Stage}
-use Rattle.rg_reasons.specs.declared.wide_at.Stage.TheVariants.{Cycle, Row, Pivot, Place, Spread}
+use Rattle.rg_cert_data.specs.declared.wide_at.Stage.{Stage}
+use Rattle.rg_cert_data.specs.declared.wide_at.Stage.TheVariants.{Cycle, Row, Pivot, Place, Spread}
 use Rattle.rg_messages.specs.Wides.{stage_words, passed_line, wide_line}
 use Rattle.rg_messages.specs.declared.wide.WideCause.{WideCause}
 use Rattle.rg_messages.specs.declared.wide.WideCause.TheVariants.{Synthesis, Check, Factor, Split}

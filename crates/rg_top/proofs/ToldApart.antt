@@ -5,10 +5,10 @@ use Rattle.rg_theory.specs.Net.{Place, Net}
 use Rattle.rg_lts.specs.WellFormed.{IsWellFormed}
 use Rattle.rg_apt.specs.Spells.{Spells}
 use Rattle.rg_apt.proofs.PlainTexts.{printed_spelled}
-use Rattle.rg_order_of_work.specs.Shown.{Shown}
-use Rattle.rg_reasons.specs.declared.certificate.Certificate.{Certificate}
-use Rattle.rg_reasons.specs.Certificates.{reason_of}
-use Rattle.rg_reasons.specs.declared.wide_at.WideAt.{WideAt}
+use Rattle.rg_case_folds.specs.Shown.{Shown}
+use Rattle.rg_cert_data.specs.declared.certificate.Certificate.{Certificate}
+use Rattle.rg_cert_data.specs.Certificates.{reason_of}
+use Rattle.rg_cert_data.specs.declared.wide_at.WideAt.{WideAt}
 use Rattle.rg_separate.specs.View.{shown_of}
 use Rattle.rg_split.specs.Answer.{splitting_of, Says}
 use Rattle.rg_split.specs.Rounds.{labelling, itself, SplitsTo}

@@ -1,6 +1,6 @@
 -- How `selftest` ends for the lines of its trials.
 use Rattle.std.proofs.Common.{◌≡◌, ℕ, min, List, ◌++◌, append_assoc, sym, ap, ap₂, subst, ◌∙◌}
-use Rattle.rg_order_of_work.specs.Shown.{Shown}
+use Rattle.rg_case_folds.specs.Shown.{Shown}
 use Rattle.rg_families.specs.declared.Kind.TheVariants.{Lock}
 use Rattle.rg_top.specs.SelfTest.{trial, most_users, lock_class, grid_trial, doubling_trial, HasLine, Passes, SelfTestEnds, three_lines, third_passes}
 use Rattle.rg_top.specs.End.{says_yes, shows_term}

@@ -3,7 +3,7 @@ use Rattle.std.specs.Prelude.{ℕ, List, Option, Some}
 use Rattle.rg_ports.specs.Shelf.{Files}
 use Rattle.rg_theory.specs.System.{System}
 use Rattle.rg_theory.specs.declared.Class.{Class}
-use Rattle.rg_order_of_work.specs.Shown.{Shown}
+use Rattle.rg_case_folds.specs.Shown.{Shown}
 use Rattle.rg_outcome.specs.Outcome.{Out, Answer.too_wide as of_term}
 use Rattle.rg_commands.specs.Requests.{Work, net, judgement, verdict, conversion, factoring, splitting, comparison, examination, Asked, of_system, generation, self_test}
 use Rattle.rg_commands.specs.Says.{Ask, AreRefused}

@@ -11,8 +11,8 @@ use Rattle.rg_net.specs.NetText.{net_text}
 use Rattle.rg_net.specs.Range.{IsNetInRange}
 use Rattle.rg_netfile.specs.Contents.{most_places}
 use Rattle.rg_netfile.specs.Spells.{Spells as NetSpells}
-use Rattle.rg_refuting.specs.Refutes.{Reason}
-use Rattle.rg_order_of_work.specs.Shown.{Shown}
+use Rattle.rg_cert_meaning.specs.Refutes.{Reason}
+use Rattle.rg_case_folds.specs.Shown.{Shown}
 use Rattle.rg_outcome.specs.Outcome.{Out, Answer.net as of_net, Answer.unsolvable as of_reason, Answer.too_wide as of_term}
 use Rattle.rg_product.specs.declared.Broken.{Broken}
 use Rattle.rg_product.specs.Product.{Factor, IsFactorAt, Product, IsIndivisible}
@@ -20,7 +20,7 @@ use Rattle.rg_product.specs.Factoring.{factors, one_block, fewer, IsFactoring}
 use Rattle.rg_product.specs.Beside.{net_beside}
 use Rattle.rg_factor_nets.specs.Answer.{HasNet, IsBehindNets, IsNetOf}
 use Rattle.rg_separate.specs.View.{shown_of}
-use Rattle.rg_reasons.specs.declared.wide_at.WideAt.{WideAt}
+use Rattle.rg_cert_data.specs.declared.wide_at.WideAt.{WideAt}
 use Rattle.rg_synth.specs.Answer.{IsOpen, IsSolvingNet}
 use Rattle.rg_messages.specs.FactorTexts.{unreachable_line, fork_line, one_block_text, sizes_line, factors_text, unsolvable_factor_line}
 use Rattle.rg_messages.specs.declared.wide.WideCause.TheVariants as cause

@@ -8,7 +8,7 @@ use Rattle.rg_theory.specs.Net.{Net}
 use Rattle.rg_theory.specs.Solves.{Solves}
 use Rattle.rg_theory.specs.Class.{IsBounded, InClass, NoNet}
 use Rattle.rg_theory.specs.declared.Class.{Class}
-use Rattle.rg_reasons.specs.Certificates.{Claim}
+use Rattle.rg_cert_data.specs.Certificates.{Claim}
 use Rattle.rg_cert.specs.Spells.{Spells}
 use Rattle.rg_verify.specs.Judged.{Holds}
 use Rattle.rg_netfile.specs.Spells.{Spells as NetSpells}

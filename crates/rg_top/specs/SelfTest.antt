@@ -9,11 +9,11 @@ use Rattle.rg_theory.specs.Class.{NoNet}
 use Rattle.rg_families.specs.declared.Kind.{Kind}
 use Rattle.rg_families.specs.declared.Kind.TheVariants.{Grid, Doubling, Lock}
 use Rattle.rg_families.specs.Families.{IsOfFamily}
-use Rattle.rg_refuting.specs.Refutes.{Reason, Accepts}
-use Rattle.rg_order_of_work.specs.Shown.{Shown}
+use Rattle.rg_cert_meaning.specs.Refutes.{Reason, Accepts}
+use Rattle.rg_case_folds.specs.Shown.{Shown}
 use Rattle.rg_outcome.specs.Outcome.{Out, Answer, Answer.net as of_net, Answer.unsolvable as of_reason, Answer.too_wide as of_term}
 use Rattle.rg_separate.specs.View.{shown_of}
-use Rattle.rg_reasons.specs.declared.wide_at.WideAt.{WideAt}
+use Rattle.rg_cert_data.specs.declared.wide_at.WideAt.{WideAt}
 use Rattle.rg_synth.specs.Answer.{IsReason, IsSolvingNet}
 use Rattle.rg_messages.specs.CheckedTexts.{yes_line}
 use Rattle.rg_messages.specs.TrialTexts.{solved_line, unsolvable_line}

@@ -9,10 +9,10 @@ use Rattle.rg_theory.specs.ClassWords.{no_condition}
 use Rattle.rg_netfile.specs.LabelledTexts.{named_labels, labelled_text}
 use Rattle.rg_apt.specs.Plain.{lts_text}
 use Rattle.rg_apt.specs.Spells.{Spells}
-use Rattle.rg_refuting.specs.Refutes.{Reason}
-use Rattle.rg_order_of_work.specs.Shown.{Shown, ShownWide}
+use Rattle.rg_cert_meaning.specs.Refutes.{Reason}
+use Rattle.rg_case_folds.specs.Shown.{Shown, ShownWide}
 use Rattle.rg_separate.specs.View.{shown_of}
-use Rattle.rg_reasons.specs.declared.wide_at.WideAt.{WideAt}
+use Rattle.rg_cert_data.specs.declared.wide_at.WideAt.{WideAt}
 use Rattle.rg_synth.specs.Answer.{IsOpen, IsSolvingNet}
 use Rattle.rg_split.specs.Labelled.{SolvesLabelled}
 use Rattle.rg_split.specs.Rounds.{Labelling, labelling, itself, Splitting.done as done, Splitting.full as full, Splitting.too_wide as passes, SplitsTo}

@@ -7,11 +7,11 @@ use Rattle.rg_theory.specs.Class.{NoNet}
 use Rattle.rg_net.specs.NetText.{net_text}
 use Rattle.rg_netfile.specs.Contents.{most_places}
 use Rattle.rg_netfile.specs.Spells.{Spells as NetSpells}
-use Rattle.rg_refuting.specs.Refutes.{Reason, Accepts}
-use Rattle.rg_order_of_work.specs.Shown.{Shown, ShownWide}
+use Rattle.rg_cert_meaning.specs.Refutes.{Reason, Accepts}
+use Rattle.rg_case_folds.specs.Shown.{Shown, ShownWide}
 use Rattle.rg_outcome.specs.Outcome.{Out, Answer.net as of_net, Answer.unsolvable as of_reason, Answer.too_wide as of_term}
 use Rattle.rg_separate.specs.View.{shown_of}
-use Rattle.rg_reasons.specs.declared.wide_at.WideAt.{WideAt}
+use Rattle.rg_cert_data.specs.declared.wide_at.WideAt.{WideAt}
 use Rattle.rg_cert.specs.Text.{cert_text}
 use Rattle.rg_cert.specs.Spells.{Spells as CertificateSpells}
 use Rattle.rg_synth.specs.Answer.{IsOpen, IsReason, IsSolvingNet}

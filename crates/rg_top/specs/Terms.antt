@@ -1,8 +1,8 @@
 -- Terms that a status shows.
 use Rattle.std.specs.Prelude.{◌≡◌, ℕ, List, codes}
 use Rattle.rg_theory.specs.System.{System}
-use Rattle.rg_order_of_work.specs.Shown as shown
-use Rattle.rg_order_of_work.specs.Shown.{Shown}
+use Rattle.rg_case_folds.specs.Shown as shown
+use Rattle.rg_case_folds.specs.Shown.{Shown}
 use Rattle.rg_separate.specs.View.{shown_of}
 use Rattle.rg_net_verdict.specs.declared.verdict.CheckWide.{CheckWide}
 use Rattle.rg_messages.specs.Wides.{passed_line}

@@ -4,7 +4,7 @@ use Rattle.rg_ports.specs.Shelf.{Files}
 use Rattle.rg_theory.specs.System.{System}
 use Rattle.rg_theory.specs.Class.{NoNet}
 use Rattle.rg_theory.specs.declared.Class.{Class}
-use Rattle.rg_reasons.specs.Certificates.{Claim}
+use Rattle.rg_cert_data.specs.Certificates.{Claim}
 use Rattle.rg_cert.specs.declared.fault.CertFault.{CertFault}
 use Rattle.rg_cert.specs.declared.fault.CertFault.TheVariants.{NoMemory}
 use Rattle.rg_cert.specs.Spells.{Spells}

@@ -2,7 +2,7 @@
 ghost use Rattle.std.specs.Prelude.{◌≡◌, ◌≤◌, ◌++◌, ℕ, List, map, Some, IfOk, IfSome};
 ghost use Rattle.rg_theory.specs.ClassWords.{HasNumbersInRange};
 ghost use Rattle.rg_lts.specs.WellFormed.{IsWellFormed};
-ghost use Rattle.rg_reasons.specs.Certificates.{claim_of, IsCertificateOf};
+ghost use Rattle.rg_cert_data.specs.Certificates.{claim_of, IsCertificateOf};
 ghost use Rattle.rg_cert.specs.Text.{cert_text};
 ghost use Rattle.rg_messages.specs.FactorTexts.{unsolvable_factor_line};
 ghost use Rattle.rg_factor.specs.View.{shown_factor};
@@ -12,6 +12,7 @@ ghost use Rattle.rg_top.specs.Requests.{end_of};
 
 use crate::answer::Answer;
 use rg_cert::print;
+use rg_cert_data::Certificate;
 use rg_checks::{first_fork, first_unreachable};
 use rg_factor::{Factor, Factoring, factor};
 use rg_factor_nets::{FactorsAnswer, synthesize_factors};
@@ -23,7 +24,6 @@ use rg_messages::{
 use rg_net_verdict::NetNo;
 use rg_netfile::print_net;
 use rg_ports::Gate;
-use rg_reasons::Certificate;
 use rg_theory::Class;
 use std::alloc::Global;
 use std::thread::Threads;

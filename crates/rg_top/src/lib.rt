@@ -26,11 +26,11 @@ pub use laws::{
     synthesize_ends_once, verify_ends_once, written_is_accepted,
 };
 pub use net_laws::written_net_gets_yes;
+pub use rg_cert_data::{Stage, WideAt};
 pub use rg_commands::Usage;
 pub use rg_families::{Kind, generate, is_family_number};
 pub use rg_memory::NoMemory;
 pub use rg_messages::{Fault, FileFault, WideCause};
 pub use rg_net_verdict::CheckWide;
-pub use rg_reasons::{Stage, WideAt};
 pub use run_whole::run;
 pub use status::Status;

@@ -2,7 +2,7 @@
 ghost use Rattle.std.specs.Prelude.{◌≡◌, ℕ, ◌∷◌, [], ◌≤◌, length, IfOk, IsErrOf};
 ghost use Rattle.rg_ports.specs.Count.{HasRisen};
 ghost use Rattle.rg_lts.specs.WellFormed.{IsWellFormed};
-ghost use Rattle.rg_reasons.specs.Certificates.{claim_of, IsCertificateOf};
+ghost use Rattle.rg_cert_data.specs.Certificates.{claim_of, IsCertificateOf};
 ghost use Rattle.rg_cert.specs.Spells.{Spells};
 ghost use Rattle.rg_text.specs.Limits.{most_bytes};
 ghost use Rattle.rg_top.specs.Verify.{VerifyEnds};
@@ -12,11 +12,11 @@ ghost use Rattle.rg_top.specs.declared.answer.Stop.TheVariants as stop;
 use crate::answer::{Answer, Stop};
 use crate::files::{FileStop, read_bytes};
 use rg_cert::{CertFault, read};
+use rg_cert_data::Certificate;
 use rg_lts::Lts;
 use rg_memory::NoMemory;
 use rg_messages::{FileFault, accepted_text, defect_text, fault_text};
 use rg_ports::Shelf;
-use rg_reasons::Certificate;
 use rg_verify::{Verdict, verify};
 use std::alloc::Global;
 

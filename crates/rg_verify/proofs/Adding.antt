@@ -6,18 +6,18 @@ use Rattle.std.proofs.lemmas.List.Elements.{All-contains, Contains-append_right}
 use Rattle.std.proofs.lemmas.List.Sums.{sum_by-append}
 use Rattle.rg_integers.proofs.ListSums.{sum_over-append}
 use Rattle.rg_integers.proofs.Ring.{mul-add}
-use Rattle.rg_refuting.specs.Expression as linear
-use Rattle.rg_refuting.specs.Expression.{same_variable, coefficient_in}
+use Rattle.rg_cert_meaning.specs.Expression as linear
+use Rattle.rg_cert_meaning.specs.Expression.{same_variable, coefficient_in}
 use Rattle.rg_integers.specs.Range.{greatest}
-use Rattle.rg_reasons.specs.declared.term.Term.{Term}
+use Rattle.rg_cert_data.specs.declared.term.Term.{Term}
 use Rattle.rg_verify.specs.declared.sums.Sum.{Sum}
 use Rattle.rg_verify.specs.declared.sums.Sums.{Sums}
 use Rattle.rg_verify.specs.Terms.{size_in}
-use Rattle.rg_reasons.specs.Sums.{terms_in, term_of}
+use Rattle.rg_cert_data.specs.Sums.{terms_in, term_of}
 use Rattle.rg_verify.specs.Sums.{signed_of, size_of, entry_of, signed_at, size_at, HasEntry, HasSameEntries, AddsTerms, PassesByTerms}
-use Rattle.rg_refuting.proofs.Sums.{same_variable_is, same_variable_refl}
+use Rattle.rg_cert_meaning.proofs.Sums.{same_variable_is, same_variable_refl}
 use Rattle.rg_verify.proofs.Tables.{same_entry}
-use Rattle.rg_refuting.specs.declared.Variable.{Variable}
+use Rattle.rg_cert_meaning.specs.declared.Variable.{Variable}
 
 -- ---- the terms of a list
 

@@ -7,7 +7,7 @@ use Rattle.std.proofs.lemmas.Bool.Decides.{nat_tests}
 use Rattle.std.proofs.lemmas.Option.{slice_get-get_or}
 use Rattle.rg_theory.specs.declared.Arc.{Arc}
 use Rattle.rg_theory.specs.System.{System, IsArcBefore, HasArc}
-use Rattle.rg_refuting.specs.Row.{HasArcAt}
+use Rattle.rg_cert_meaning.specs.Row.{HasArcAt}
 
 -- by from, label and to
 abbrev arc_cmp : Arc → Arc → Ordering

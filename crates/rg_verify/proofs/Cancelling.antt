@@ -2,16 +2,16 @@
 use Rattle.std.proofs.Common.{◌≡◌, ℕ, ◌+◌, Bool, true, false, if◌then◌else◌, List, [], ◌∷◌, Option, Some, None, length, All, slice_index_or, refl, sym, ap, ◌∙◌, subst, arith, ℤ, pos, negsuc, ◌+ℤ◌, nat_abs}
 use Rattle.std.proofs.lemmas.Int.{ints}
 use Rattle.std.proofs.lemmas.List.Elements.{All-nil, All-cons, All-head, All-tail}
-use Rattle.rg_refuting.specs.Expression as linear
-use Rattle.rg_refuting.specs.Expression.{same_variable, coefficient_in}
-use Rattle.rg_reasons.specs.declared.term.Term.{Term}
-use Rattle.rg_reasons.specs.declared.term.Term.TheVariants.{Plus, Minus}
-use Rattle.rg_reasons.specs.Certificates.{IsTermWithin}
-use Rattle.rg_reasons.specs.Sums.{term_of, terms_in}
+use Rattle.rg_cert_meaning.specs.Expression as linear
+use Rattle.rg_cert_meaning.specs.Expression.{same_variable, coefficient_in}
+use Rattle.rg_cert_data.specs.declared.term.Term.{Term}
+use Rattle.rg_cert_data.specs.declared.term.Term.TheVariants.{Plus, Minus}
+use Rattle.rg_cert_data.specs.Certificates.{IsTermWithin}
+use Rattle.rg_cert_data.specs.Sums.{term_of, terms_in}
 use Rattle.rg_verify.specs.Terms.{size_in, AreOpposite, IsReducedSum}
 use Rattle.rg_verify.proofs.Adding.{terms_in-append, coefficient_in-append, size_in-append}
-use Rattle.rg_refuting.proofs.Sums.{same_variable_is}
-use Rattle.rg_refuting.specs.declared.Variable.{Variable}
+use Rattle.rg_cert_meaning.proofs.Sums.{same_variable_is}
+use Rattle.rg_cert_meaning.specs.declared.Variable.{Variable}
 
 -- ---- one place
 

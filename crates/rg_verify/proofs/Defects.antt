@@ -3,18 +3,18 @@ use Rattle.std.proofs.Common.{ℕ, ◌<◌, List, Option, Some, None, MatchOptio
 use Rattle.std.proofs.lemmas.List.{take-map}
 use Rattle.std.proofs.lemmas.Option.{slice_get-map, slice_get-get_or}
 use Rattle.rg_theory.specs.System.{System}
-use Rattle.rg_refuting.specs.Expression as linear
-use Rattle.rg_refuting.specs.declared.RowName.{RowName}
-use Rattle.rg_refuting.specs.Refutes.{NamedRow, IsSmall, LeafRefutes}
-use Rattle.rg_reasons.specs.Certificates.{IsVariableOf, IsRowOf}
+use Rattle.rg_cert_meaning.specs.Expression as linear
+use Rattle.rg_cert_meaning.specs.declared.RowName.{RowName}
+use Rattle.rg_cert_meaning.specs.Refutes.{NamedRow, IsSmall, LeafRefutes}
+use Rattle.rg_cert_data.specs.Certificates.{IsVariableOf, IsRowOf}
 use Rattle.rg_verify.specs.declared.verdict.Defect.{Defect}
 use Rattle.rg_verify.specs.declared.verdict.Defect.TheVariants.{WrongRow, NotPositive, LeftOver, NoContradiction, SumPasses, WrongForm, CaseMissing, NotSo}
 use Rattle.rg_verify.specs.declared.sums.Sums.{Sums}
 use Rattle.rg_verify.specs.Judged.{IsReached, IsRightRow, IsDefectOf}
 use Rattle.rg_verify.specs.Sums.{entry_of, HasEntry, IsTableOf, AreSumsOf, HasNoDefect, IsSumDefect}
 use Rattle.rg_verify.proofs.Tables.{size_small}
-use Rattle.rg_refuting.specs.declared.Variable.{Variable}
-use Rattle.rg_refuting.specs.declared.Variable.TheVariants.{Tokens, Effect}
+use Rattle.rg_cert_meaning.specs.declared.Variable.{Variable}
+use Rattle.rg_cert_meaning.specs.declared.Variable.TheVariants.{Tokens, Effect}
 
 -- the item at a place, where the fact holds of the images of all items before
 pub reached_at : {X Y : Type 0} (P : Y → Type 0) (f : X → Y) (xs : List X) (i : ℕ) (d : X) → i < length xs → All P (map f (take i xs)) → IsReached P (map f xs) i (f (get_or xs i d))

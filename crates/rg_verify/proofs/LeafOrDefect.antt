@@ -8,13 +8,13 @@ use Rattle.std.proofs.lemmas.List.Elements.{All-nil, All-cons, All-head, All-tai
 use Rattle.rg_integers.specs.Range.{greatest}
 use Rattle.rg_theory.specs.System.{System, states, labels}
 use Rattle.rg_decided.proofs.Deciding.{Decided, not_decided, holds, find_number}
-use Rattle.rg_refuting.specs.Expression.{Term, Expression, same_variable, coefficient_in}
-use Rattle.rg_refuting.proofs.Sums.{same_variable_is}
-use Rattle.rg_refuting.specs.declared.RowName.{RowName}
-use Rattle.rg_refuting.specs.declared.Variable.{Variable}
-use Rattle.rg_refuting.specs.declared.Variable.TheVariants.{Tokens, Effect}
-use Rattle.rg_refuting.specs.Refutes.{NamedRow, IsMultiplier, IsSmall, coefficient_sum, constant_sum, LeafRefutes}
-use Rattle.rg_reasons.specs.Certificates.{IsTermWithin, IsVariableOf, IsRowOf}
+use Rattle.rg_cert_meaning.specs.Expression.{Term, Expression, same_variable, coefficient_in}
+use Rattle.rg_cert_meaning.proofs.Sums.{same_variable_is}
+use Rattle.rg_cert_meaning.specs.declared.RowName.{RowName}
+use Rattle.rg_cert_meaning.specs.declared.Variable.{Variable}
+use Rattle.rg_cert_meaning.specs.declared.Variable.TheVariants.{Tokens, Effect}
+use Rattle.rg_cert_meaning.specs.Refutes.{NamedRow, IsMultiplier, IsSmall, coefficient_sum, constant_sum, LeafRefutes}
+use Rattle.rg_cert_data.specs.Certificates.{IsTermWithin, IsVariableOf, IsRowOf}
 use Rattle.rg_verify.specs.declared.verdict.Defect.{Defect}
 use Rattle.rg_verify.specs.declared.verdict.Defect.TheVariants.{WrongRow, NotPositive, LeftOver, NoContradiction, SumPasses}
 use Rattle.rg_verify.specs.Judged.{IsReached, IsVariableBefore, IsRightRow, AreSummed, IsDefectOf}

@@ -6,7 +6,7 @@ use Rattle.rg_verify.specs.Judged.{IsVariableBefore}
 use Rattle.rg_verify.specs.Sums.{entry_of, signed_at, size_at, HasEntry, IsTidy, IsLeftFirst}
 use Rattle.rg_verify.proofs.Variables.{before_or_not, before-trans, not_before_itself}
 use Rattle.rg_verify.proofs.Tables.{signed_zero}
-use Rattle.rg_refuting.specs.declared.Variable.{Variable}
+use Rattle.rg_cert_meaning.specs.declared.Variable.{Variable}
 
 -- among the variables, the first whose sum isn't 0
 pub record IsFirstAmong (sums : Sums) (vs : List Variable) (v : Variable) : Type 0 where

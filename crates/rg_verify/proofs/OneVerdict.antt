@@ -7,21 +7,21 @@ use Rattle.std.proofs.lemmas.Option.{same_Some, slice_get_within, get_or_from_sl
 use Rattle.rg_theory.specs.System.{System}
 use Rattle.rg_theory.specs.declared.Class.{Class}
 use Rattle.rg_theory.specs.declared.Problem.{Problem}
-use Rattle.rg_refuting.specs.Expression.{Expression}
-use Rattle.rg_refuting.specs.Row.{RowStands, row_expression, Side}
-use Rattle.rg_refuting.specs.declared.RowName.{RowName}
-use Rattle.rg_splits.specs.Trees.{Tree.leaf, Tree.split, TreeNode.leaf_node, TreeNode.split_node, low_side, high_side, placed_nodes}
-use Rattle.rg_refuting.specs.Refutes.{NamedRow, LeafRefutes, Tree, TreeRefutes, IsSeparationProblem, IsRefuted, Accepts}
-use Rattle.rg_refuting.specs.Refutes as refutes
-use Rattle.rg_reasons.specs.Trees.{TreeNode}
-use Rattle.rg_reasons.specs.Certificates.{Claim, IsVariableOf}
+use Rattle.rg_cert_meaning.specs.Expression.{Expression}
+use Rattle.rg_cert_meaning.specs.Row.{RowStands, row_expression, Side}
+use Rattle.rg_cert_meaning.specs.declared.RowName.{RowName}
+use Rattle.rg_branch_trees.specs.Trees.{Tree.leaf, Tree.split, TreeNode.leaf_node, TreeNode.split_node, low_side, high_side, placed_nodes}
+use Rattle.rg_cert_meaning.specs.Refutes.{NamedRow, LeafRefutes, Tree, TreeRefutes, IsSeparationProblem, IsRefuted, Accepts}
+use Rattle.rg_cert_meaning.specs.Refutes as refutes
+use Rattle.rg_cert_data.specs.Trees.{TreeNode}
+use Rattle.rg_cert_data.specs.Certificates.{Claim, IsVariableOf}
 use Rattle.rg_verify.specs.declared.verdict.Defect.{Defect}
 use Rattle.rg_verify.specs.declared.verdict.Defect.TheVariants.{WrongRow, NotPositive, LeftOver, NoContradiction, SumPasses, WrongForm, CaseMissing, NotSo}
 use Rattle.rg_verify.specs.declared.verdict.Verdict.{Verdict}
 use Rattle.rg_verify.specs.declared.verdict.Verdict.TheVariants.{Accepted, Refused}
 use Rattle.rg_verify.specs.Judged.{IsReached, IsVariableBefore, IsRightRow, IsFirstLeft, IsDefectOf, PlacedNode, HoldsAt, NodeHolds, IsNodeDefect, IsDefectIn, HasAllCases, IsDefectAmong, IsDefectFor, IsFirstDefect, Holds, Judges}
 use Rattle.rg_verify.proofs.Variables.{before_or_not}
-use Rattle.rg_refuting.specs.declared.Variable.{Variable}
+use Rattle.rg_cert_meaning.specs.declared.Variable.{Variable}
 
 -- ---- the first item for which a fact doesn't hold
 

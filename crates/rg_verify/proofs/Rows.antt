@@ -6,23 +6,23 @@ use Rattle.std.proofs.lemmas.List.Elements.{All-weaker}
 use Rattle.std.proofs.lemmas.List.Sums.{sum_by-append, sum_by-cons}
 use Rattle.rg_integers.proofs.ListSums.{sum_over-append}
 use Rattle.rg_theory.specs.System.{System, states, labels}
-use Rattle.rg_refuting.specs.Expression as linear
-use Rattle.rg_refuting.specs.Expression.{coefficient_in}
-use Rattle.rg_refuting.specs.declared.RowName.{RowName}
-use Rattle.rg_refuting.specs.Row.{Side}
-use Rattle.rg_refuting.specs.Refutes.{NamedRow, IsSmall}
+use Rattle.rg_cert_meaning.specs.Expression as linear
+use Rattle.rg_cert_meaning.specs.Expression.{coefficient_in}
+use Rattle.rg_cert_meaning.specs.declared.RowName.{RowName}
+use Rattle.rg_cert_meaning.specs.Row.{Side}
+use Rattle.rg_cert_meaning.specs.Refutes.{NamedRow, IsSmall}
 use Rattle.rg_integers.specs.Range.{InRange}
-use Rattle.rg_reasons.specs.Certificates.{IsRowOf, IsFormOf, IsTermWithin}
-use Rattle.rg_reasons.specs.Trees.{named_row}
-use Rattle.rg_reasons.specs.declared.sum.Expression.{Expression}
+use Rattle.rg_cert_data.specs.Certificates.{IsRowOf, IsFormOf, IsTermWithin}
+use Rattle.rg_cert_data.specs.Trees.{named_row}
+use Rattle.rg_cert_data.specs.declared.sum.Expression.{Expression}
 use Rattle.rg_verify.specs.declared.sums.Sums.{Sums}
 use Rattle.rg_verify.proofs.Places.{image_at}
 use Rattle.rg_verify.specs.Terms.{size_in, IsReducedSum, IsExpressionOf}
 use Rattle.rg_verify.specs.Sides.{IsSideOf}
-use Rattle.rg_reasons.specs.Sums.{terms_in, expression_of}
+use Rattle.rg_cert_data.specs.Sums.{terms_in, expression_of}
 use Rattle.rg_verify.specs.Sums.{IsTidy, HasSameVariables, IsTableOf, AreSumsOf, AddsRow, PassesByRow}
-use Rattle.rg_refuting.specs.declared.Variable.{Variable}
-use Rattle.rg_refuting.specs.declared.RowName.TheVariants as row_name
+use Rattle.rg_cert_meaning.specs.declared.Variable.{Variable}
+use Rattle.rg_cert_meaning.specs.declared.RowName.TheVariants as row_name
 
 -- what a loop over rows reads past their end
 abbrev pub no_row : RowName × ℤ

@@ -13,13 +13,13 @@ use Rattle.rg_theory.proofs.Closed.{stays_inside, reached_more}
 use Rattle.rg_decided.proofs.Deciding.{Decided, both_decided}
 use Rattle.rg_decided.proofs.Growing.{has_arc}
 use Rattle.rg_decided.proofs.Reaching.{reached_or_not}
-use Rattle.rg_refuting.specs.Row.{FormStands, RowStands, row_expression, cases_of, Side}
-use Rattle.rg_splits.specs.Trees.{Tree.leaf, Tree.split, TreeNode.leaf_node, TreeNode.split_node, preorder, low_side, high_side, placed_nodes}
-use Rattle.rg_refuting.specs.Refutes.{NamedRow, Tree, TreeRefutes, IsSeparationProblem, IsRefuted, Accepts}
-use Rattle.rg_refuting.specs.Refutes as refutes
-use Rattle.rg_reasons.specs.Trees.{TreeNode}
-use Rattle.rg_reasons.specs.Certificates.{Claim, IsFormOf, IsNodeOf, IsTreeOf, IsReasonOf, IsClaimOf}
-use Rattle.rg_reasons.proofs.Within.{row_within}
+use Rattle.rg_cert_meaning.specs.Row.{FormStands, RowStands, row_expression, cases_of, Side}
+use Rattle.rg_branch_trees.specs.Trees.{Tree.leaf, Tree.split, TreeNode.leaf_node, TreeNode.split_node, preorder, low_side, high_side, placed_nodes}
+use Rattle.rg_cert_meaning.specs.Refutes.{NamedRow, Tree, TreeRefutes, IsSeparationProblem, IsRefuted, Accepts}
+use Rattle.rg_cert_meaning.specs.Refutes as refutes
+use Rattle.rg_cert_data.specs.Trees.{TreeNode}
+use Rattle.rg_cert_data.specs.Certificates.{Claim, IsFormOf, IsNodeOf, IsTreeOf, IsReasonOf, IsClaimOf}
+use Rattle.rg_cert_data.proofs.Within.{row_within}
 use Rattle.rg_verify.specs.declared.verdict.Defect.{Defect}
 use Rattle.rg_verify.specs.declared.verdict.Defect.TheVariants.{WrongForm, CaseMissing, NotSo}
 use Rattle.rg_verify.specs.declared.verdict.Verdict.{Verdict}

@@ -10,12 +10,12 @@ use Rattle.rg_theory.specs.declared.Problem.TheVariants.{Event, States}
 use Rattle.rg_theory.proofs.Arcs.{find_arc}
 use Rattle.rg_decided.proofs.Deciding.{Decided, both_decided, not_decided}
 use Rattle.rg_decided.proofs.Growing.{has_arc}
-use Rattle.rg_refuting.specs.declared.RowName.{RowName}
-use Rattle.rg_refuting.specs.declared.RowName.TheVariants as row_name
-use Rattle.rg_refuting.specs.declared.Form.{Form}
-use Rattle.rg_refuting.specs.declared.Form.TheVariants as split_form
-use Rattle.rg_refuting.specs.Row.{Side, FormStands, SideStands, SharedStands, HasArcAt, EventStands, consumer_of, RowStands}
-use Rattle.rg_refuting.specs.Refutes.{IsMultiplier}
+use Rattle.rg_cert_meaning.specs.declared.RowName.{RowName}
+use Rattle.rg_cert_meaning.specs.declared.RowName.TheVariants as row_name
+use Rattle.rg_cert_meaning.specs.declared.Form.{Form}
+use Rattle.rg_cert_meaning.specs.declared.Form.TheVariants as split_form
+use Rattle.rg_cert_meaning.specs.Row.{Side, FormStands, SideStands, SharedStands, HasArcAt, EventStands, consumer_of, RowStands}
+use Rattle.rg_cert_meaning.specs.Refutes.{IsMultiplier}
 
 less_decided : (m n : ℕ) → Decided (m < n)
 less_decided m n = by (cases_lt m n)

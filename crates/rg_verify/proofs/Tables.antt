@@ -3,15 +3,15 @@ use Rattle.std.proofs.Common.{◌≡◌, ◌⊎◌, ℕ, ◌≤◌, Bool, true, 
 use Rattle.std.proofs.lemmas.Int.{ints}
 use Rattle.std.proofs.lemmas.List.Elements.{All-nil, All-push, All-contains, Contains-push, Contains-append_left, Contains-push_cases, Contains-get_or}
 use Rattle.rg_theory.specs.System.{System, states, labels}
-use Rattle.rg_refuting.specs.Expression.{same_variable}
+use Rattle.rg_cert_meaning.specs.Expression.{same_variable}
 use Rattle.rg_integers.specs.Range.{greatest}
 use Rattle.rg_verify.specs.declared.sums.Sum.{Sum}
 use Rattle.rg_verify.specs.declared.sums.Sums.{Sums}
 use Rattle.rg_verify.specs.Sums.{signed_of, size_of, entry_of, size_at, HasEntry, IsTidy, HasSameVariables, HasSameEntries, IsClear}
 use Rattle.rg_verify.proofs.Places.{some_item}
-use Rattle.rg_refuting.proofs.Sums.{same_variable_is, same_variable_refl}
-use Rattle.rg_refuting.specs.declared.Variable.{Variable}
-use Rattle.rg_refuting.specs.declared.Variable.TheVariants.{Tokens, Effect}
+use Rattle.rg_cert_meaning.proofs.Sums.{same_variable_is, same_variable_refl}
+use Rattle.rg_cert_meaning.specs.declared.Variable.{Variable}
+use Rattle.rg_cert_meaning.specs.declared.Variable.TheVariants.{Tokens, Effect}
 
 -- ---- entries
 

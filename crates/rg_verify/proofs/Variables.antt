@@ -1,9 +1,9 @@
 -- Variables: which comes first.
 use Rattle.std.proofs.Common.{◌≡◌, ◌⊎◌, ◌<◌, inl, inr, ap, arith}
 use Rattle.std.proofs.lemmas.Bool.{cases_order}
-use Rattle.rg_refuting.specs.declared.Variable.{Variable}
+use Rattle.rg_cert_meaning.specs.declared.Variable.{Variable}
 use Rattle.rg_verify.specs.Judged.{IsVariableBefore}
-use Rattle.rg_refuting.specs.declared.Variable.TheVariants.{Tokens, Effect}
+use Rattle.rg_cert_meaning.specs.declared.Variable.TheVariants.{Tokens, Effect}
 
 pub before_or_not : (v w : Variable) → IsVariableBefore v w ⊎ ((v ≡ w) ⊎ IsVariableBefore w v)
 before_or_not (Tokens q) (Tokens r) = by (cases_order q r)

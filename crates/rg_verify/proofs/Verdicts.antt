@@ -9,15 +9,15 @@ use Rattle.rg_theory.specs.declared.Class.{Class}
 use Rattle.rg_theory.specs.Class.{NoNet}
 use Rattle.rg_theory.specs.declared.Problem.{Problem}
 use Rattle.rg_theory.specs.declared.Problem.TheVariants.{Event, States}
-use Rattle.rg_refuting.specs.Row.{HasArcAt, RowStands, row_expression, cases_of, Side}
-use Rattle.rg_refuting.specs.Refutes.{Tree, TreeRefutes, IsSeparationProblem, IsRefuted}
-use Rattle.rg_refuting.proofs.Accepted.{accepted}
-use Rattle.rg_reasons.specs.declared.certificate.Case.{Case}
-use Rattle.rg_reasons.specs.declared.certificate.Certificate.{Certificate}
-use Rattle.rg_reasons.specs.declared.certificate.Reason.TheVariants as reason
-use Rattle.rg_splits.specs.Trees.{TreeNode.leaf_node, TreeNode.split_node}
-use Rattle.rg_reasons.specs.Trees.{TreeNode}
-use Rattle.rg_reasons.specs.Certificates.{claim_of, IsCertificateOf, IsTreeOf, case_tree, reason_of}
+use Rattle.rg_cert_meaning.specs.Row.{HasArcAt, RowStands, row_expression, cases_of, Side}
+use Rattle.rg_cert_meaning.specs.Refutes.{Tree, TreeRefutes, IsSeparationProblem, IsRefuted}
+use Rattle.rg_cert_meaning.proofs.Accepted.{accepted}
+use Rattle.rg_cert_data.specs.declared.certificate.Case.{Case}
+use Rattle.rg_cert_data.specs.declared.certificate.Certificate.{Certificate}
+use Rattle.rg_cert_data.specs.declared.certificate.Reason.TheVariants as reason
+use Rattle.rg_branch_trees.specs.Trees.{TreeNode.leaf_node, TreeNode.split_node}
+use Rattle.rg_cert_data.specs.Trees.{TreeNode}
+use Rattle.rg_cert_data.specs.Certificates.{claim_of, IsCertificateOf, IsTreeOf, case_tree, reason_of}
 use Rattle.rg_verify.specs.declared.verdict.Verdict.{Verdict}
 use Rattle.rg_verify.specs.declared.verdict.Verdict.TheVariants.{Accepted, Refused}
 use Rattle.rg_verify.specs.declared.verdict.Defect.{Defect}

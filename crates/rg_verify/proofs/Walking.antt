@@ -6,21 +6,21 @@ use Rattle.std.proofs.lemmas.List.Elements.{All-contains, Contains-get_or, Conta
 use Rattle.rg_theory.specs.System.{System}
 use Rattle.rg_theory.specs.declared.Class.{Class}
 use Rattle.rg_theory.specs.declared.Problem.{Problem}
-use Rattle.rg_refuting.specs.Row.{FormStands, RowStands, row_expression, Side}
-use Rattle.rg_splits.specs.Trees.{Tree.leaf, Tree.split, TreeNode.leaf_node, TreeNode.split_node, preorder, low_side, high_side, placed_nodes}
-use Rattle.rg_splits.specs.Turning.{turned_back, turned}
-use Rattle.rg_splits.proofs.Turning.{turned_low, turned_high}
-use Rattle.rg_refuting.specs.Refutes.{NamedRow, LeafRefutes, Tree, TreeRefutes}
-use Rattle.rg_reasons.specs.declared.certificate.Case.{Case}
-use Rattle.rg_reasons.specs.declared.certificate.Node.{Node}
-use Rattle.rg_reasons.specs.Certificates.{case_tree, IsWhole, IsNodeOf, IsTreeOf}
-use Rattle.rg_reasons.specs.Trees.{TreeNode, node_of}
+use Rattle.rg_cert_meaning.specs.Row.{FormStands, RowStands, row_expression, Side}
+use Rattle.rg_branch_trees.specs.Trees.{Tree.leaf, Tree.split, TreeNode.leaf_node, TreeNode.split_node, preorder, low_side, high_side, placed_nodes}
+use Rattle.rg_branch_trees.specs.Turning.{turned_back, turned}
+use Rattle.rg_branch_trees.proofs.Turning.{turned_low, turned_high}
+use Rattle.rg_cert_meaning.specs.Refutes.{NamedRow, LeafRefutes, Tree, TreeRefutes}
+use Rattle.rg_cert_data.specs.declared.certificate.Case.{Case}
+use Rattle.rg_cert_data.specs.declared.certificate.Node.{Node}
+use Rattle.rg_cert_data.specs.Certificates.{case_tree, IsWhole, IsNodeOf, IsTreeOf}
+use Rattle.rg_cert_data.specs.Trees.{TreeNode, node_of}
 use Rattle.rg_verify.specs.declared.verdict.Defect.{Defect}
 use Rattle.rg_verify.specs.declared.verdict.Defect.TheVariants.{WrongForm}
 use Rattle.rg_verify.specs.Judged.{IsReached, PlacedNode, HoldsAt, NodeHolds, IsDefectOf, IsNodeDefect, IsDefectIn}
 use Rattle.rg_verify.proofs.Places.{image_at}
 use Rattle.rg_verify.specs.Sides.{IsSideOf}
-use Rattle.rg_refuting.specs.declared.Form.{Form}
+use Rattle.rg_cert_meaning.specs.declared.Form.{Form}
 
 -- ---- the sides above the next node
 

@@ -3,22 +3,22 @@ use Rattle.std.specs.Prelude.{◌≡◌, ◌≢◌, ℕ, ◌<◌, List, [], leng
 use Rattle.rg_theory.specs.System.{System}
 use Rattle.rg_theory.specs.declared.Class.{Class}
 use Rattle.rg_theory.specs.declared.Problem.{Problem}
-use Rattle.rg_refuting.specs.Expression.{Expression}
-use Rattle.rg_refuting.specs.Row.{FormStands, RowStands, row_expression, cases_of, Side}
-use Rattle.rg_refuting.specs.declared.Form.{Form}
-use Rattle.rg_refuting.specs.declared.RowName.{RowName}
-use Rattle.rg_splits.specs.Trees as splits
-use Rattle.rg_splits.specs.Trees.{TreeNode.leaf_node, TreeNode.split_node, placed_nodes}
-use Rattle.rg_refuting.specs.Refutes.{NamedRow, IsMultiplier, IsSmall, coefficient_sum, constant_sum, LeafRefutes, Tree, TreeRefutes, IsSeparationProblem, IsRefuted, Accepts}
-use Rattle.rg_refuting.specs.Refutes as refutes
-use Rattle.rg_reasons.specs.Trees.{TreeNode}
-use Rattle.rg_reasons.specs.Certificates.{Claim, IsVariableOf}
+use Rattle.rg_cert_meaning.specs.Expression.{Expression}
+use Rattle.rg_cert_meaning.specs.Row.{FormStands, RowStands, row_expression, cases_of, Side}
+use Rattle.rg_cert_meaning.specs.declared.Form.{Form}
+use Rattle.rg_cert_meaning.specs.declared.RowName.{RowName}
+use Rattle.rg_branch_trees.specs.Trees as splits
+use Rattle.rg_branch_trees.specs.Trees.{TreeNode.leaf_node, TreeNode.split_node, placed_nodes}
+use Rattle.rg_cert_meaning.specs.Refutes.{NamedRow, IsMultiplier, IsSmall, coefficient_sum, constant_sum, LeafRefutes, Tree, TreeRefutes, IsSeparationProblem, IsRefuted, Accepts}
+use Rattle.rg_cert_meaning.specs.Refutes as refutes
+use Rattle.rg_cert_data.specs.Trees.{TreeNode}
+use Rattle.rg_cert_data.specs.Certificates.{Claim, IsVariableOf}
 use Rattle.rg_verify.specs.declared.verdict.Defect.{Defect}
 use Rattle.rg_verify.specs.declared.verdict.Defect.TheVariants.{WrongRow, NotPositive, LeftOver, NoContradiction, SumPasses, WrongForm, CaseMissing, NotSo}
 use Rattle.rg_verify.specs.declared.verdict.Verdict.{Verdict}
 use Rattle.rg_verify.specs.declared.verdict.Verdict.TheVariants.{Accepted, Refused}
-use Rattle.rg_refuting.specs.declared.Variable.{Variable}
-use Rattle.rg_refuting.specs.declared.Variable.TheVariants.{Tokens, Effect}
+use Rattle.rg_cert_meaning.specs.declared.Variable.{Variable}
+use Rattle.rg_cert_meaning.specs.declared.Variable.TheVariants.{Tokens, Effect}
 
 -- the reason of a claim holds of the system
 abbrev pub Holds : System → Claim → Type 0

@@ -1,10 +1,10 @@
 -- The rows in one case of a problem, below the sides above a leaf.
 use Rattle.std.specs.Prelude.{List}
 use Rattle.rg_theory.specs.System.{System}
-use Rattle.rg_refuting.specs.Expression.{Expression}
-use Rattle.rg_refuting.specs.Row.{RowStands, row_expression, Side}
-use Rattle.rg_refuting.specs.declared.RowName.{RowName}
-use Rattle.rg_reasons.specs.declared.problem_case.ProblemCase.{ProblemCase}
+use Rattle.rg_cert_meaning.specs.Expression.{Expression}
+use Rattle.rg_cert_meaning.specs.Row.{RowStands, row_expression, Side}
+use Rattle.rg_cert_meaning.specs.declared.RowName.{RowName}
+use Rattle.rg_cert_data.specs.declared.problem_case.ProblemCase.{ProblemCase}
 
 -- the place of a row in a certificate
 abbrev pub StandsIn : System → ProblemCase → List Side → RowName → Type 0

@@ -1,8 +1,8 @@
 -- The splits above a leaf, and which numbers they may have.
 use Rattle.std.specs.Prelude.{List, All}
 use Rattle.rg_theory.specs.System.{System}
-use Rattle.rg_reasons.specs.Certificates.{IsFormOf, IsSplitInRange}
-use Rattle.rg_refuting.specs.Row.{Side}
+use Rattle.rg_cert_data.specs.Certificates.{IsFormOf, IsSplitInRange}
+use Rattle.rg_cert_meaning.specs.Row.{Side}
 
 -- the form is of a state or label of the system, and the number is in range
 abbrev pub IsSideOf : System → Side → Type 0

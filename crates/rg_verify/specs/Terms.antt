@@ -1,14 +1,14 @@
 -- Expressions of at most three terms.
 use Rattle.std.specs.Prelude.{◌≡◌, ℕ, List, Option, Some, None, All, nat_abs, sum_by, if◌then◌else◌}
 use Rattle.rg_theory.specs.System.{System}
-use Rattle.rg_refuting.specs.Expression as linear
-use Rattle.rg_refuting.specs.Expression.{same_variable, coefficient_in}
-use Rattle.rg_reasons.specs.Certificates.{IsVariableOf, IsTermWithin}
-use Rattle.rg_reasons.specs.declared.term.Term.{Term}
-use Rattle.rg_reasons.specs.declared.term.Term.TheVariants.{Plus, Minus}
-use Rattle.rg_reasons.specs.declared.sum.Expression.{Expression}
-use Rattle.rg_reasons.specs.Sums.{terms_in}
-use Rattle.rg_refuting.specs.declared.Variable.{Variable}
+use Rattle.rg_cert_meaning.specs.Expression as linear
+use Rattle.rg_cert_meaning.specs.Expression.{same_variable, coefficient_in}
+use Rattle.rg_cert_data.specs.Certificates.{IsVariableOf, IsTermWithin}
+use Rattle.rg_cert_data.specs.declared.term.Term.{Term}
+use Rattle.rg_cert_data.specs.declared.term.Term.TheVariants.{Plus, Minus}
+use Rattle.rg_cert_data.specs.declared.sum.Expression.{Expression}
+use Rattle.rg_cert_data.specs.Sums.{terms_in}
+use Rattle.rg_cert_meaning.specs.declared.Variable.{Variable}
 
 -- what the absolute values of a variable's coefficients add up to
 abbrev pub size_in : List linear.Term → Variable → ℕ

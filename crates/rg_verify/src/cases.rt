@@ -1,7 +1,7 @@
 //! What is wrong with a case.
 ghost use Rattle.std.specs.Prelude.{◌≡◌, [], IfOk, MatchOption};
-ghost use Rattle.rg_refuting.specs.Refutes.{TreeRefutes, IsSeparationProblem};
-ghost use Rattle.rg_reasons.specs.Certificates.{case_tree, IsWhole, IsTreeOf};
+ghost use Rattle.rg_cert_meaning.specs.Refutes.{TreeRefutes, IsSeparationProblem};
+ghost use Rattle.rg_cert_data.specs.Certificates.{case_tree, IsWhole, IsTreeOf};
 ghost use Rattle.rg_verify.specs.Judged.{IsDefectIn};
 ghost use Rattle.rg_verify.specs.Sides.{AreSidesOf};
 ghost use Rattle.rg_verify.specs.Sums.{IsClear};
@@ -10,11 +10,11 @@ ghost use Rattle.rg_verify.specs.declared.verdict.Verdict.TheVariants as verdict
 use crate::leaves::leaf_defect;
 use crate::sums::Sums;
 use crate::verdict::{Defect, Verdict};
+use rg_branch_trees::turn;
+use rg_cert_data::{Case, Node, ProblemCase};
+use rg_cert_meaning::Side;
 use rg_lts::Lts;
 use rg_memory::NoMemory;
-use rg_reasons::{Case, Node, ProblemCase};
-use rg_refuting::Side;
-use rg_splits::turn;
 use std::alloc::Global;
 
 /// A defect and the node that has it.

@@ -3,8 +3,8 @@ ghost use Rattle.std.specs.Prelude.{◌≡◌, ◌≢◌, ℕ, ◌<◌, ◌≤�
 ghost use Rattle.rg_theory.specs.System.{arc, states, labels, IsInRange, IsArcBefore, IsClosedWithout};
 ghost use Rattle.rg_theory.specs.Class.{NoNet};
 ghost use Rattle.rg_theory.specs.declared.Problem.TheVariants as problem;
-ghost use Rattle.rg_refuting.specs.Row.{cases_of};
-ghost use Rattle.rg_reasons.specs.Certificates.{claim_of, IsCertificateOf, IsWhole, IsTreeOf, case_tree};
+ghost use Rattle.rg_cert_meaning.specs.Row.{cases_of};
+ghost use Rattle.rg_cert_data.specs.Certificates.{claim_of, IsCertificateOf, IsWhole, IsTreeOf, case_tree};
 ghost use Rattle.rg_verify.specs.Judged.{Judges, JudgesTrees, HasAllCases};
 ghost use Rattle.rg_verify.specs.declared.verdict.Verdict.TheVariants as verdict;
 ghost use Rattle.rg_verify.specs.declared.verdict.Defect.TheVariants as defect;
@@ -13,10 +13,10 @@ use crate::cases::case_defect;
 use crate::standing::{has_arc, has_arc_at};
 use crate::sums::Sums;
 use crate::verdict::{Defect, Verdict};
+use rg_cert_data::{Case, Certificate, ProblemCase, Reason};
 use rg_checks::reach;
 use rg_lts::Lts;
 use rg_memory::NoMemory;
-use rg_reasons::{Case, Certificate, ProblemCase, Reason};
 use rg_theory::{Arc, Class, Problem};
 use std::alloc::Global;
 

@@ -1,7 +1,7 @@
 //! A certificate has one verdict, and always one.
 ghost use Rattle.std.specs.Prelude.{◌≡◌};
 ghost use Rattle.rg_theory.specs.System.{System, IsInRange};
-ghost use Rattle.rg_reasons.specs.Certificates.{Claim, IsClaimOf};
+ghost use Rattle.rg_cert_data.specs.Certificates.{Claim, IsClaimOf};
 ghost use Rattle.rg_verify.specs.declared.verdict.Verdict.{Verdict};
 ghost use Rattle.rg_verify.specs.Judged.{Judges};
 

@@ -1,8 +1,8 @@
 //! What is wrong with a leaf.
 ghost use Rattle.std.specs.Prelude.{◌↔◌, IfOk, IsTrue, MatchOption, map, All};
-ghost use Rattle.rg_refuting.specs.Refutes.{IsMultiplier, LeafRefutes, IsSeparationProblem};
-ghost use Rattle.rg_reasons.specs.Certificates.{IsRowOf};
-ghost use Rattle.rg_reasons.specs.Trees.{named_row};
+ghost use Rattle.rg_cert_meaning.specs.Refutes.{IsMultiplier, LeafRefutes, IsSeparationProblem};
+ghost use Rattle.rg_cert_data.specs.Certificates.{IsRowOf};
+ghost use Rattle.rg_cert_data.specs.Trees.{named_row};
 ghost use Rattle.rg_verify.specs.Judged.{IsRightRow, IsDefectOf};
 ghost use Rattle.rg_verify.specs.Settings.{StandsIn, expression_in};
 ghost use Rattle.rg_verify.specs.Sides.{AreSidesOf};
@@ -11,10 +11,10 @@ ghost use Rattle.rg_verify.specs.Sums.{IsClear};
 use crate::standing::stands;
 use crate::sums::{Stop, Sums};
 use crate::verdict::Defect;
+use rg_cert_data::ProblemCase;
+use rg_cert_meaning::{RowName, Side};
 use rg_lts::Lts;
 use rg_memory::NoMemory;
-use rg_reasons::ProblemCase;
-use rg_refuting::{RowName, Side};
 
 /// What is wrong with the rows of a leaf; None where they refute. The sums are the table for the leaf, and are 0 before and after.
 pub(crate) fn leaf_defect(

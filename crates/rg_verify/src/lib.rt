@@ -12,7 +12,7 @@ mod verdict;
 
 pub use judging::verify;
 pub use laws::one_verdict;
+pub use rg_cert_meaning::Variable;
 pub use rg_memory::NoMemory;
 pub use rg_net_verdict::{CheckStop, CheckWide, NetNo, NetVerdict, check_net};
-pub use rg_refuting::Variable;
 pub use verdict::{Defect, Verdict};

@@ -1,15 +1,15 @@
 //! Rows in which no two terms are opposite.
 ghost use Rattle.std.specs.Prelude.{◌≡◌, ◌↔◌, IsTrue};
-ghost use Rattle.rg_refuting.specs.Refutes.{IsSeparationProblem};
-ghost use Rattle.rg_reasons.specs.Certificates.{IsRowNameOf};
-ghost use Rattle.rg_reasons.specs.Sums.{terms_in};
+ghost use Rattle.rg_cert_meaning.specs.Refutes.{IsSeparationProblem};
+ghost use Rattle.rg_cert_data.specs.Certificates.{IsRowNameOf};
+ghost use Rattle.rg_cert_data.specs.Sums.{terms_in};
 ghost use Rattle.rg_verify.specs.Settings.{expression_in};
 ghost use Rattle.rg_verify.specs.Sides.{AreSidesOf};
 ghost use Rattle.rg_verify.specs.Terms.{opposite, AreOpposite, IsReducedSum, IsExpressionOf};
 
+use rg_cert_data::{Expression, ProblemCase, Term, expression};
+use rg_cert_meaning::{RowName, Side};
 use rg_lts::Lts;
-use rg_reasons::{Expression, ProblemCase, Term, expression};
-use rg_refuting::{RowName, Side};
 
 /// What a row says in a case of a problem and below the sides above it, where the coefficients of one variable are
 /// added up.

@@ -1,14 +1,14 @@
 //! Whether a row applies.
 ghost use Rattle.std.specs.Prelude.{◌≡◌, ◌<◌, ◌↔◌, AllPairs, Contains, IsTrue};
 ghost use Rattle.rg_theory.specs.System.{arc, states, labels, IsArcBefore};
-ghost use Rattle.rg_refuting.specs.Row.{HasArcAt, SharedStands, EventStands};
-ghost use Rattle.rg_refuting.specs.Refutes.{IsSeparationProblem};
-ghost use Rattle.rg_reasons.specs.Certificates.{IsRowNameOf};
+ghost use Rattle.rg_cert_meaning.specs.Row.{HasArcAt, SharedStands, EventStands};
+ghost use Rattle.rg_cert_meaning.specs.Refutes.{IsSeparationProblem};
+ghost use Rattle.rg_cert_data.specs.Certificates.{IsRowNameOf};
 ghost use Rattle.rg_verify.specs.Settings.{StandsIn};
 
+use rg_cert_data::ProblemCase;
+use rg_cert_meaning::{RowName, Side};
 use rg_lts::Lts;
-use rg_reasons::ProblemCase;
-use rg_refuting::{RowName, Side};
 use rg_theory::{Arc, Class, Problem};
 
 /// Whether the row applies in a case of a problem, below the sides above it.

@@ -1,19 +1,19 @@
 //! The sums of rows, multiplied and added up.
 ghost use Rattle.std.specs.Prelude.{◌≡◌, ◌↔◌, ◌+◌, ◌<◌, ◌^◌, ◌≤◌, ◌⊎◌, [], ◌∷◌, if◌then◌else◌, IsTrue, IfOk, IfErr, OnOk, MatchOption, Some, pos, ◌+ℤ◌, nat_abs, map, All, Contains, length};
 ghost use Rattle.rg_integers.specs.Range.{InRange, greatest};
-ghost use Rattle.rg_refuting.specs.Expression.{same_variable};
-ghost use Rattle.rg_refuting.specs.Refutes.{IsSeparationProblem, IsSmall};
-ghost use Rattle.rg_reasons.specs.Certificates.{IsRowOf};
-ghost use Rattle.rg_reasons.specs.Trees.{named_row};
+ghost use Rattle.rg_cert_meaning.specs.Expression.{same_variable};
+ghost use Rattle.rg_cert_meaning.specs.Refutes.{IsSeparationProblem, IsSmall};
+ghost use Rattle.rg_cert_data.specs.Certificates.{IsRowOf};
+ghost use Rattle.rg_cert_data.specs.Trees.{named_row};
 ghost use Rattle.rg_verify.specs.Judged.{IsVariableBefore};
 
 use crate::opposites::row_expression;
 use crate::verdict::{Defect, comes_before};
+use rg_cert_data::{Expression, ProblemCase, Term};
+use rg_cert_meaning::{RowName, Side, Variable};
 use rg_integers::GREATEST;
 use rg_lts::Lts;
 use rg_memory::NoMemory;
-use rg_reasons::{Expression, ProblemCase, Term};
-use rg_refuting::{RowName, Side, Variable};
 use std::alloc::{AllocError, AllocFailed, Global};
 
 /// A sum of numbers, and that of their absolute values.
@@ -97,8 +97,8 @@ pub(crate) struct Sums {
 impl Sums {
     ghost use Rattle.rg_verify.specs.Settings.{expression_in};
     ghost use Rattle.rg_verify.specs.Sides.{AreSidesOf};
-    ghost use Rattle.rg_reasons.specs.Sums.{terms_in};
-    ghost use Rattle.rg_reasons.specs.Sums.{term_of};
+    ghost use Rattle.rg_cert_data.specs.Sums.{terms_in};
+    ghost use Rattle.rg_cert_data.specs.Sums.{term_of};
     ghost use Rattle.rg_verify.specs.Sums.{entry_of, signed_at, HasEntry, IsTidy, HasSameVariables, HasSameEntries, IsTableOf, IsZero, IsClear, AreSumsOf, AddsTerms, AddsRow, PassesByTerms, PassesByRow, IsLeftFirst, HasNoDefect, IsSumDefect};
     ghost use Rattle.rg_verify.specs.declared.sums.Stop.TheVariants as stop;
 

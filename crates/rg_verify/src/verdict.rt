@@ -2,7 +2,7 @@
 ghost use Rattle.std.specs.Prelude.{◌↔◌, IsTrue};
 ghost use Rattle.rg_verify.specs.Judged.{IsVariableBefore};
 
-use rg_refuting::Variable;
+use rg_cert_meaning::Variable;
 
 // Whether the one variable comes before the other: tokens come first, by state, then effects, by label.
 pub(crate) fn comes_before(one: Variable, other: Variable) -> bool

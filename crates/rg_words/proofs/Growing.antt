@@ -9,8 +9,8 @@ use Rattle.std.proofs.lemmas.List.Elements.{Contains-append_left, Contains-appen
 use Rattle.std.proofs.lemmas.Option.{slice_get_within, get_or_from_slice_get, slice_get-get_or}
 use Rattle.std.proofs.lemmas.Slice.Eq.{bytes_eq-Decides, slice_eq-Decides}
 use Rattle.rg_theory.specs.System.{arc}
-use Rattle.rg_firsts.specs.First.{with_new, firsts}
-use Rattle.rg_firsts.proofs.Things.{there_at, there_later, last_there, stays_at, stands_last, there_one, fold-append, grown, new_there, new_absent, number_is, number_stays, met, firsts_differ, map_there}
+use Rattle.rg_line_formats.specs.First.{with_new, firsts}
+use Rattle.rg_line_formats.proofs.Things.{there_at, there_later, last_there, stays_at, stands_last, there_one, fold-append, grown, new_there, new_absent, number_is, number_stays, met, firsts_differ, map_there}
 use Rattle.rg_words.specs.Contents.{Word, Use, prefix, same_word, prefixes, label_names, arc_of}
 use Rattle.rg_words.specs.Reading.{arcs_from, step_arcs, LeadsTo, arcs_of, AreSteps}
 

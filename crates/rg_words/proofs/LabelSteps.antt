@@ -9,9 +9,9 @@ use Rattle.rg_text.specs.Limits.{most_name_bytes}
 use Rattle.rg_theory.specs.Limits.{most_states, most_labels}
 use Rattle.rg_theory.specs.System.{arc}
 use Rattle.rg_lts.specs.Draft.{Draft}
-use Rattle.rg_firsts.specs.First.{with_new}
-use Rattle.rg_firsts.specs.Grown.{with_label}
-use Rattle.rg_firsts.proofs.Things.{there_one, last_there}
+use Rattle.rg_line_formats.specs.First.{with_new}
+use Rattle.rg_line_formats.specs.Grown.{with_label}
+use Rattle.rg_line_formats.proofs.Things.{there_one, last_there}
 use Rattle.rg_words.specs.declared.fault.WordFault.TheVariants.{TooManyLabels, TooManyStates}
 use Rattle.rg_words.specs.Contents.{Word, Use, prefix, prefixes, label_names, state_names, name_bytes, fault_of, use_fault}
 use Rattle.rg_words.specs.Reading.{use_of, step_arcs, IsDraftOf, IsAt, IsGrown}

@@ -2,7 +2,7 @@
 use Rattle.std.proofs.Common.{◌≡◌, ◌⊎◌, inl, inr, ⊎_elim, ℕ, List, length, map}
 use Rattle.rg_theory.specs.System.{System}
 use Rattle.rg_text.proofs.Left.{one_first, none_or_first, some_first}
-use Rattle.rg_firsts.proofs.Parts.{some_with, one_with}
+use Rattle.rg_line_formats.proofs.Parts.{some_with, one_with}
 use Rattle.rg_words.specs.declared.fault.WordFault.{WordFault}
 use Rattle.rg_words.specs.Contents.{Use, uses, prefixes, label_names, state_names, arc_of, faults}
 use Rattle.rg_words.specs.Spells.{IsTreeOf, Spells, FirstFault}

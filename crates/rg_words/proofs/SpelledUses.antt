@@ -9,8 +9,8 @@ use Rattle.rg_text.specs.Byte.{is_name_byte, is_blank_byte, IsName}
 use Rattle.rg_text.specs.Faults.{faults_after, IsFirst, AreNone}
 use Rattle.rg_text.specs.Limits.{most_name_bytes}
 use Rattle.rg_theory.specs.Limits.{most_states, most_labels}
-use Rattle.rg_firsts.specs.Numbered.{Line}
-use Rattle.rg_firsts.specs.Words.{words}
+use Rattle.rg_line_formats.specs.Numbered.{Line}
+use Rattle.rg_line_formats.specs.Words.{words}
 use Rattle.rg_words.specs.declared.fault.WordFault.{WordFault}
 use Rattle.rg_words.specs.declared.fault.WordFault.TheVariants.{BadByte, TooManyStates, TooManyLabels, LongName, NoMemory}
 use Rattle.rg_words.specs.Contents.{Word, Use, begins_with_hash, word_of, uses_from, prefix, prefixes, label_names, name_bytes, fault_of, use_fault}

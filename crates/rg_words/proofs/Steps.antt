@@ -11,8 +11,8 @@ use Rattle.std.proofs.lemmas.List.FromFn.{length-map-range_with_len, get_or-map-
 use Rattle.std.proofs.lemmas.List.Sums.{AllPass-from_list_all}
 use Rattle.std.proofs.lemmas.Option.{slice_get-get_or}
 use Rattle.rg_text.specs.Byte.{is_name_byte, IsName}
-use Rattle.rg_firsts.specs.First.{with_new}
-use Rattle.rg_firsts.proofs.Present.{new_absent}
+use Rattle.rg_line_formats.specs.First.{with_new}
+use Rattle.rg_line_formats.proofs.Present.{new_absent}
 use Rattle.indexmap.specs.IndexSet.{insert_key}
 use Rattle.rg_words.specs.Contents.{state_names}
 

@@ -7,9 +7,9 @@ use Rattle.rg_theory.specs.declared.Arc.{Arc}
 use Rattle.rg_theory.specs.System.{IsArcBefore}
 use Rattle.rg_lts.specs.Draft.{Draft, blank, IsArcWithin, AddsArc, IsWellFormedDraft}
 use Rattle.rg_lts.proofs.OrderedArcs.{has_from, contains_from, ordered_from}
-use Rattle.rg_firsts.specs.First.{same_arc}
-use Rattle.rg_firsts.proofs.Counted.{how_many}
-use Rattle.rg_firsts.proofs.Things.{firsts_short}
+use Rattle.rg_line_formats.specs.First.{same_arc}
+use Rattle.rg_line_formats.proofs.Counted.{how_many}
+use Rattle.rg_line_formats.proofs.Things.{firsts_short}
 use Rattle.rg_words.specs.Contents.{state_names}
 use Rattle.rg_words.specs.Reading.{step_arcs, arcs_from, AreSteps, IsDraftOf, IsAt, IsGrown}
 use Rattle.rg_words.proofs.Steps.{names_more, states_long}

@@ -5,12 +5,12 @@ use Rattle.std.specs.Str.{bytes_eq}
 use Rattle.std.specs.Cmp.Lexicographic.{pointwise}
 use Rattle.rg_text.specs.Byte.{is_name_byte}
 use Rattle.rg_text.specs.Limits.{most_name_bytes}
-use Rattle.rg_firsts.specs.Words.{words}
+use Rattle.rg_line_formats.specs.Words.{words}
 use Rattle.rg_theory.specs.declared.Arc.{Arc}
 use Rattle.rg_text.specs.Faults.{faults_after}
 use Rattle.rg_theory.specs.Limits.{most_states, most_labels}
-use Rattle.rg_firsts.specs.First.{firsts, number_of}
-use Rattle.rg_firsts.specs.Numbered.{Line, numbered}
+use Rattle.rg_line_formats.specs.First.{firsts, number_of}
+use Rattle.rg_line_formats.specs.Numbered.{Line, numbered}
 use Rattle.rg_words.specs.declared.fault.WordFault.{WordFault}
 use Rattle.rg_words.specs.declared.fault.WordFault.TheVariants.{BadByte, TooManyStates, TooManyLabels, LongName}
 

@@ -6,8 +6,8 @@ use Rattle.rg_theory.specs.Limits.{most_states, most_labels}
 use Rattle.rg_theory.specs.declared.Arc.{Arc}
 use Rattle.rg_theory.specs.System.{arc}
 use Rattle.rg_lts.specs.Draft.{Draft}
-use Rattle.rg_firsts.specs.Numbered.{Line}
-use Rattle.rg_firsts.specs.Words.{words}
+use Rattle.rg_line_formats.specs.Numbered.{Line}
+use Rattle.rg_line_formats.specs.Words.{words}
 use Rattle.rg_words.specs.declared.fault.WordFault.{WordFault}
 use Rattle.rg_words.specs.Contents.{Word, Use, uses_from, word_of, prefixes, label_names, state_names, arc_of, use_fault}
 

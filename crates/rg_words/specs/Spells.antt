@@ -2,7 +2,7 @@
 use Rattle.std.specs.Prelude.{ℕ, List, length, map}
 use Rattle.rg_theory.specs.System.{System}
 use Rattle.rg_text.specs.Faults.{IsFirst, AreNone}
-use Rattle.rg_firsts.specs.Parts.{IsSystemWith}
+use Rattle.rg_line_formats.specs.Parts.{IsSystemWith}
 use Rattle.rg_words.specs.declared.fault.WordFault.{WordFault}
 use Rattle.rg_words.specs.Contents.{Use, uses, prefixes, label_names, state_names, arc_of, faults}
 

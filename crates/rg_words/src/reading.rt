@@ -8,7 +8,7 @@ ghost use Rattle.rg_theory.specs.Limits.{most_states};
 ghost use Rattle.rg_theory.specs.System.{arc};
 ghost use Rattle.rg_lts.specs.WellFormed.{IsWellFormed};
 ghost use Rattle.rg_lts.specs.Draft.{finished};
-ghost use Rattle.rg_firsts.specs.Words.{words};
+ghost use Rattle.rg_line_formats.specs.Words.{words};
 ghost use Rattle.rg_words.specs.Contents.{Word, Use, uses, uses_from, word_of, begins_with_hash, state_names, use_fault};
 ghost use Rattle.rg_words.specs.Reading.{use_of, IsDraftOf, IsAt, IsGrown, Stands, uses_of};
 ghost use Rattle.rg_words.specs.Spells.{IsTreeOf, Spells, FirstFault};
@@ -18,7 +18,7 @@ ghost use Rattle.rg_words.specs.declared.fault.WordFault.TheVariants.{NoMemory};
 use crate::fault::WordFault;
 use crate::label::{check, index_of, label_at, state_name};
 use indexmap::IndexSet;
-use rg_firsts::{as_name, cut_line, cut_word};
+use rg_line_formats::{as_name, cut_line, cut_word};
 use rg_lts::{Arc, BuildFault, Lts, LtsBuilder, MOST_STATES};
 use std::alloc::Global;
 

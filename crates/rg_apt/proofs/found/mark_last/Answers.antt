@@ -1,5 +1,5 @@
 use Rattle.std.proofs.Common.{◌-◌, true, refl, arith}
-use Rattle.rg_items.proofs.Last.{last_set}
+use Rattle.rg_grammar.proofs.Last.{last_set}
 use Rattle.rg_apt.specs.declared.found.FoundState.{FoundState}
 use Rattle.rg_apt.specs.Reading.{marked_entry}
 use Rattle.rg_apt.specs.FoundView.{state_in}

@@ -1,10 +1,10 @@
 use Rattle.std.proofs.Common.{◌≢◌, ℕ, List, ap, subst}
 use Rattle.std.proofs.lemmas.Result.{err_from_is_err_and}
 use Rattle.rg_text.specs.Faults.{IsFirst, AreNone}
-use Rattle.rg_items.specs.declared.fault.ItemFault.{ItemFault}
-use Rattle.rg_items.specs.declared.fault.ItemFault.TheVariants as item
-use Rattle.rg_items.specs.Text.{FirstItemFault}
-use Rattle.rg_items.proofs.Described.{found_items}
+use Rattle.rg_grammar.specs.declared.fault.ItemFault.{ItemFault}
+use Rattle.rg_grammar.specs.declared.fault.ItemFault.TheVariants as item
+use Rattle.rg_grammar.specs.Text.{FirstItemFault}
+use Rattle.rg_grammar.proofs.Described.{found_items}
 use Rattle.rg_apt.specs.declared.fault.TextFault.TheVariants.{NoMemory}
 use Rattle.rg_apt.specs.Item.{AreItems}
 use Rattle.rg_apt.specs.Contents.{Declared, declared, faults, IsSystemOf}

@@ -1,6 +1,6 @@
 use Rattle.std.specs.Prelude.{◌≡◌, ℕ, ◌<◌, false, length, take, slice_index_or}
 use Rattle.rg_theory.specs.System.{labels}
-use Rattle.rg_order_of_work.specs.Rewriting.{has_label}
+use Rattle.rg_case_folds.specs.Rewriting.{has_label}
 use Rattle.rg_case_parts.proofs.columns.used_labels.Given as goal
 
 abbrev pub invariant-loop-a : goal.invariant-loop-a

@@ -3,7 +3,7 @@ use Rattle.std.specs.Prelude.{◌+ℤ◌}
 use Rattle.std.specs.Int.{w128, cast_signed}
 use Rattle.std.proofs.lemmas.Int.{ints}
 use Rattle.rg_integers.proofs.Casts.{back}
-use Rattle.rg_order_of_work.specs.Rewriting.{count_of}
+use Rattle.rg_case_folds.specs.Rewriting.{count_of}
 use Rattle.rg_case_parts.specs.StatesNamed.{TermNamesStateBelow}
 use Rattle.rg_case_parts.proofs.Counting.{in_range_between, count_next, nothing_next, term_at, whole_sum}
 use Rattle.rg_case_parts.proofs.counts.count.Goals as goal

@@ -3,7 +3,7 @@ use Rattle.std.specs.Prelude.{◌+ℤ◌}
 use Rattle.std.specs.Int.{w128, cast_signed}
 use Rattle.std.proofs.lemmas.Int.{ints}
 use Rattle.rg_integers.proofs.Casts.{back}
-use Rattle.rg_order_of_work.specs.Rewriting.{start_of}
+use Rattle.rg_case_folds.specs.Rewriting.{start_of}
 use Rattle.rg_case_parts.proofs.Counting.{in_range_between, start_next, nothing_next, whole_sum}
 use Rattle.rg_case_parts.proofs.counts.start.Goals as goal
 use Rattle.rg_case_parts.proofs.counts.start.Goals.{in-Some, in_default}

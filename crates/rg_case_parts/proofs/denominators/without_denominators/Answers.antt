@@ -3,15 +3,15 @@ use Rattle.std.specs.Prelude.{pos}
 use Rattle.std.specs.Int.{w128, cast_signed, cast_unsigned}
 use Rattle.std.proofs.lemmas.List.{length-map}
 use Rattle.rg_integers.proofs.Casts.{back}
-use Rattle.rg_order_of_work.specs.Fold.{ratio_of, whole, mul, each, multiple_of_all}
-use Rattle.rg_order_of_work.specs.Rewriting.{scaled_fold}
+use Rattle.rg_case_folds.specs.Fold.{ratio_of, whole, mul, each, multiple_of_all}
+use Rattle.rg_case_folds.specs.Rewriting.{scaled_fold}
 use Rattle.rg_fraction.specs.Fractions.{numerator_of}
 use Rattle.rg_fraction.proofs.Ones.{is_one}
 use Rattle.rg_fraction.specs.declared.fold_stop.FoldStop.TheVariants as stop
-use Rattle.rg_order_of_work.proofs.Comes.{comes_unless}
+use Rattle.rg_case_folds.proofs.Comes.{comes_unless}
 use Rattle.rg_case_parts.specs.WholeNumbers.{scaled_of}
 use Rattle.rg_case_parts.proofs.Multiples.{bottoms, tops}
-use Rattle.rg_order_of_work.proofs.Items.{each_length}
+use Rattle.rg_case_folds.proofs.Items.{each_length}
 use Rattle.rg_case_parts.proofs.Multiples.{scaled_unmultiplied, scaled_unmade, scaled_made, all_times_one}
 use Rattle.rg_case_parts.proofs.denominators.without_denominators.Goals as goal
 

@@ -2,7 +2,7 @@ use Rattle.std.proofs.Common.{◌≡◌, ◌<◌, ℕ, List, take, get_or, lengt
 use Rattle.std.proofs.Math.Seq.{take-length}
 use Rattle.rg_theory.specs.declared.Arc.{Arc}
 use Rattle.rg_theory.specs.Tree.{chords}
-use Rattle.rg_order_of_work.specs.Chords.{chord_vector, chord_vectors}
+use Rattle.rg_case_folds.specs.Chords.{chord_vector, chord_vectors}
 use Rattle.rg_cycles.specs.Vectors.{numbers_in}
 use Rattle.rg_case_parts.proofs.ChordVectors.{chord_in_range, few_vectors, are_vectors}
 use Rattle.rg_case_parts.proofs.vectors.chord_vectors.Goals as goal

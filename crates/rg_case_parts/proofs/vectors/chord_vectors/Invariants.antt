@@ -1,6 +1,6 @@
 use Rattle.std.proofs.Common.{◌≡◌, map, take, All}
 use Rattle.rg_integers.specs.Range.{InRange}
-use Rattle.rg_order_of_work.specs.Chords.{chord_vector}
+use Rattle.rg_case_folds.specs.Chords.{chord_vector}
 use Rattle.rg_cycles.specs.Vectors.{numbers_in}
 use Rattle.rg_case_parts.proofs.vectors.chord_vectors.Given as goal
 

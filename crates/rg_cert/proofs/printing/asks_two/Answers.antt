@@ -1,6 +1,6 @@
 use Rattle.std.proofs.Common.{◌||◌, sym, ap, ◌∙◌}
 use Rattle.std.specs.List.{list_any}
-use Rattle.rg_reasons.specs.Certificates.{reason_of}
+use Rattle.rg_cert_data.specs.Certificates.{reason_of}
 use Rattle.rg_cert.specs.Text.{splits_start, reason_nodes}
 use Rattle.rg_cert.proofs.WholeReasons.{reason_nodes_are}
 use Rattle.rg_cert.proofs.printing.asks_two.Goals as goal

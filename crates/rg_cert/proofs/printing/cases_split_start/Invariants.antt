@@ -1,6 +1,6 @@
 use Rattle.std.proofs.Common.{◌≡◌, map, drop}
 use Rattle.std.specs.List.{flat_map, list_any}
-use Rattle.rg_reasons.specs.Trees.{nodes_of}
+use Rattle.rg_cert_data.specs.Trees.{nodes_of}
 use Rattle.rg_cert.specs.Text.{splits_start}
 use Rattle.rg_cert.proofs.printing.cases_split_start.Given as goal
 

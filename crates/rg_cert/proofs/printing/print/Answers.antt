@@ -1,5 +1,5 @@
 use Rattle.std.proofs.Common.{◌++◌, ◌∷◌, [], ◌∙◌, ap, if◌then◌else◌}
-use Rattle.rg_reasons.specs.Certificates.{claim_of}
+use Rattle.rg_cert_data.specs.Certificates.{claim_of}
 use Rattle.rg_cert.specs.Text.{version_one, version_two, heading, spaced, version_of}
 use Rattle.rg_cert.proofs.Printed.{reason_parts, grown_text, text_spells}
 use Rattle.rg_cert.proofs.printing.print.Goals as goal

@@ -1,5 +1,5 @@
 use Rattle.std.proofs.Common.{arith}
-use Rattle.rg_reasons.specs.Trees.{nodes_of}
+use Rattle.rg_cert_data.specs.Trees.{nodes_of}
 use Rattle.rg_cert.specs.Text.{version_two}
 use Rattle.rg_cert.specs.Drafts.{nodes_lines, IsCase}
 use Rattle.rg_cert.proofs.Printed.{all_at, more_lines}

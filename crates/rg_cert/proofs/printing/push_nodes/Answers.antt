@@ -1,7 +1,7 @@
 use Rattle.std.proofs.Common.{arith}
-use Rattle.rg_reasons.specs.Trees.{node_of}
+use Rattle.rg_cert_data.specs.Trees.{node_of}
 use Rattle.rg_cert.specs.Text.{node_lines}
-use Rattle.rg_reasons.specs.Certificates.{IsNodeOf}
+use Rattle.rg_cert_data.specs.Certificates.{IsNodeOf}
 use Rattle.rg_cert.proofs.Printed.{all_at, more_lines}
 use Rattle.rg_cert.proofs.printing.push_nodes.Goals as goal
 

@@ -1,7 +1,7 @@
 use Rattle.std.proofs.Common.{◌≡◌, ◌++◌, map, drop}
 use Rattle.std.specs.List.{flat_map}
 use Rattle.rg_text.specs.Line.{fed}
-use Rattle.rg_reasons.specs.Trees.{node_of}
+use Rattle.rg_cert_data.specs.Trees.{node_of}
 use Rattle.rg_cert.specs.Text.{spaced}
 use Rattle.rg_cert.specs.Text.{node_lines}
 use Rattle.rg_cert.proofs.printing.push_nodes.Given as goal

@@ -3,13 +3,13 @@ use Rattle.std.specs.Fmt.{signed_decimal}
 use Rattle.std.proofs.lemmas.Int.{ints}
 use mir.Syntax.{w128}
 use mir.Val.{to_z, of_z}
-use Rattle.rg_reasons.specs.Trees.{named_row}
-use Rattle.rg_reasons.specs.Certificates.{IsRowOf}
+use Rattle.rg_cert_data.specs.Trees.{named_row}
+use Rattle.rg_cert_data.specs.Certificates.{IsRowOf}
 use Rattle.rg_cert.specs.Text.{row_fields, named_fields, spaced}
 use Rattle.rg_cert.proofs.Printed.{row_at, more_rows}
 use Rattle.rg_cert.proofs.printing.push_rows.Goals as goal
-use Rattle.rg_refuting.specs.declared.RowName.{RowName}
-use Rattle.rg_refuting.specs.declared.RowName.TheVariants as row_name
+use Rattle.rg_cert_meaning.specs.declared.RowName.{RowName}
+use Rattle.rg_cert_meaning.specs.declared.RowName.TheVariants as row_name
 
 abbrev some_row : RowName × ℤ
 some_row = (row_name.Arc (record { from = 0; label = 0; to = 0 }), pos 0)

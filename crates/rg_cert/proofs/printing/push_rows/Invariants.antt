@@ -1,6 +1,6 @@
 use Rattle.std.proofs.Common.{◌≡◌, ◌++◌, map, drop}
 use Rattle.rg_text.specs.Line.{fed}
-use Rattle.rg_reasons.specs.Trees.{named_row}
+use Rattle.rg_cert_data.specs.Trees.{named_row}
 use Rattle.rg_cert.specs.Text.{named_fields, spaced}
 use Rattle.rg_cert.proofs.printing.push_rows.Given as goal
 

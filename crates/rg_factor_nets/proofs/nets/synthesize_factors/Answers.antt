@@ -3,7 +3,7 @@ use Rattle.std.specs.List.{AllZip}
 use Rattle.std.proofs.lemmas.List.{length-map}
 use Rattle.rg_theory.specs.System.{labels}
 use Rattle.rg_theory.specs.Net.{Net}
-use Rattle.rg_order_of_work.specs.Shown.{ShownWide}
+use Rattle.rg_case_folds.specs.Shown.{ShownWide}
 use Rattle.rg_outcome.specs.Outcome.{Out}
 use Rattle.rg_separate.specs.View.{shown_of}
 use Rattle.rg_synth.specs.Answer.{answer_of, IfNet, IfUnsolvable, IfTooWide, IsOpen, IsSolvingNet, IsRightCertificate}

@@ -2,7 +2,7 @@ use Rattle.std.proofs.Common.{◌<◌, length, refl, subst, sym}
 use Rattle.std.specs.Prelude.{slice_index}
 use Rattle.std.proofs.lemmas.List.Elements.{Contains-get_or}
 use Rattle.rg_case_parts.specs.SettingViews.{shown_setting}
-use Rattle.rg_order_of_work.specs.Spreading.{chord_arcs}
+use Rattle.rg_case_folds.specs.Spreading.{chord_arcs}
 use Rattle.rg_farkas.proofs.Relations.{used_chord, kept_index}
 use Rattle.rg_farkas.proofs.ChordNumbers.{used_at}
 use Rattle.rg_farkas.proofs.Steps.{mapped_next}

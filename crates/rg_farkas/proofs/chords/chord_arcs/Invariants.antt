@@ -1,6 +1,6 @@
 use Rattle.std.proofs.Common.{◌≡◌, ◌++◌, map, drop}
 use Rattle.rg_case_parts.specs.SettingViews.{shown_setting}
-use Rattle.rg_order_of_work.specs.Spreading.{chord_arcs}
+use Rattle.rg_case_folds.specs.Spreading.{chord_arcs}
 use Rattle.rg_farkas.proofs.Relations.{used_chord}
 use Rattle.rg_farkas.proofs.chords.chord_arcs.Given as goal
 

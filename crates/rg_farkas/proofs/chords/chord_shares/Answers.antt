@@ -1,10 +1,10 @@
 use Rattle.std.proofs.Common.{rules, ◌≡◌, ◌+◌, Err, map}
 use Rattle.rg_theory.specs.System.{labels}
-use Rattle.rg_order_of_work.specs.Fold.{ratio_of}
+use Rattle.rg_case_folds.specs.Fold.{ratio_of}
 use Rattle.rg_case_parts.specs.SettingViews.{shown_setting}
 use Rattle.rg_fraction.specs.declared.fold_stop.FoldStop.TheVariants as stop
 use Rattle.rg_farkas.specs.View.{counted_of, counts_fold}
-use Rattle.rg_order_of_work.proofs.Items.{item_next, item_fails, items_end, map_push}
+use Rattle.rg_case_folds.proofs.Items.{item_next, item_fails, items_end, map_push}
 use Rattle.rg_farkas.proofs.chords.chord_shares.Goals as goal
 
 pub returns-in_err-share : goal.returns-in_err-share

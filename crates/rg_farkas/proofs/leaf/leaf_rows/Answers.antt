@@ -2,16 +2,16 @@ use Rattle.std.proofs.Common.{rules, ◌≡◌, ◌∙◌, ◌++◌, [], Ok, Err
 use Rattle.rg_theory.specs.System.{IsArcBefore}
 use Rattle.rg_integers.specs.Range.{InRange}
 use Rattle.rg_case_parts.specs.SettingViews.{shown_case}
-use Rattle.rg_reasons.specs.Trees.{named_row}
-use Rattle.rg_order_of_work.specs.Fold.{ratio_of}
-use Rattle.rg_order_of_work.specs.Rewriting.{scaled_fold}
-use Rattle.rg_order_of_work.specs.Spreading.{chord_arcs, tree_fold, leaf_fold, checked_leaf}
+use Rattle.rg_cert_data.specs.Trees.{named_row}
+use Rattle.rg_case_folds.specs.Fold.{ratio_of}
+use Rattle.rg_case_folds.specs.Rewriting.{scaled_fold}
+use Rattle.rg_case_folds.specs.Spreading.{chord_arcs, tree_fold, leaf_fold, checked_leaf}
 use Rattle.rg_farkas.specs.Leaves.{share_of, said_in}
 use Rattle.rg_case_parts.specs.WholeNumbers.{scaled_of}
 use Rattle.rg_farkas.specs.View.{counted_of, named_of, arc_times}
 use Rattle.std.specs.Prelude.{ℤ}
-use Rattle.rg_refuting.specs.declared.RowName.{RowName}
-use Rattle.rg_order_of_work.proofs.Comes.{comes_unless}
+use Rattle.rg_cert_meaning.specs.declared.RowName.{RowName}
+use Rattle.rg_case_folds.proofs.Comes.{comes_unless}
 use Rattle.rg_farkas.proofs.ChordNumbers.{all_used}
 use Rattle.rg_farkas.proofs.LeafSteps.{few_kept, all_dependent, chords_told, leaf_unshared, leaf_unscaled, leaf_untreed, leaf_rows_of, leaf_unchecked, leaf_made, fractions_are, numbered_length, shares_length, listed_are, listed_range, tree_made, parted, leaf_is, leaf_range, checked_as, enough_parts}
 use Rattle.rg_farkas.proofs.leaf.leaf_rows.Goals as goal

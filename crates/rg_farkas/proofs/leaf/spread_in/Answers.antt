@@ -1,8 +1,8 @@
 use Rattle.std.proofs.Common.{rules, ◌≡◌, Err, map}
 use Rattle.rg_fraction.specs.declared.fold_stop.FoldStop.TheVariants as stop
-use Rattle.rg_refuting.specs.Row.{RowStands}
+use Rattle.rg_cert_meaning.specs.Row.{RowStands}
 use Rattle.rg_case_parts.specs.SettingViews.{shown_case}
-use Rattle.rg_reasons.specs.Trees.{named_row}
+use Rattle.rg_cert_data.specs.Trees.{named_row}
 use Rattle.rg_farkas.specs.Leaves.{share_of, said_in}
 use Rattle.rg_farkas.proofs.Asked.{rows_within, says_arcs, arcs_stand, leaf_names, all_rows, row_numbers, bottoms}
 use Rattle.rg_farkas.proofs.Refutes.{leaf_refutes}

@@ -1,5 +1,5 @@
 use Rattle.std.proofs.Common.{◌≡◌, map, drop}
-use Rattle.rg_order_of_work.specs.Spreading.{multiplier_among}
+use Rattle.rg_case_folds.specs.Spreading.{multiplier_among}
 use Rattle.rg_farkas.proofs.listing.arc_multipliers.Given as goal
 
 abbrev pub invariant-loop-k : goal.invariant-loop-k

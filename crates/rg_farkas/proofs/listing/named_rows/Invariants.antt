@@ -1,6 +1,6 @@
 use Rattle.std.proofs.Common.{◌≡◌, ◌++◌, map, drop}
-use Rattle.rg_reasons.specs.Trees.{named_row}
-use Rattle.rg_order_of_work.specs.Spreading.{named_from, not_zero}
+use Rattle.rg_cert_data.specs.Trees.{named_row}
+use Rattle.rg_case_folds.specs.Spreading.{named_from, not_zero}
 use Rattle.rg_farkas.specs.Leaves.{share_of}
 use Rattle.rg_farkas.proofs.listing.named_rows.Given as goal
 

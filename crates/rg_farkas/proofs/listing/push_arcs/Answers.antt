@@ -2,9 +2,9 @@ use Rattle.std.proofs.Common.{◌++◌, rules, map, ap, sym, ◌∙◌}
 use Rattle.std.specs.Prelude.{FitsSigned}
 use Rattle.std.specs.Int.{w128, cast_signed, cast_unsigned}
 use Rattle.std.proofs.lemmas.Int.{to_z-of_z}
-use Rattle.rg_reasons.specs.Trees.{named_row}
-use Rattle.rg_order_of_work.specs.Spreading.{not_zero, multiplier_among, arc_name}
-use Rattle.rg_order_of_work.proofs.Items.{map_push}
+use Rattle.rg_cert_data.specs.Trees.{named_row}
+use Rattle.rg_case_folds.specs.Spreading.{not_zero, multiplier_among, arc_name}
+use Rattle.rg_case_folds.proofs.Items.{map_push}
 use Rattle.rg_farkas.proofs.Located.{row_kept, row_left}
 use Rattle.rg_farkas.proofs.listing.push_arcs.Goals as goal
 use Rattle.rg_farkas.proofs.listing.push_arcs.Goals.{then-multiplier-ne0+in_ok-push, else-multiplier-ne0}

@@ -1,6 +1,6 @@
 use Rattle.std.proofs.Common.{◌≡◌, ◌++◌, map, drop}
-use Rattle.rg_reasons.specs.Trees.{named_row}
-use Rattle.rg_order_of_work.specs.Spreading.{not_zero, multiplier_among, arc_name}
+use Rattle.rg_cert_data.specs.Trees.{named_row}
+use Rattle.rg_case_folds.specs.Spreading.{not_zero, multiplier_among, arc_name}
 use Rattle.rg_farkas.proofs.listing.push_arcs.Given as goal
 
 abbrev pub invariant-loop-k : goal.invariant-loop-k

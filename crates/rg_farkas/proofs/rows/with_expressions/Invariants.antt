@@ -1,6 +1,6 @@
 use Rattle.std.proofs.Common.{◌≡◌, ◌++◌, map, drop, All}
 use Rattle.rg_case_parts.specs.SettingViews.{shown_case}
-use Rattle.rg_reasons.specs.Trees.{named_row}
+use Rattle.rg_cert_data.specs.Trees.{named_row}
 use Rattle.rg_farkas.specs.Leaves.{said_in}
 use Rattle.rg_farkas.specs.View.{named_of, Tells}
 use Rattle.rg_farkas.proofs.rows.with_expressions.Given as goal

@@ -1,7 +1,7 @@
 use Rattle.std.proofs.Common.{rules, ◌≡◌, Err, map, ap, refl}
 use Rattle.rg_fraction.specs.declared.fold_stop.FoldStop.TheVariants as stop
-use Rattle.rg_order_of_work.specs.Spreading.{variables_of, checked_leaf}
-use Rattle.rg_order_of_work.proofs.Comes.{comes_unless}
+use Rattle.rg_case_folds.specs.Spreading.{variables_of, checked_leaf}
+use Rattle.rg_case_folds.proofs.Comes.{comes_unless}
 use Rattle.rg_farkas.specs.View.{named_of}
 use Rattle.rg_farkas.proofs.Told.{leaf_unsummed, leaf_too_great, leaf_checked}
 use Rattle.rg_farkas.proofs.sizes.check_sizes.Goals as goal

@@ -1,5 +1,5 @@
 use Rattle.std.proofs.Common.{◌∙◌, sym}
-use Rattle.rg_order_of_work.specs.Spreading.{variables_of}
+use Rattle.rg_case_folds.specs.Spreading.{variables_of}
 use Rattle.rg_farkas.proofs.Bounded.{all_summed_where}
 use Rattle.rg_farkas.proofs.sizes.check_variables.Goals as goal
 

@@ -2,13 +2,13 @@ use Rattle.std.proofs.Common.{rules, ◌≡◌, ◌∙◌, ◌++◌, ◌∷◌, 
 use Rattle.std.specs.Prelude.{pos}
 use Rattle.rg_integers.specs.declared.term.Wide.{Wide}
 use Rattle.rg_fraction.specs.declared.fold_stop.FoldStop.TheVariants as stop
-use Rattle.rg_order_of_work.proofs.Folding.{each_start}
-use Rattle.rg_order_of_work.specs.Fold.{each, further, whole_sum}
-use Rattle.rg_order_of_work.specs.Spreading.{variables_of}
+use Rattle.rg_case_folds.proofs.Folding.{each_start}
+use Rattle.rg_case_folds.specs.Fold.{each, further, whole_sum}
+use Rattle.rg_case_folds.specs.Spreading.{variables_of}
 use Rattle.rg_farkas.specs.View.{size_fold, coefficient_at}
 use Rattle.rg_farkas.proofs.Told.{variable_fails, variable_next, variables_end}
 use Rattle.rg_farkas.proofs.sizes.each_variable.Goals as goal
-use Rattle.rg_refuting.specs.declared.Variable.TheVariants.{Tokens}
+use Rattle.rg_cert_meaning.specs.declared.Variable.TheVariants.{Tokens}
 
 same_wide : (v w : Wide) → stop.Wide v ≡ stop.Wide w → v ≡ w
 same_wide v w e = cc

@@ -1,9 +1,9 @@
 use Rattle.std.proofs.Common.{◌<◌, ◌++◌, map, subst}
 use Rattle.rg_theory.specs.System.{states, labels}
-use Rattle.rg_order_of_work.specs.Rewriting.{all_numbers}
+use Rattle.rg_case_folds.specs.Rewriting.{all_numbers}
 use Rattle.rg_farkas.proofs.Steps.{all_next}
 use Rattle.rg_farkas.proofs.sizes.variables.Goals as goal
-use Rattle.rg_refuting.specs.declared.Variable.TheVariants.{Tokens, Effect}
+use Rattle.rg_cert_meaning.specs.declared.Variable.TheVariants.{Tokens, Effect}
 
 pub loop-q-preserved : goal.loop-q-preserved
 loop-q-preserved c =

@@ -1,8 +1,8 @@
 use Rattle.std.proofs.Common.{◌≡◌, ◌-◌, ◌++◌, map, true}
 use Rattle.rg_theory.specs.System.{states, labels}
-use Rattle.rg_order_of_work.specs.Rewriting.{numbers_where, all_numbers}
+use Rattle.rg_case_folds.specs.Rewriting.{numbers_where, all_numbers}
 use Rattle.rg_farkas.proofs.sizes.variables.Given as goal
-use Rattle.rg_refuting.specs.declared.Variable.TheVariants.{Tokens, Effect}
+use Rattle.rg_cert_meaning.specs.declared.Variable.TheVariants.{Tokens, Effect}
 
 abbrev pub invariant-loop-q : goal.invariant-loop-q
 invariant-loop-q l = l.variables.items ++ map Tokens (numbers_where (λ i. true) l.q (states l.lts - l.q)) ≡ map Tokens (all_numbers (states l.lts))

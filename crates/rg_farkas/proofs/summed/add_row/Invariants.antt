@@ -1,9 +1,9 @@
 use Rattle.std.proofs.Common.{◌≡◌, ℕ, ◌<◌, drop, length, All}
 use Rattle.std.specs.Prelude.{pos, ◌+ℤ◌, ◌*ℤ◌, slice_index_or}
 use Rattle.rg_integers.specs.Range.{InRange}
-use Rattle.rg_refuting.specs.Expression.{coefficient_in}
-use Rattle.rg_refuting.specs.declared.Variable.TheVariants.{Tokens}
-use Rattle.rg_reasons.specs.Sums.{terms_in}
+use Rattle.rg_cert_meaning.specs.Expression.{coefficient_in}
+use Rattle.rg_cert_meaning.specs.declared.Variable.TheVariants.{Tokens}
+use Rattle.rg_cert_data.specs.Sums.{terms_in}
 use Rattle.rg_farkas.proofs.summed.add_row.Given as goal
 
 abbrev pub invariant-loop-entry : goal.invariant-loop-entry

@@ -3,7 +3,7 @@ use Rattle.std.specs.Prelude.{◌+ℤ◌}
 use Rattle.std.specs.Int.{w128, cast_signed}
 use Rattle.std.proofs.lemmas.Int.{ints}
 use Rattle.rg_integers.proofs.Casts.{back}
-use Rattle.rg_refuting.specs.Expression.{coefficient_in}
+use Rattle.rg_cert_meaning.specs.Expression.{coefficient_in}
 use Rattle.rg_case_parts.proofs.Counting.{in_range_between, coefficient_next, nothing_next, whole_sum}
 use Rattle.rg_farkas.proofs.sums.coefficient.Goals as goal
 use Rattle.rg_farkas.proofs.sums.coefficient.Goals.{in-Some, in_default}

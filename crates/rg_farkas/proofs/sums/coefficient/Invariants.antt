@@ -1,7 +1,7 @@
 use Rattle.std.proofs.Common.{◌≡◌, drop}
 use Rattle.std.specs.Prelude.{pos, neg_ℤ, ◌+ℤ◌, ◌≤ℤ◌}
-use Rattle.rg_refuting.specs.Expression.{coefficient_in}
-use Rattle.rg_reasons.specs.Sums.{terms_in}
+use Rattle.rg_cert_meaning.specs.Expression.{coefficient_in}
+use Rattle.rg_cert_data.specs.Sums.{terms_in}
 use Rattle.rg_farkas.proofs.sums.coefficient.Given as goal
 
 abbrev pub invariant-loop-entry : goal.invariant-loop-entry

@@ -1,9 +1,9 @@
 use Rattle.std.proofs.Common.{◌≡◌, List, [], All, map, take, drop, reverse, length, Result}
 use Rattle.rg_integers.specs.Range.{InRange}
 use Rattle.rg_integers.specs.declared.term.Wide.{Wide}
-use Rattle.rg_refuting.specs.Expression.{Expression}
-use Rattle.rg_refuting.specs.declared.RowName.{RowName}
-use Rattle.rg_order_of_work.specs.Spreading.{ArcTimes, tree_fold}
+use Rattle.rg_cert_meaning.specs.Expression.{Expression}
+use Rattle.rg_cert_meaning.specs.declared.RowName.{RowName}
+use Rattle.rg_case_folds.specs.Spreading.{ArcTimes, tree_fold}
 use Rattle.rg_farkas.specs.View.{named_of, Tells, arc_times}
 use Rattle.rg_farkas.proofs.sums.each_multiplier.Given as goal
 

@@ -2,7 +2,7 @@ use Rattle.std.proofs.Common.{rules, ◌≡◌, ◌<◌, ◌-◌, ap, subst, sym
 use Rattle.std.proofs.lemmas.Bool.{false≢true}
 use Rattle.std.proofs.lemmas.List.{length-reverse}
 use Rattle.rg_linear.specs.Stack.{fixed_of, limit}
-use Rattle.rg_feasible.proofs.Descending.{leads_point, leads_refuted, leads_wide, wide_free, leads_passed, leads_exchanged, leads_popped, popped_row, within_rows, stack_has_room, work_passed, work_pushed, limit_last}
+use Rattle.rg_feasible.proofs.Descending.{leads_point, leads_refuted, leads_wide, wide_free, leads_satisfied, leads_exchanged, leads_popped, popped_row, within_rows, stack_has_room, work_satisfied, work_pushed, limit_last}
 use Rattle.rg_feasible.proofs.descent.descend.Goals as goal
 
 pub returns-in-None-clause-outcome : goal.returns-in-None-clause-outcome
@@ -42,8 +42,8 @@ take_row-requires-clause-row c =
     let lt = c.if-i-below.false in
     omega arith
 
-pub overflow_add-i-in-Passed : goal.overflow_add-i-in-Passed
-overflow_add-i-in-Passed c =
+pub overflow_add-i-in-Satisfied : goal.overflow_add-i-in-Satisfied
+overflow_add-i-in-Satisfied c =
     let (system, whole) = c.requires.whole in
     let le = within_rows system c.rows.table.members c.rows.stack.items c.rows.below c.rows.i (c.rows.invariant.leads system whole) in
     let rows = whole.rows in
@@ -51,19 +51,19 @@ overflow_add-i-in-Passed c =
     let lt = c.if-i-below.false in
     record { fits = omega arith }
 
-pub rows-smaller-in-Passed : goal.rows-smaller-in-Passed
-rows-smaller-in-Passed c =
+pub rows-smaller-in-Satisfied : goal.rows-smaller-in-Satisfied
+rows-smaller-in-Satisfied c =
     let (system, whole) = c.requires.whole in
-    rw (c.rows-rows.ensures, whole.rows) (work_passed system c.rows.table.members c.rows.stack.items c.rows.below c.rows.i (c.rows.invariant.leads system whole) c.if-i-below.false)
+    rw (c.rows-rows.ensures, whole.rows) (work_satisfied system c.rows.table.members c.rows.stack.items c.rows.below c.rows.i (c.rows.invariant.leads system whole) c.if-i-below.false)
 
-pub rows-preserved-in-Passed : goal.rows-preserved-in-Passed
-rows-preserved-in-Passed c = record {
+pub rows-preserved-in-Satisfied : goal.rows-preserved-in-Satisfied
+rows-preserved-in-Satisfied c = record {
   shape = search rules;
   room = c.rows.invariant.room;
-  whole = λ system whole. c.in-Passed.ensures.stays _ system (c.rows.invariant.whole system whole);
+  whole = λ system whole. c.in-Satisfied.ensures.stays _ system (c.rows.invariant.whole system whole);
   leads = λ system whole.
-      let told = c.in-Passed.ensures.told system (c.rows.invariant.whole system whole) in
-      leads_passed system c.rows.table.members c.rows.stack.items c.rows.below c.rows.i (c.rows.invariant.leads system whole) c.if-i-below.false c.take_row.new.table.members told;
+      let told = c.in-Satisfied.ensures.told system (c.rows.invariant.whole system whole) in
+      leads_satisfied system c.rows.table.members c.rows.stack.items c.rows.below c.rows.i (c.rows.invariant.leads system whole) c.if-i-below.false c.take_row.new.table.members told;
 }
 
 pub returns-in-Stuck-clause-outcome : goal.returns-in-Stuck-clause-outcome

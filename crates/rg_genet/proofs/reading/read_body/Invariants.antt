@@ -1,6 +1,6 @@
 use Rattle.std.proofs.Common.{◌+◌, ◌≤◌, List, length}
 use Rattle.rg_text.specs.Limits.{most_bytes}
-use Rattle.rg_firsts.specs.Numbered.{Line}
+use Rattle.rg_line_formats.specs.Numbered.{Line}
 use Rattle.rg_genet.specs.Reading.{IsMarkNamed, ReadsTo, Shows, lines_from}
 use Rattle.rg_genet.proofs.reading.read_body.Given as goal
 

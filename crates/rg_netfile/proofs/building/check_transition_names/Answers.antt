@@ -2,9 +2,9 @@ use Rattle.std.proofs.Common.{None, ◌≡◌, Contains, ◌<◌, ℕ, List, [],
 use Rattle.std.specs.BTreeSet.{contains_text}
 use Rattle.std.proofs.lemmas.List.{get_or_default}
 use Rattle.rg_lexer.specs.declared.token.Kind.TheVariants.{Name}
-use Rattle.rg_netitems.specs.declared.found.FoundTransition.{FoundTransition}
+use Rattle.rg_net_grammar.specs.declared.found.FoundTransition.{FoundTransition}
 use Rattle.rg_text.proofs.Left.{left_start, left_more, left_first, left_end, before_is, all_before}
-use Rattle.rg_netitems.specs.FoundView.{transition_in, transitions_in}
+use Rattle.rg_net_grammar.specs.FoundView.{transition_in, transitions_in}
 use Rattle.rg_netfile.specs.Contents.{transition_fault}
 use Rattle.rg_netfile.proofs.Apart.{apart_from, apart_none, apart_more, seen_more}
 use Rattle.rg_netfile.proofs.EntryFaults.{name_of, transition_twice, transition_fine, transition_names_more}

@@ -3,9 +3,9 @@ use Rattle.std.specs.Option.{option_map}
 use Rattle.std.proofs.lemmas.List.{get_or_default, take-map}
 use Rattle.std.proofs.lemmas.Option.{slice_get-map, slice_get_read}
 use Rattle.rg_lexer.specs.declared.token.Kind.TheVariants.{Name}
-use Rattle.rg_netitems.specs.declared.found.FoundTransition.{FoundTransition}
+use Rattle.rg_net_grammar.specs.declared.found.FoundTransition.{FoundTransition}
 use Rattle.rg_text.proofs.Left.{before_is, all_before}
-use Rattle.rg_netitems.specs.FoundView.{transition_in, transitions_in}
+use Rattle.rg_net_grammar.specs.FoundView.{transition_in, transitions_in}
 use Rattle.rg_netfile.proofs.Apart.{apart_absent}
 use Rattle.rg_netfile.proofs.EntryFaults.{name_of, transition_names_more}
 use Rattle.rg_netfile.proofs.building.transition_table.Goals as goal

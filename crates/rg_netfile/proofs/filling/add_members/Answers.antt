@@ -2,8 +2,8 @@ use Rattle.std.proofs.Common.{◌≡◌, ◌<◌, ℕ, List, length, get_or, Non
 use Rattle.std.proofs.lemmas.List.{get_or_default}
 use Rattle.std.proofs.lemmas.Result.{err_from_is_err_and}
 use Rattle.rg_lexer.specs.declared.token.Kind.TheVariants.{Name}
-use Rattle.rg_netitems.specs.declared.found.FoundMember.{FoundMember}
-use Rattle.rg_netitems.specs.FoundView.{member_in}
+use Rattle.rg_net_grammar.specs.declared.found.FoundMember.{FoundMember}
+use Rattle.rg_net_grammar.specs.FoundView.{member_in}
 use Rattle.rg_netfile.specs.Contents.{adds}
 use Rattle.rg_netfile.proofs.Segments.{one_passes, one_stops}
 use Rattle.rg_netfile.proofs.Steps.{passes_none}

@@ -1,4 +1,4 @@
-use Rattle.rg_items.proofs.Names.{name_token}
+use Rattle.rg_grammar.proofs.Names.{name_token}
 use Rattle.rg_netfile.proofs.DigitLemmas.{refused_is_over}
 use Rattle.rg_netfile.proofs.numbers.value_of.Goals as goal
 

@@ -2,10 +2,10 @@ use Rattle.std.proofs.Common.{◌≢◌, ℕ, List, ap, subst}
 use Rattle.std.proofs.lemmas.Result.{err_from_is_err_and}
 use Rattle.rg_text.specs.Faults.{IsFirst, AreNone}
 use Rattle.rg_theory.specs.System.{System}
-use Rattle.rg_netitems.specs.Contents.{Declared}
-use Rattle.rg_netitems.specs.Text.{FirstItemFault}
-use Rattle.rg_items.specs.declared.fault.ItemFault.{ItemFault}
-use Rattle.rg_items.specs.declared.fault.ItemFault.TheVariants as item
+use Rattle.rg_net_grammar.specs.Contents.{Declared}
+use Rattle.rg_net_grammar.specs.Text.{FirstItemFault}
+use Rattle.rg_grammar.specs.declared.fault.ItemFault.{ItemFault}
+use Rattle.rg_grammar.specs.declared.fault.ItemFault.TheVariants as item
 use Rattle.rg_netfile.specs.declared.fault.NetFault.TheVariants.{NoMemory}
 use Rattle.rg_netfile.specs.Contents.{faults, IsNetOf}
 use Rattle.rg_netfile.specs.Spells.{FirstFault, of_items, in_items, in_net}

@@ -1,6 +1,6 @@
 use Rattle.rg_theory.specs.System.{labels}
-use Rattle.rg_order_of_work.specs.Rewriting.{all_numbers}
-use Rattle.rg_order_of_work.specs.Placing.{effect_fold}
+use Rattle.rg_case_folds.specs.Rewriting.{all_numbers}
+use Rattle.rg_case_folds.specs.Placing.{effect_fold}
 use Rattle.rg_cycles.specs.View.{cycle_of}
 use Rattle.rg_places.specs.PointValues.{ratios_of}
 use Rattle.rg_places.specs.Steps.{value_by}

@@ -1,4 +1,4 @@
-use Rattle.rg_order_of_work.proofs.Made.{place_made}
+use Rattle.rg_case_folds.proofs.Made.{place_made}
 use Rattle.rg_places.proofs.PlaceSteps.{numbers_one}
 use Rattle.rg_places.proofs.laws.place_is_region.Goals as goal
 

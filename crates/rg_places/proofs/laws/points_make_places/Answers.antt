@@ -1,4 +1,4 @@
-use Rattle.rg_order_of_work.proofs.PlacePoints.{point_makes, found_makes}
+use Rattle.rg_case_folds.proofs.PlacePoints.{point_makes, found_makes}
 use Rattle.rg_places.proofs.laws.points_make_places.Goals as goal
 
 pub returns-clause-point : goal.returns-clause-point

@@ -1,14 +1,14 @@
 use Rattle.std.proofs.Common.{rules, ◌≡◌, [], ◌∷◌, ◌++◌, Err, Ok, ap, sym, subst, ◌∙◌, Vec, Global}
 use Rattle.std.proofs.lemmas.List.{length-map, map-append}
 use Rattle.rg_theory.specs.System.{labels}
-use Rattle.rg_order_of_work.specs.Fold.{each, ratio_of}
-use Rattle.rg_order_of_work.specs.Rewriting.{all_numbers}
-use Rattle.rg_order_of_work.specs.Placing.{effect_fold, made_whole}
+use Rattle.rg_case_folds.specs.Fold.{each, ratio_of}
+use Rattle.rg_case_folds.specs.Rewriting.{all_numbers}
+use Rattle.rg_case_folds.specs.Placing.{effect_fold, made_whole}
 use Rattle.rg_case_parts.specs.SettingViews.{shown_setting}
 use Rattle.rg_places.specs.PointValues.{ratios_of, point_start, point_value}
 use Rattle.rg_fraction.specs.declared.fraction.Fraction.{Fraction}
 use Rattle.rg_places.specs.Steps.{found_fold}
-use Rattle.rg_order_of_work.proofs.Comes.{comes_by, comes_unless, comes_value}
+use Rattle.rg_case_folds.proofs.Comes.{comes_by, comes_unless, comes_value}
 use Rattle.rg_places.proofs.PointPlaces.{value_is}
 use Rattle.rg_places.proofs.PlaceSteps.{effects_fail, effects_make, found_length}
 use Rattle.rg_places.proofs.making.found_numbers.Goals as goal

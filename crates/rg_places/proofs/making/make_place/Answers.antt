@@ -1,14 +1,14 @@
 use Rattle.std.proofs.Common.{rules, ◌≡◌, Err, Ok, map, unsigned_abs, ap, sym, ◌∙◌}
 use Rattle.std.proofs.lemmas.List.{length-map}
-use Rattle.rg_order_of_work.specs.Fold.{Ratio, ratio_of}
-use Rattle.rg_order_of_work.specs.Shown.{IsLive}
-use Rattle.rg_order_of_work.specs.Placing.{place_fold}
+use Rattle.rg_case_folds.specs.Fold.{Ratio, ratio_of}
+use Rattle.rg_case_folds.specs.Shown.{IsLive}
+use Rattle.rg_case_folds.specs.Placing.{place_fold}
 use Rattle.rg_net.specs.Shown.{shown_place}
 use Rattle.rg_places.specs.PointValues.{ratios_of, point_start, point_value, SolvesCase}
 use Rattle.rg_places.specs.RegionPlaces.{IsRegionPlace, PlaceSeparates, AreTokensMade}
 use Rattle.rg_marks.specs.declared.region_place.RegionPlace.{RegionPlace}
 use Rattle.rg_places.proofs.RegionSteps.{region_made, if_both}
-use Rattle.rg_order_of_work.proofs.Comes.{comes_by, comes_unless, comes_value}
+use Rattle.rg_case_folds.proofs.Comes.{comes_by, comes_unless, comes_value}
 use Rattle.rg_places.proofs.PlaceSteps.{if_ok, tree_fails, shift_fails, before_length, shift_length, numbers_made, place_made_by}
 use Rattle.rg_places.proofs.making.make_place.Goals as goal
 use Rattle.rg_case_parts.specs.SettingViews.{shown_setting}

@@ -5,7 +5,7 @@ use Rattle.rg_net.specs.Shown.{shown_place}
 use Rattle.rg_places.specs.PointValues.{ratios_of}
 use Rattle.rg_marks.specs.declared.region_place.RegionPlace.{RegionPlace}
 use Rattle.rg_places.specs.Steps.{weights_fold}
-use Rattle.rg_order_of_work.proofs.Comes.{comes_unless}
+use Rattle.rg_case_folds.proofs.Comes.{comes_unless}
 use Rattle.rg_places.proofs.WeightSteps.{tokens_at, tokens_are, pre_length, put_fails, place_done}
 use Rattle.rg_places.proofs.making.place_of.Goals as goal
 

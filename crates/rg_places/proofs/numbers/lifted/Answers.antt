@@ -2,12 +2,12 @@ use Rattle.std.proofs.Common.{◌<◌, unsigned_abs, length, ap, ap₂, sym, sub
 use Rattle.std.specs.Prelude.{pos}
 use Rattle.rg_theory.specs.System.{states}
 use Rattle.rg_integers.proofs.Casts.{back}
-use Rattle.rg_order_of_work.specs.Fold.{whole, ratio_of}
-use Rattle.rg_order_of_work.specs.Placing.{missing, top_at}
+use Rattle.rg_case_folds.specs.Fold.{whole, ratio_of}
+use Rattle.rg_case_folds.specs.Placing.{missing, top_at}
 use Rattle.rg_places.specs.PointValues.{ratios_of}
 use Rattle.rg_places.proofs.FractionSteps.{top_there}
 use Rattle.rg_fraction.specs.declared.fraction.Fraction.{Fraction}
-use Rattle.rg_order_of_work.proofs.Comes.{comes_by}
+use Rattle.rg_case_folds.proofs.Comes.{comes_by}
 use Rattle.rg_places.proofs.PlaceSteps.{lifted_kept, lifted_made}
 use Rattle.rg_places.proofs.numbers.lifted.Goals as goal
 

@@ -1,5 +1,5 @@
-use Rattle.rg_order_of_work.specs.Fold.{add, ratio_of}
-use Rattle.rg_order_of_work.specs.Placing.{negated}
+use Rattle.rg_case_folds.specs.Fold.{add, ratio_of}
+use Rattle.rg_case_folds.specs.Placing.{negated}
 use Rattle.rg_places.specs.PointValues.{ratios_of}
 use Rattle.rg_places.proofs.FoldSteps.{EachLeads}
 use Rattle.rg_places.proofs.numbers.lowered.Given as goal

@@ -1,8 +1,8 @@
 use Rattle.std.proofs.Common.{sym, ◌∙◌, Vec, Global}
-use Rattle.rg_order_of_work.specs.Fold.{ratio_of}
+use Rattle.rg_case_folds.specs.Fold.{ratio_of}
 use Rattle.rg_places.specs.PointValues.{ratios_of}
 use Rattle.rg_fraction.specs.declared.fraction.Fraction.{Fraction}
-use Rattle.rg_order_of_work.proofs.Comes.{comes_by}
+use Rattle.rg_case_folds.proofs.Comes.{comes_by}
 use Rattle.rg_places.proofs.PlaceSteps.{moved_kept, moved_made}
 use Rattle.rg_places.proofs.numbers.moved.Goals as goal
 

@@ -1,9 +1,9 @@
 use Rattle.std.proofs.Common.{rules, ◌≡◌, Err, sym, ◌∙◌, Vec, Global}
 use Rattle.std.proofs.lemmas.List.{length-map}
-use Rattle.rg_order_of_work.specs.Fold.{ratio_of}
+use Rattle.rg_case_folds.specs.Fold.{ratio_of}
 use Rattle.rg_fraction.specs.declared.fraction.Fraction.{Fraction}
-use Rattle.rg_order_of_work.specs.Placing.{shift_fold}
-use Rattle.rg_order_of_work.proofs.Comes.{comes_by, comes_unless}
+use Rattle.rg_case_folds.specs.Placing.{shift_fold}
+use Rattle.rg_case_folds.proofs.Comes.{comes_by, comes_unless}
 use Rattle.rg_places.specs.PointValues.{ratios_of}
 use Rattle.rg_places.proofs.PlaceSteps.{moved_fails, moved_length, shift_made}
 use Rattle.rg_places.proofs.numbers.shifted.Goals as goal

@@ -2,7 +2,7 @@ use Rattle.std.proofs.Common.{◌<◌, ap, subst, sym, ◌∙◌, map, length}
 use Rattle.std.specs.Prelude.{slice_index}
 use Rattle.std.proofs.lemmas.List.{take_all}
 use Rattle.rg_theory.specs.System.{states}
-use Rattle.rg_order_of_work.specs.Placing.{ratio_at}
+use Rattle.rg_case_folds.specs.Placing.{ratio_at}
 use Rattle.rg_places.specs.PointValues.{ratios_of}
 use Rattle.rg_places.proofs.Leaving.{state_below, left_next}
 use Rattle.rg_places.proofs.weights.numbers_left.Goals as goal

@@ -1,5 +1,5 @@
 use Rattle.std.proofs.Common.{◌≡◌, map, take}
-use Rattle.rg_order_of_work.specs.Placing.{ratio_at}
+use Rattle.rg_case_folds.specs.Placing.{ratio_at}
 use Rattle.rg_places.specs.PointValues.{ratios_of}
 use Rattle.rg_places.proofs.weights.numbers_left.Given as goal
 

@@ -1,8 +1,8 @@
 use Rattle.std.specs.Prelude.{length}
 use Rattle.rg_integers.specs.Sum.{number_at}
-use Rattle.rg_order_of_work.specs.Fold.{whole_sum}
-use Rattle.rg_order_of_work.specs.Rewriting.{all_numbers}
-use Rattle.rg_order_of_work.specs.Placing.{top_at}
+use Rattle.rg_case_folds.specs.Fold.{whole_sum}
+use Rattle.rg_case_folds.specs.Rewriting.{all_numbers}
+use Rattle.rg_case_folds.specs.Placing.{top_at}
 use Rattle.rg_places.specs.PointValues.{ratios_of}
 use Rattle.rg_places.proofs.FoldSteps.{EachLeads}
 use Rattle.rg_places.proofs.weights.put.Given as goal

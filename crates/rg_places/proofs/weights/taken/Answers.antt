@@ -2,7 +2,7 @@ use Rattle.std.proofs.Common.{ap, subst, sym, take, ◌∙◌, All}
 use Rattle.rg_integers.specs.Range.{InRange}
 use Rattle.rg_integers.proofs.Casts.{back}
 use Rattle.rg_fraction.specs.Fractions.{numerator_of}
-use Rattle.rg_order_of_work.specs.Placing.{taken_by_effect}
+use Rattle.rg_case_folds.specs.Placing.{taken_by_effect}
 use Rattle.rg_places.specs.PointValues.{ratios_of}
 use Rattle.rg_places.proofs.TakenSteps.{event_taken, states_taken, effects_in_range, set_in_range}
 use Rattle.rg_places.proofs.weights.taken.Goals as goal

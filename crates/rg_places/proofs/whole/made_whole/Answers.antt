@@ -3,11 +3,11 @@ use Rattle.std.specs.Int.{w128, cast_signed, cast_unsigned}
 use Rattle.rg_integers.proofs.Casts.{back}
 use Rattle.rg_fraction.specs.declared.fraction.Fraction.{Fraction}
 use Rattle.rg_fraction.specs.Fractions.{denominator_of}
-use Rattle.rg_order_of_work.specs.Fold.{each, mul, whole, ratio_of, multiple_of_all}
+use Rattle.rg_case_folds.specs.Fold.{each, mul, whole, ratio_of, multiple_of_all}
 use Rattle.rg_fraction.specs.declared.fold_stop.FoldStop.TheVariants as stop
 use Rattle.rg_case_parts.proofs.Multiples.{bottoms}
-use Rattle.rg_order_of_work.specs.Placing.{made_whole}
-use Rattle.rg_order_of_work.proofs.Comes.{comes_by, comes_unless}
+use Rattle.rg_case_folds.specs.Placing.{made_whole}
+use Rattle.rg_case_folds.proofs.Comes.{comes_by, comes_unless}
 use Rattle.rg_places.specs.PointValues.{ratios_of}
 use Rattle.rg_places.proofs.PlaceSteps.{made_kept, multiple_fails, products_fail, multiple_makes}
 use Rattle.rg_places.proofs.whole.made_whole.Goals as goal

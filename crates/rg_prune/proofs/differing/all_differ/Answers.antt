@@ -1,7 +1,7 @@
 use Rattle.std.proofs.Common.{get_or, sym, ◌∙◌}
 use Rattle.std.proofs.lemmas.Bool.{true≢false}
 use Rattle.std.specs.List.{list_any}
-use Rattle.rg_marks.proofs.Blocking.{same_pair}
+use Rattle.rg_marks.proofs.Refining.{same_pair}
 use Rattle.rg_prune.proofs.Agreeing.{not_new, is_new, differ_start, differ_next, differ_end, agree_here}
 use Rattle.rg_prune.proofs.differing.all_differ.Goals as goal
 

@@ -9,7 +9,7 @@ use Rattle.rg_linear.specs.Exchange.{exchanged}
 use Rattle.rg_linear.specs.Dictionary.{numbers_from}
 use Rattle.rg_linear.specs.View.{linear_row, linear_system}
 use Rattle.rg_linear.specs.Stack.{fixed_of, limit}
-use Rattle.rg_feasible.proofs.Descending.{LeadsOn, leads_point, leads_refuted, leads_passed, leads_exchanged, leads_popped, popped_row, within_rows, stack_has_room, work_passed, work_pushed, limit_last}
+use Rattle.rg_feasible.proofs.Descending.{LeadsOn, leads_point, leads_refuted, leads_satisfied, leads_exchanged, leads_popped, popped_row, within_rows, stack_has_room, work_satisfied, work_pushed, limit_last}
 use Rattle.rg_revised.specs.State.{IsSmallHeld}
 use Rattle.rg_revised.proofs.Looping.{begins, work_kept, within_kept}
 use Rattle.rg_revised.proofs.descent.descend.Goals as goal
@@ -89,39 +89,39 @@ take-requires-clause-row c =
     let lt = c.if-i-below.false in
     omega arith
 
-pub overflow_add-i-in-Passed : goal.overflow_add-i-in-Passed
-overflow_add-i-in-Passed c =
+pub overflow_add-i-in-Satisfied : goal.overflow_add-i-in-Satisfied
+overflow_add-i-in-Satisfied c =
     let (members, held, leads) = c.rows.invariant.leads in
     let le = within_rows (linear_system c.args.columns (c.args.own.now ++ c.args.further.now)) members c.rows.stack.items c.rows.below c.rows.i leads in
     let few = c.requires.well_formed.few in
     let lt = c.if-i-below.false in
     record { fits = omega arith }
 
-pub rows-smaller-in-Passed : goal.rows-smaller-in-Passed
-rows-smaller-in-Passed c =
+pub rows-smaller-in-Satisfied : goal.rows-smaller-in-Satisfied
+rows-smaller-in-Satisfied c =
     let (members, held, leads) = c.rows.invariant.leads in
     work_kept c.args.columns (c.args.own.now ++ c.args.further.now) (reverse c.rows.stack.items) (reverse c.rows.stack.items) (c.rows.i + 1) c.rows.i
-    (work_passed (linear_system c.args.columns (c.args.own.now ++ c.args.further.now)) members c.rows.stack.items c.rows.below c.rows.i leads c.if-i-below.false)
+    (work_satisfied (linear_system c.args.columns (c.args.own.now ++ c.args.further.now)) members c.rows.stack.items c.rows.below c.rows.i leads c.if-i-below.false)
 
-pub rows-preserved-in-Passed : goal.rows-preserved-in-Passed
-rows-preserved-in-Passed c =
+pub rows-preserved-in-Satisfied : goal.rows-preserved-in-Satisfied
+rows-preserved-in-Satisfied c =
     let fm : FitsSigned w64 c.args.most = search rules in
     let m = to_z-of_z w64 c.args.most fm in
     let (members, held, leads) = c.rows.invariant.leads in
-    let told = rw m at c.in-Passed.ensures.told members (rw m at held) in
+    let told = rw m at c.in-Satisfied.ensures.told members (rw m at held) in
     record {
-      columns = c.in-Passed.ensures.columns ∙ c.rows.invariant.columns;
-      width = c.in-Passed.ensures.width ∙ c.rows.invariant.width;
-      size = c.in-Passed.ensures.size ∙ c.rows.invariant.size;
-      same_constants = c.in-Passed.ensures.same_constants ∙ c.rows.invariant.same_constants;
-      named_room = le_trans c.rows.invariant.named_room c.in-Passed.ensures.named_room;
-      constants = c.in-Passed.ensures.constants tt;
+      columns = c.in-Satisfied.ensures.columns ∙ c.rows.invariant.columns;
+      width = c.in-Satisfied.ensures.width ∙ c.rows.invariant.width;
+      size = c.in-Satisfied.ensures.size ∙ c.rows.invariant.size;
+      same_constants = c.in-Satisfied.ensures.same_constants ∙ c.rows.invariant.same_constants;
+      named_room = le_trans c.rows.invariant.named_room c.in-Satisfied.ensures.named_room;
+      constants = c.in-Satisfied.ensures.constants tt;
       room = c.rows.invariant.room;
       leads = (
         members,
         subst (λ z. IsSmallHeld (linear_system c.args.columns (c.args.own.now ++ c.args.further.now)) members c.take.new.basis.slots.items c.take.new.basis.d
             c.take.new.basis.table.items (unsigned_abs z)) (sym m) told.1,
-        leads_passed (linear_system c.args.columns (c.args.own.now ++ c.args.further.now)) members c.rows.stack.items c.rows.below
+        leads_satisfied (linear_system c.args.columns (c.args.own.now ++ c.args.further.now)) members c.rows.stack.items c.rows.below
             c.rows.i leads c.if-i-below.false members (told.0, refl),
       );
     }

@@ -2,8 +2,8 @@ use Rattle.std.proofs.Common.{◌≡◌, ◌+◌, ℕ, Result, Some, List, [], �
 use Rattle.std.specs.Prelude.{slice_get}
 use Rattle.std.proofs.lemmas.List.{length-append}
 use Rattle.rg_integers.specs.declared.term.Wide.{Wide}
-use Rattle.rg_refuting.specs.Row.{shared_expression}
-use Rattle.rg_reasons.specs.Sums.{expression_of}
+use Rattle.rg_cert_meaning.specs.Row.{shared_expression}
+use Rattle.rg_cert_data.specs.Sums.{expression_of}
 use Rattle.rg_rows.specs.declared.case_row.CaseRow.{CaseRow}
 use Rattle.rg_rows.specs.Sharing.{row_of_kind, IsSharedRow}
 use Rattle.rg_rows.proofs.Sharing.{row_shared, each_pushed}

@@ -2,7 +2,7 @@ use Rattle.std.proofs.Common.{◌≡◌, ◌+◌, ℕ, Result, Some, List, [], �
 use Rattle.std.specs.Prelude.{slice_get}
 use Rattle.std.proofs.lemmas.List.{length-append}
 use Rattle.rg_integers.specs.declared.term.Wide.{Wide}
-use Rattle.rg_reasons.specs.Sums.{expression_of}
+use Rattle.rg_cert_data.specs.Sums.{expression_of}
 use Rattle.rg_case_parts.specs.SettingViews.{shown_setting}
 use Rattle.rg_rows.specs.declared.form_terms.FormTerms.{FormTerms}
 use Rattle.rg_rows.specs.Sharing.{row_of_kind, AreSharedTerms}

@@ -1,6 +1,6 @@
 use Rattle.std.proofs.Common.{map, ap, ◌∙◌}
 use Rattle.std.proofs.lemmas.List.{take_all}
-use Rattle.rg_order_of_work.specs.Fold.{shown_result}
+use Rattle.rg_case_folds.specs.Fold.{shown_result}
 use Rattle.rg_rows.specs.View.{kept_row}
 use Rattle.rg_rows.proofs.Copies.{copied_next}
 use Rattle.rg_rows.proofs.copying.copied_rows.Goals as goal

@@ -1,5 +1,5 @@
 use Rattle.std.proofs.Common.{◌≡◌, map, take}
-use Rattle.rg_order_of_work.specs.Fold.{shown_result}
+use Rattle.rg_case_folds.specs.Fold.{shown_result}
 use Rattle.rg_rows.specs.View.{terms_of}
 use Rattle.rg_rows.proofs.copying.copied_terms.Given as goal
 

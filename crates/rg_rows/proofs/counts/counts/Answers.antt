@@ -3,8 +3,8 @@ use Rattle.std.proofs.lemmas.List.{length-append}
 use Rattle.rg_integers.specs.Range.{InRange}
 use Rattle.rg_integers.specs.Sum.{number_at}
 use Rattle.rg_integers.proofs.Casts.{back}
-use Rattle.rg_order_of_work.specs.Rewriting.{count_of}
-use Rattle.rg_reasons.specs.Sums.{expression_of}
+use Rattle.rg_case_folds.specs.Rewriting.{count_of}
+use Rattle.rg_cert_data.specs.Sums.{expression_of}
 use Rattle.rg_rows.proofs.Counted.{number_more}
 use Rattle.rg_rows.proofs.counts.counts.Goals as goal
 

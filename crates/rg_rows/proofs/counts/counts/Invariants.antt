@@ -1,8 +1,8 @@
 use Rattle.std.proofs.Common.{◌≡◌, ℕ, ◌<◌, length}
 use Rattle.rg_integers.specs.Range.{InRange}
 use Rattle.rg_integers.specs.Sum.{number_at}
-use Rattle.rg_order_of_work.specs.Rewriting.{count_of}
-use Rattle.rg_reasons.specs.Sums.{terms_in}
+use Rattle.rg_case_folds.specs.Rewriting.{count_of}
+use Rattle.rg_cert_data.specs.Sums.{terms_in}
 use Rattle.rg_rows.proofs.counts.counts.Given as goal
 
 abbrev pub invariant-loop-t : goal.invariant-loop-t

@@ -2,19 +2,19 @@ use Rattle.std.proofs.Common.{rules, ◌≡◌, ◌++◌, ◌∷◌, [], List, A
 use Rattle.std.specs.declared.alloc.Global.{Global}
 use Rattle.std.proofs.lemmas.List.{map-append, append-nil}
 use Rattle.std.proofs.lemmas.List.Elements.{All-nil, All-cons, All-append}
-use Rattle.rg_order_of_work.specs.Fold.{each}
-use Rattle.rg_order_of_work.specs.Rewriting.{form_fold, splits_start}
-use Rattle.rg_refuting.specs.declared.Form.{Form as SplitForm}
+use Rattle.rg_case_folds.specs.Fold.{each}
+use Rattle.rg_case_folds.specs.Rewriting.{form_fold, splits_start}
+use Rattle.rg_cert_meaning.specs.declared.Form.{Form as SplitForm}
 use Rattle.rg_linear.specs.Branching.{Form}
 use Rattle.rg_rows.specs.declared.named_form.NamedForm.{NamedForm}
 use Rattle.rg_rows.specs.View.{kept_row, row_in, columns_in}
 use Rattle.rg_rows.specs.Forms.{linear_form, split_of, forms_in, case_forms}
 use Rattle.rg_rows.specs.Making.{IsMade}
-use Rattle.rg_order_of_work.proofs.Comes.{comes_unless}
+use Rattle.rg_case_folds.proofs.Comes.{comes_unless}
 use Rattle.rg_rows.proofs.FormSteps.{each_last, each_last_fails, each_early_fails}
 use Rattle.rg_rows.proofs.forms.case_forms.Goals as goal
 use Rattle.rg_rows.proofs.forms.case_forms.Goals.{then-splits_start+in_ok-start+in_ok-push, else-splits_start}
-use Rattle.rg_refuting.specs.declared.Form.TheVariants as split_form
+use Rattle.rg_cert_meaning.specs.declared.Form.TheVariants as split_form
 use Rattle.rg_case_parts.specs.SettingViews.{shown_setting, shown_case}
 
 pub returns-in_err-forms-clause-comes : goal.returns-in_err-forms-clause-comes

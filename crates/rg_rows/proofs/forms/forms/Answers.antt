@@ -2,22 +2,22 @@ use Rattle.std.proofs.Common.{rules, ◌≡◌, ◌+◌, ◌<◌, ◌++◌, ◌�
 use Rattle.std.specs.declared.alloc.Global.{Global}
 use Rattle.std.proofs.lemmas.List.{length-map, map-append}
 use Rattle.std.proofs.lemmas.List.Elements.{All-nil, All-cons, All-append}
-use Rattle.rg_order_of_work.specs.Rewriting.{column_count, form_fold}
+use Rattle.rg_case_folds.specs.Rewriting.{column_count, form_fold}
 use Rattle.rg_integers.specs.Range.{InRange}
 use Rattle.rg_integers.proofs.Casts.{back}
 use Rattle.std.specs.Prelude.{pos, ◌<ℤ◌}
 use Rattle.rg_case_parts.specs.SettingViews.{shown_setting, shown_case}
 use Rattle.rg_theory.specs.System.{states}
-use Rattle.rg_order_of_work.proofs.Folding.{behind}
+use Rattle.rg_case_folds.proofs.Folding.{behind}
 use Rattle.rg_integers.specs.declared.term.Wide.{Wide}
 use Rattle.rg_linear.specs.Branching.{Form}
-use Rattle.rg_refuting.specs.declared.Form.{Form as SplitForm}
-use Rattle.rg_order_of_work.specs.Fold.{each}
+use Rattle.rg_cert_meaning.specs.declared.Form.{Form as SplitForm}
+use Rattle.rg_case_folds.specs.Fold.{each}
 use Rattle.rg_rows.specs.declared.named_form.NamedForm.{NamedForm}
 use Rattle.rg_rows.specs.View.{kept_row, row_in, terms_of}
 use Rattle.rg_rows.specs.Forms.{linear_form, split_of, forms_in}
 use Rattle.rg_rows.specs.Making.{IsMade}
-use Rattle.rg_order_of_work.proofs.Comes.{comes_unless}
+use Rattle.rg_case_folds.proofs.Comes.{comes_unless}
 use Rattle.rg_rows.proofs.Terms.{name_within}
 use Rattle.rg_rows.proofs.Sharing.{held_is}
 use Rattle.rg_rows.proofs.FormSteps.{Keeps, next_name, step_fails, step_next, step_named, step_times, step_made, form_skips, named_skips, forms_end, named_end}

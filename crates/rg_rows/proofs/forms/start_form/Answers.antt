@@ -3,11 +3,11 @@ use Rattle.std.proofs.lemmas.List.{length-map}
 use Rattle.rg_integers.specs.Range.{InRange}
 use Rattle.rg_integers.proofs.Casts.{back}
 use Rattle.rg_case_parts.specs.SettingViews.{shown_case}
-use Rattle.rg_order_of_work.specs.Rewriting.{column_count, form_fold}
+use Rattle.rg_case_folds.specs.Rewriting.{column_count, form_fold}
 use Rattle.rg_rows.specs.View.{row_in, terms_of}
 use Rattle.rg_rows.specs.Forms.{linear_form}
-use Rattle.rg_refuting.specs.declared.Form.TheVariants as split_form
-use Rattle.rg_order_of_work.proofs.Comes.{comes_unless}
+use Rattle.rg_cert_meaning.specs.declared.Form.TheVariants as split_form
+use Rattle.rg_case_folds.proofs.Comes.{comes_unless}
 use Rattle.rg_rows.proofs.Sharing.{held_is}
 use Rattle.rg_rows.proofs.Starts.{start_made, start_fails, start_times, start_is_made}
 use Rattle.rg_rows.proofs.forms.start_form.Goals as goal

@@ -1,12 +1,12 @@
 use Rattle.std.proofs.Common.{rules, ◌≡◌, Ok, Err, length, subst, sym}
 use Rattle.std.specs.Prelude.{IfOk}
 use Rattle.std.specs.Arc.{arc_slice_items}
-use Rattle.rg_order_of_work.specs.Fold.{shown_result}
-use Rattle.rg_order_of_work.specs.Rewriting.{column_count, row_fold}
+use Rattle.rg_case_folds.specs.Fold.{shown_result}
+use Rattle.rg_case_folds.specs.Rewriting.{column_count, row_fold}
 use Rattle.rg_rows.specs.declared.case_row.CaseRow.{CaseRow}
 use Rattle.rg_rows.specs.View.{kept_row, row_in, fold_of}
 use Rattle.rg_rows.specs.declared.held_row.HeldRow.{HeldRow}
-use Rattle.rg_order_of_work.proofs.Comes.{comes_unless}
+use Rattle.rg_case_folds.proofs.Comes.{comes_unless}
 use Rattle.rg_rows.proofs.held_row.row_in_case.Goals as goal
 use Rattle.rg_case_parts.specs.SettingViews.{shown_setting, shown_case}
 

@@ -3,12 +3,12 @@ use Rattle.std.specs.Arc.{arc_slice_items}
 use Rattle.std.proofs.lemmas.List.{length-map}
 use Rattle.rg_theory.specs.System.{states, labels}
 use Rattle.rg_fraction.specs.declared.fold_stop.FoldStop.TheVariants as stop
-use Rattle.rg_linear.specs.Firsts.{KeepsFirsts}
-use Rattle.rg_refuting.specs.declared.RowName.{RowName}
-use Rattle.rg_refuting.specs.declared.Form.{Form}
-use Rattle.rg_order_of_work.specs.Fold.{each}
-use Rattle.rg_order_of_work.specs.Rewriting.{CaseSystem, IsIdle, KeptRow, column_count, names_of, form_fold, rows_of}
-use Rattle.rg_order_of_work.specs.Meaning.{IsCaseOver}
+use Rattle.rg_linear.specs.Firsts.{KeepsEqualRows}
+use Rattle.rg_cert_meaning.specs.declared.RowName.{RowName}
+use Rattle.rg_cert_meaning.specs.declared.Form.{Form}
+use Rattle.rg_case_folds.specs.Fold.{each}
+use Rattle.rg_case_folds.specs.Rewriting.{CaseSystem, IsIdle, KeptRow, column_count, names_of, form_fold, rows_of}
+use Rattle.rg_case_folds.specs.Meaning.{IsCaseOver}
 use Rattle.rg_linear.specs.System.{LinearSystem}
 use Rattle.rg_cycles.specs.View.{cycle_of}
 use Rattle.rg_rows.specs.declared.held_row.HeldRow.{HeldRow}
@@ -24,7 +24,7 @@ use Rattle.rg_rows.proofs.Forming.{names_few, well_formed}
 use Rattle.rg_rows.proofs.FormNames.{forms_are, has_start_name}
 use Rattle.rg_rows.proofs.Assembling.{all_stand, all_forms}
 use Rattle.rg_rows.proofs.named_system.system_with.Goals as goal
-use Rattle.rg_refuting.specs.declared.RowName.TheVariants as row_name
+use Rattle.rg_cert_meaning.specs.declared.RowName.TheVariants as row_name
 
 pub rows-requires-clause-names : goal.rows-requires-clause-names
 rows-requires-clause-names c =
@@ -96,7 +96,7 @@ new-requires c =
     let high : labels lts ≤ 256 = c.is_well_formed.ensures.few_labels in
     let few : c.count.result + length all < 2 ^ 32 = omega arith in
     well_formed c.count.result all c.in_ok-kept.kept.rows.items kept shows.rows
-    (subst (λ l. KeepsFirsts (λ k. k.row) IsIdle [] (map kept_row (map row_in l)) kept) c.deref-2.ensures.value firsts)
+    (subst (λ l. KeepsEqualRows (λ k. k.row) IsIdle [] (map kept_row (map row_in l)) kept) c.deref-2.ensures.value firsts)
     (subst (λ n. All (λ r. length (arc_slice_items r.coeffs) ≡ n) all) (sym columns) c.in_ok-all.ensures.one_each)
     few
 
@@ -109,7 +109,7 @@ returns-clause-system c =
     let named_again = c.deref-3.ensures.value ∙ c.in_ok-names.ensures in
     let columns : c.count.result ≡ column_count s.lts s.basis s.class = c.count.ensures s.lts s.class (sym c.requires.labels) c.requires.common.columns in
     let shown : CaseSystem = record { columns = c.count.result; kept = kept; forms = map linear_form c.in_ok-forms.forms.items } in
-    let kept_firsts = subst (λ l. KeepsFirsts (λ k. k.row) IsIdle [] (map kept_row (map row_in l)) kept) c.deref-2.ensures.value firsts in
+    let kept_firsts = subst (λ l. KeepsEqualRows (λ k. k.row) IsIdle [] (map kept_row (map row_in l)) kept) c.deref-2.ensures.value firsts in
     let forms_made = subst (λ (l : List Form). each (form_fold s.setting) l (Ok shown.forms)) (ap (case_forms s.class s.problem) named_again ∙ forms_are s.lts s.class s.problem s.number) c.in_ok-forms.ensures.comes in (
       shown,
       case_made s c.deref.result.now named (map kept_row all) c.in_ok-all.ensures.comes shown.forms shown forms_made columns kept_firsts refl,
@@ -130,7 +130,7 @@ returns-clause-rows c =
     let named_again = c.deref-3.ensures.value ∙ c.in_ok-names.ensures in
     let columns : c.count.result ≡ column_count it.lts it.basis it.class = c.count.ensures it.lts it.class (sym c.requires.labels) c.requires.common.columns in
     let shown : CaseSystem = record { columns = c.count.result; kept = kept; forms = map linear_form c.in_ok-forms.forms.items } in
-    let kept_firsts = subst (λ l. KeepsFirsts (λ k. k.row) IsIdle [] (map kept_row (map row_in l)) kept) c.deref-2.ensures.value firsts in
+    let kept_firsts = subst (λ l. KeepsEqualRows (λ k. k.row) IsIdle [] (map kept_row (map row_in l)) kept) c.deref-2.ensures.value firsts in
     let kept_indices = subst (λ l. AreIndices l kept c.in_ok-kept.indices.items) (ap (λ l. map kept_row (map row_in l)) c.deref-2.ensures.value) indices in
     let made = subst (λ n. All (IsMade it.lts it.class n (map kept_row all) c.in_ok-kept.indices.items) c.in_ok-forms.forms.items) (sym columns)
     (subst (λ l. All (IsMade it.lts it.class (column_count it.lts it.basis it.class) (map kept_row all) l) c.in_ok-forms.forms.items) c.deref-5.ensures.value
@@ -149,7 +149,7 @@ returns-clause-forms c = λ reachable is_basis bound.
     let named_again = c.deref-3.ensures.value ∙ c.in_ok-names.ensures in
     let columns : c.count.result ≡ column_count it.lts it.basis it.class = c.count.ensures it.lts it.class (sym c.requires.labels) c.requires.common.columns in
     let shown : CaseSystem = record { columns = c.count.result; kept = kept; forms = map linear_form c.in_ok-forms.forms.items } in
-    let kept_firsts = subst (λ l. KeepsFirsts (λ k. k.row) IsIdle [] (map kept_row (map row_in l)) kept) c.deref-2.ensures.value firsts in
+    let kept_firsts = subst (λ l. KeepsEqualRows (λ k. k.row) IsIdle [] (map kept_row (map row_in l)) kept) c.deref-2.ensures.value firsts in
     let kept_indices = subst (λ l. AreIndices l kept c.in_ok-kept.indices.items) (ap (λ l. map kept_row (map row_in l)) c.deref-2.ensures.value) indices in
     let made = subst (λ n. All (IsMade it.lts it.class n (map kept_row all) c.in_ok-kept.indices.items) c.in_ok-forms.forms.items) (sym columns)
     (subst (λ l. All (IsMade it.lts it.class (column_count it.lts it.basis it.class) (map kept_row all) l) c.in_ok-forms.forms.items) c.deref-5.ensures.value

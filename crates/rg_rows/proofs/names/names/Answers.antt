@@ -1,12 +1,12 @@
 use Rattle.std.proofs.Common.{◌≡◌, ◌++◌, [], if◌then◌else◌, is_some, map, ap, sym, ◌∙◌, append_assoc}
 use Rattle.rg_theory.specs.System.{states}
-use Rattle.rg_refuting.specs.Row.{case_consumer}
-use Rattle.rg_order_of_work.specs.Rewriting.{all_numbers}
+use Rattle.rg_cert_meaning.specs.Row.{case_consumer}
+use Rattle.rg_case_folds.specs.Rewriting.{all_numbers}
 use Rattle.rg_rows.specs.View.{users, makers}
 use Rattle.rg_rows.proofs.Naming.{named_if, named_unless, names_told}
 use Rattle.rg_rows.proofs.names.names.Goals as goal
 use Rattle.rg_rows.proofs.names.names.Goals.{then-columns+in_ok-push_tokens, else-columns, then-is_some+in_ok-push_caps, else-is_some, then-class+in_ok-push_ups+in_ok-push_downs, else-class, then-class-2+in_ok-push_makes, else-class-2}
-use Rattle.rg_refuting.specs.declared.RowName.TheVariants as row_name
+use Rattle.rg_cert_meaning.specs.declared.RowName.TheVariants as row_name
 
 pub returns : goal.returns
 returns c =

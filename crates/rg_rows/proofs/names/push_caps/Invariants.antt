@@ -1,7 +1,7 @@
 use Rattle.std.proofs.Common.{◌≡◌, ◌-◌, ◌++◌, true, map}
-use Rattle.rg_order_of_work.specs.Rewriting.{numbers_where, all_numbers}
+use Rattle.rg_case_folds.specs.Rewriting.{numbers_where, all_numbers}
 use Rattle.rg_rows.proofs.names.push_caps.Given as goal
-use Rattle.rg_refuting.specs.declared.RowName.TheVariants as row_name
+use Rattle.rg_cert_meaning.specs.declared.RowName.TheVariants as row_name
 
 abbrev pub invariant-loop-q : goal.invariant-loop-q
 invariant-loop-q l = l.names.items ++ map row_name.Cap (numbers_where (λ q. true) l.q (l.states - l.q)) ≡ l.fn.names.items ++ map row_name.Cap (all_numbers l.states)

@@ -3,7 +3,7 @@ use Rattle.std.specs.Prelude.{slice_index_or}
 use Rattle.rg_rows.proofs.Naming.{name_taken, name_left, makes_test, consumer_test}
 use Rattle.rg_rows.proofs.names.push_makes.Goals as goal
 use Rattle.rg_rows.proofs.names.push_makes.Goals.{then-used-u+then-u-consumer+in_ok-push, else-used-u, else-used-u-via-then-used-u+else-u-consumer, else-used-u-via-else-used-u}
-use Rattle.rg_refuting.specs.declared.RowName.TheVariants as row_name
+use Rattle.rg_cert_meaning.specs.declared.RowName.TheVariants as row_name
 
 pub loop-u-preserved : goal.loop-u-preserved
 loop-u-preserved c =

@@ -3,7 +3,7 @@ use Rattle.std.specs.Prelude.{slice_index_or}
 use Rattle.rg_rows.proofs.Naming.{name_taken, name_left}
 use Rattle.rg_rows.proofs.names.push_ups.Goals as goal
 use Rattle.rg_rows.proofs.names.push_ups.Goals.{then-used-t+in_ok-push, else-used-t}
-use Rattle.rg_refuting.specs.declared.RowName.TheVariants as row_name
+use Rattle.rg_cert_meaning.specs.declared.RowName.TheVariants as row_name
 
 pub loop-t-preserved : goal.loop-t-preserved
 loop-t-preserved c =

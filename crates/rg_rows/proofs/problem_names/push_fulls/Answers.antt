@@ -1,5 +1,5 @@
 use Rattle.std.proofs.Common.{◌∙◌}
-use Rattle.rg_refuting.specs.declared.RowName.TheVariants as row_name
+use Rattle.rg_cert_meaning.specs.declared.RowName.TheVariants as row_name
 use Rattle.rg_rows.proofs.Naming.{each_named, all_named}
 use Rattle.rg_rows.proofs.problem_names.push_fulls.Goals as goal
 

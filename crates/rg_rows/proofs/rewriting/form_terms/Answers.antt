@@ -1,9 +1,9 @@
 use Rattle.std.proofs.Common.{rules, ◌≡◌, Ok, Err, length, subst, sym}
-use Rattle.rg_order_of_work.specs.Rewriting.{Scaled, column_count, terms_fold}
-use Rattle.rg_reasons.specs.Sums.{expression_of}
+use Rattle.rg_case_folds.specs.Rewriting.{Scaled, column_count, terms_fold}
+use Rattle.rg_cert_data.specs.Sums.{expression_of}
 use Rattle.rg_case_parts.specs.SettingViews.{shown_setting}
 use Rattle.rg_rows.specs.View.{terms_of}
-use Rattle.rg_order_of_work.proofs.Comes.{comes_unless}
+use Rattle.rg_case_folds.proofs.Comes.{comes_unless}
 use Rattle.rg_rows.proofs.rewriting.form_terms.Goals as goal
 
 pub returns-in_err-scaled-clause-comes : goal.returns-in_err-scaled-clause-comes

@@ -3,15 +3,15 @@ use Rattle.std.specs.Int.{w128, cast_signed, cast_unsigned}
 use Rattle.std.proofs.lemmas.List.{length-map}
 use Rattle.rg_integers.specs.Sum.{number_at}
 use Rattle.rg_integers.proofs.Casts.{back}
-use Rattle.rg_order_of_work.specs.Fold.{ratio_of}
-use Rattle.rg_order_of_work.specs.Rewriting.{free_labels, columns_of, coefficient_fold}
+use Rattle.rg_case_folds.specs.Fold.{ratio_of}
+use Rattle.rg_case_folds.specs.Rewriting.{free_labels, columns_of, coefficient_fold}
 use Rattle.rg_cycles.specs.View.{labels_of, cycle_of}
-use Rattle.rg_reasons.specs.Sums.{terms_in}
+use Rattle.rg_cert_data.specs.Sums.{terms_in}
 use Rattle.rg_case_parts.specs.SettingViews.{shown_setting}
-use Rattle.rg_order_of_work.specs.Rewriting.{terms_fold}
+use Rattle.rg_case_folds.specs.Rewriting.{terms_fold}
 use Rattle.rg_case_parts.specs.WholeNumbers.{scaled_of}
-use Rattle.rg_order_of_work.proofs.Comes.{comes_by, comes_unless}
-use Rattle.rg_order_of_work.proofs.Items.{each_length}
+use Rattle.rg_case_folds.proofs.Comes.{comes_by, comes_unless}
+use Rattle.rg_case_folds.proofs.Items.{each_length}
 use Rattle.rg_rows.proofs.Making.{if_ok_more, columns_unsubstituted, columns_scaled, columns_many}
 use Rattle.rg_rows.proofs.rewriting.over_columns.Goals as goal
 

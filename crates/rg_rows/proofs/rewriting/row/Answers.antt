@@ -4,13 +4,13 @@ use Rattle.std.specs.Arc.{arc_slice_items}
 use Rattle.rg_integers.proofs.Casts.{back}
 use Rattle.rg_fraction.specs.Fractions.{IsValue}
 use Rattle.rg_case_parts.specs.SettingViews.{shown_setting}
-use Rattle.rg_order_of_work.specs.Fold.{ratio_of}
-use Rattle.rg_order_of_work.specs.Rewriting.{row_fold}
+use Rattle.rg_case_folds.specs.Fold.{ratio_of}
+use Rattle.rg_case_folds.specs.Rewriting.{row_fold}
 use Rattle.rg_fraction.specs.declared.fold_stop.FoldStop.TheVariants as stop
-use Rattle.rg_reasons.specs.Sums.{expression_of}
+use Rattle.rg_cert_data.specs.Sums.{expression_of}
 use Rattle.rg_case_parts.specs.WholeNumbers.{scaled_of}
 use Rattle.rg_rows.specs.View.{kept_row}
-use Rattle.rg_order_of_work.proofs.Comes.{comes_by, comes_unless}
+use Rattle.rg_case_folds.proofs.Comes.{comes_by, comes_unless}
 use Rattle.rg_rows.proofs.Making.{whole_step, if_ok_more, row_unscaled, row_unmade, row_made}
 use Rattle.rg_rows.proofs.rewriting.row.Goals as goal
 

@@ -1,8 +1,8 @@
 use Rattle.std.proofs.Common.{◌<◌, List, [], All, length, map, ap, sym, subst, ◌∙◌}
-use Rattle.rg_refuting.specs.Row.{Side}
+use Rattle.rg_cert_meaning.specs.Row.{Side}
 use Rattle.rg_linear.specs.Branching.{SplitSide, Branching, BranchOutcome.stopped}
 use Rattle.rg_linear.proofs.Endings.{splits_within}
-use Rattle.rg_order_of_work.specs.Shown.{Shown, ShownWide}
+use Rattle.rg_case_folds.specs.Shown.{Shown, ShownWide}
 use Rattle.rg_feasible.specs.Settling.{wide_at}
 use Rattle.rg_outcome.specs.Casing.{CaseResult.passes, CaseComes}
 use Rattle.rg_branch.specs.View.{forms_of}

@@ -1,14 +1,14 @@
 use Rattle.std.proofs.Common.{List, map, Err, ap, sym, subst, ◌∙◌}
 use Rattle.std.specs.Prelude.{Bool, ℤ}
-use Rattle.rg_order_of_work.specs.Shown.{Shown, ShownWide}
+use Rattle.rg_case_folds.specs.Shown.{Shown, ShownWide}
 use Rattle.rg_outcome.specs.Casing.{CaseResult.passes, CaseComes, CaseComes.row_passes}
-use Rattle.rg_reasons.specs.declared.wide_at.Stage.TheVariants.{Row}
+use Rattle.rg_cert_data.specs.declared.wide_at.Stage.TheVariants.{Row}
 use Rattle.rg_case_parts.specs.SettingViews.{shown_case}
 use Rattle.rg_separate.specs.Passing.{passed_at}
 use Rattle.rg_separate.proofs.Passing.{row_shown}
 use Rattle.rg_separate.proofs.case.solve_case.Goals as goal
-use Rattle.rg_refuting.specs.declared.Form.{Form}
-use Rattle.rg_refuting.specs.Sides.{side_of}
+use Rattle.rg_cert_meaning.specs.declared.Form.{Form}
+use Rattle.rg_cert_meaning.specs.Sides.{side_of}
 
 pub returns-in-Err-Wide-clause-comes : goal.returns-in-Err-Wide-clause-comes
 returns-in-Err-Wide-clause-comes c =

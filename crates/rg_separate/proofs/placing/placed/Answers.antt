@@ -1,13 +1,13 @@
 use Rattle.std.proofs.Common.{◌<◌, List, [], All, length, map, ap, sym, subst, ◌∙◌}
-use Rattle.rg_refuting.specs.Row.{Side}
+use Rattle.rg_cert_meaning.specs.Row.{Side}
 use Rattle.rg_linear.specs.Branching.{SplitSide, BranchOutcome.found}
 use Rattle.rg_linear.proofs.Endings.{splits_within}
-use Rattle.rg_order_of_work.specs.Shown.{Shown, ShownWide}
+use Rattle.rg_case_folds.specs.Shown.{Shown, ShownWide}
 use Rattle.rg_net.specs.Shown.{shown_place}
 use Rattle.rg_outcome.specs.Casing.{CaseResult.passes, CaseComes}
 use Rattle.rg_rows.specs.declared.named_form.NamedForm.{NamedForm}
 use Rattle.rg_rows.specs.Forms.{split_of}
-use Rattle.rg_reasons.specs.declared.wide_at.Stage.TheVariants.{Place}
+use Rattle.rg_cert_data.specs.declared.wide_at.Stage.TheVariants.{Place}
 use Rattle.rg_case_parts.specs.SettingViews.{shown_case}
 use Rattle.rg_separate.specs.Casing.{forms_in, sides_among}
 use Rattle.rg_separate.specs.Passing.{passed_at}

@@ -1,8 +1,8 @@
 use Rattle.std.proofs.Common.{ℕ, List, length, ap, ◌∙◌, sym, subst, ◌≡◌, Some, slice_get}
 use Rattle.rg_theory.specs.declared.Problem.{Problem}
 use Rattle.rg_theory.specs.Problem.{IsProblem}
-use Rattle.rg_refuting.specs.Row.{cases_of}
-use Rattle.rg_reasons.specs.declared.certificate.Case.{Case}
+use Rattle.rg_cert_meaning.specs.Row.{cases_of}
+use Rattle.rg_cert_data.specs.declared.certificate.Case.{Case}
 use Rattle.rg_separate.specs.Deciding.{RefutesCase}
 use Rattle.rg_separate.proofs.Reasons.{refuted_all, refuted_one}
 use Rattle.rg_separate.proofs.problem.reason.Goals as goal

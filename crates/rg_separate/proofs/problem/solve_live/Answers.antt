@@ -1,6 +1,6 @@
 use Rattle.std.proofs.Common.{◌≡◌, ℕ, ◌+◌, ◌<◌, ◌∙◌, refl, sym, subst}
 use Rattle.rg_net.specs.Shown.{shown_place}
-use Rattle.rg_refuting.specs.Row.{cases_of}
+use Rattle.rg_cert_meaning.specs.Row.{cases_of}
 use Rattle.rg_outcome.specs.Solving.{Solved.placed}
 use Rattle.rg_outcome.specs.Casing.{CaseResult, CaseComes}
 use Rattle.rg_outcome.proofs.Cases.{same_result}
@@ -11,7 +11,7 @@ use Rattle.rg_separate.proofs.Coming.{refuted_more, passed_more, place_first, li
 use Rattle.rg_separate.proofs.Trying.{tried_refuted, tried_passed}
 use Rattle.rg_separate.proofs.problem.solve_live.Goals as goal
 use Rattle.rg_separate.proofs.problem.solve_live.Goals.{in-Refuted+in_ok-push-in-Refuted, in-Wide}
-use Rattle.rg_order_of_work.specs.Setting.{case_at}
+use Rattle.rg_case_folds.specs.Setting.{case_at}
 
 pub returns-in-Place-clause-comes : goal.returns-in-Place-clause-comes
 returns-in-Place-clause-comes c =

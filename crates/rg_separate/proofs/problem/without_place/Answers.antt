@@ -1,6 +1,6 @@
 use Rattle.std.proofs.Common.{map}
-use Rattle.rg_refuting.specs.Row.{cases_of}
-use Rattle.rg_reasons.specs.Certificates.{case_tree}
+use Rattle.rg_cert_meaning.specs.Row.{cases_of}
+use Rattle.rg_cert_data.specs.Certificates.{case_tree}
 use Rattle.rg_outcome.specs.Casing.{CaseComes}
 use Rattle.rg_outcome.specs.Solving.{Solved.refuted, Solved.passed}
 use Rattle.rg_outcome.proofs.Cases.{same_result}
@@ -8,7 +8,7 @@ use Rattle.rg_case_parts.specs.SettingViews.{shown_setting}
 use Rattle.rg_separate.specs.View.{shown_of}
 use Rattle.rg_separate.proofs.Coming.{refuted_come, term_comes, live_comes}
 use Rattle.rg_separate.proofs.problem.without_place.Goals as goal
-use Rattle.rg_order_of_work.specs.Setting.{case_at}
+use Rattle.rg_case_folds.specs.Setting.{case_at}
 
 pub reason-requires-clause-refuted : goal.reason-requires-clause-refuted
 reason-requires-clause-refuted c = c.requires.tried.refuted c.in-None.is

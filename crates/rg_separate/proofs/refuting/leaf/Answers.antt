@@ -1,13 +1,13 @@
 use Rattle.std.proofs.Common.{rules, ◌≡◌, List, Result, map, Ok, Err, inl, inr, ap, sym, subst, ◌∙◌}
 use Rattle.std.specs.Result.{IfOk}
 use Rattle.std.proofs.lemmas.List.{length-map}
-use Rattle.rg_refuting.specs.Row.{row_expression, Side}
-use Rattle.rg_order_of_work.specs.Shown.{named_sides}
+use Rattle.rg_cert_meaning.specs.Row.{row_expression, Side}
+use Rattle.rg_case_folds.specs.Shown.{named_sides}
 use Rattle.rg_cycles.specs.View.{cycle_of}
-use Rattle.rg_order_of_work.specs.Spreading.{leaf_fold}
+use Rattle.rg_case_folds.specs.Spreading.{leaf_fold}
 use Rattle.rg_fraction.specs.declared.fold_stop.FoldStop.TheVariants as stop
 use Rattle.rg_fraction.specs.declared.fraction.Fraction.{Fraction}
-use Rattle.rg_reasons.specs.Trees.{node_of as made_node_of}
+use Rattle.rg_cert_data.specs.Trees.{node_of as made_node_of}
 use Rattle.rg_branch.specs.View.{weight_of}
 use Rattle.rg_rows.specs.declared.named_form.NamedForm.{NamedForm}
 use Rattle.rg_rows.specs.Forms.{split_of}
@@ -15,7 +15,7 @@ use Rattle.rg_farkas.specs.Leaves.{share_of, RefutesCase}
 use Rattle.rg_separate.specs.Casing.{sides_among, SharesFold}
 use Rattle.rg_separate.proofs.Leaves.{leaf_asked, leaf_made, leaf_rows, leaf_not_negative, shares_named}
 use Rattle.rg_separate.proofs.refuting.leaf.Goals as goal
-use Rattle.rg_refuting.specs.declared.RowName.{RowName}
+use Rattle.rg_cert_meaning.specs.declared.RowName.{RowName}
 
 -- what holds of a result
 IfOk_both : {A E : Type 0} {P Q R : A → Type 0} (r : Result A E) → IfOk r P → IfOk r Q → ((a : A) → P a → Q a → R a) → IfOk r R

@@ -3,8 +3,8 @@ use Rattle.std.specs.Prelude.{ℤ, ◌≤ℤ◌, FitsSigned}
 use Rattle.std.specs.Int.{w64}
 use Rattle.std.proofs.lemmas.Int.{to_z-of_z}
 use Rattle.rg_linear.specs.Branching.{form_at}
-use Rattle.rg_splits.specs.Trees.{TreeNode.split_node, TreeNode.leaf_node}
-use Rattle.rg_reasons.specs.Certificates.{IsNodeOf}
+use Rattle.rg_branch_trees.specs.Trees.{TreeNode.split_node, TreeNode.leaf_node}
+use Rattle.rg_cert_data.specs.Certificates.{IsNodeOf}
 use Rattle.rg_rows.specs.declared.named_form.NamedForm.{NamedForm}
 use Rattle.rg_branch.specs.View.{weight_of, node_of}
 use Rattle.rg_branch.specs.declared.whole.RawNode.{RawNode}

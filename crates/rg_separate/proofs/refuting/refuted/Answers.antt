@@ -1,17 +1,17 @@
 use Rattle.std.proofs.Common.{◌≡◌, ℕ, ◌+◌, ◌<◌, List, [], ◌∷◌, All, length, get_or, map, Err, ap, sym, subst, ◌∙◌, arith}
 use Rattle.std.proofs.lemmas.List.{length-map, get_or-map, map-append}
 use Rattle.rg_integers.specs.declared.term.Wide.{Wide}
-use Rattle.rg_refuting.specs.Row.{Side}
-use Rattle.rg_refuting.specs.Sides.{side_of}
+use Rattle.rg_cert_meaning.specs.Row.{Side}
+use Rattle.rg_cert_meaning.specs.Sides.{side_of}
 use Rattle.rg_linear.specs.Branching.{SplitSide}
-use Rattle.rg_order_of_work.specs.Shown.{Shown, ShownWide}
-use Rattle.rg_reasons.specs.Trees as reasons
+use Rattle.rg_case_folds.specs.Shown.{Shown, ShownWide}
+use Rattle.rg_cert_data.specs.Trees as reasons
 use Rattle.rg_outcome.specs.Casing.{CaseResult.passes, CaseComes}
 use Rattle.rg_branch.specs.View.{node_of}
 use Rattle.rg_branch.specs.declared.whole.RawNode.{RawNode}
 use Rattle.rg_rows.specs.declared.named_form.NamedForm.{NamedForm}
 use Rattle.rg_rows.specs.Forms.{split_of}
-use Rattle.rg_reasons.specs.declared.wide_at.Stage.TheVariants.{Spread}
+use Rattle.rg_cert_data.specs.declared.wide_at.Stage.TheVariants.{Spread}
 use Rattle.rg_case_parts.specs.SettingViews.{shown_case}
 use Rattle.rg_separate.specs.Casing.{forms_in, sides_among, VisitStands, next_sides, IsMadeOf, LeafPasses}
 use Rattle.rg_separate.specs.Passing.{passed_at}

@@ -1,5 +1,5 @@
 use Rattle.std.proofs.Common.{map}
-use Rattle.rg_reasons.specs.Trees.{node_of as made_node_of}
+use Rattle.rg_cert_data.specs.Trees.{node_of as made_node_of}
 use Rattle.rg_branch.specs.View.{node_of}
 use Rattle.rg_separate.proofs.Walking.{IsWalk}
 use Rattle.rg_separate.proofs.refuting.refuted.Given as goal

@@ -1,5 +1,5 @@
 use Rattle.std.proofs.Common.{Err, ap, sym, subst, ◌∙◌}
-use Rattle.rg_order_of_work.specs.Shown.{Shown, ShownWide, CycleShown}
+use Rattle.rg_case_folds.specs.Shown.{Shown, ShownWide, CycleShown}
 use Rattle.rg_cycles.specs.Vectors.{numbers_in}
 use Rattle.rg_separate.specs.Passing.{cycle_passed}
 use Rattle.rg_separate.proofs.Passing.{cycle_shown}

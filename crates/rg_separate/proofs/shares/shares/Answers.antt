@@ -4,8 +4,8 @@ use Rattle.std.specs.Prelude.{pos, ◌≤ℤ◌, FitsSigned}
 use Rattle.std.specs.Int.{w128}
 use Rattle.std.proofs.lemmas.Int.{to_z-of_z}
 use Rattle.rg_linear.specs.Branching.{Weight}
-use Rattle.rg_order_of_work.specs.Spreading.{share_fold}
-use Rattle.rg_order_of_work.proofs.Items.{item_next, item_fails, items_end, map_push}
+use Rattle.rg_case_folds.specs.Spreading.{share_fold}
+use Rattle.rg_case_folds.proofs.Items.{item_next, item_fails, items_end, map_push}
 use Rattle.rg_branch.specs.View.{weight_of}
 use Rattle.rg_rows.specs.Forms.{split_of}
 use Rattle.rg_farkas.specs.Leaves.{share_of}

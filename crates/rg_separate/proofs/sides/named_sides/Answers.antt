@@ -6,7 +6,7 @@ use Rattle.rg_rows.specs.Forms.{split_of}
 use Rattle.rg_separate.specs.Casing.{sides_among}
 use Rattle.rg_separate.proofs.Siding.{sides_more}
 use Rattle.rg_separate.proofs.sides.named_sides.Goals as goal
-use Rattle.rg_refuting.specs.Row.{Side}
+use Rattle.rg_cert_meaning.specs.Row.{Side}
 
 pub bounds-forms-form : goal.bounds-forms-form
 bounds-forms-form c = c.requires c.loop-form.form-index _ c.loop-form-test.true

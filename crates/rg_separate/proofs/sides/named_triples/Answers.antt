@@ -2,8 +2,8 @@ use Rattle.std.proofs.Common.{rules, ◌≡◌, ◌+◌, List, map, take, false,
 use Rattle.std.specs.Prelude.{pos, slice_index_or, FitsSigned, Bool, ℤ}
 use Rattle.std.specs.Int.{w64}
 use Rattle.std.proofs.lemmas.Int.{to_z-of_z}
-use Rattle.rg_refuting.specs.declared.Form.{Form}
-use Rattle.rg_refuting.specs.Sides.{side_of}
+use Rattle.rg_cert_meaning.specs.declared.Form.{Form}
+use Rattle.rg_cert_meaning.specs.Sides.{side_of}
 use Rattle.rg_rows.specs.Forms.{split_of}
 use Rattle.rg_separate.specs.Casing.{sides_among}
 use Rattle.rg_separate.proofs.Siding.{triples_more}

@@ -1,5 +1,5 @@
 use Rattle.std.proofs.Common.{◌≡◌, map, take}
-use Rattle.rg_refuting.specs.Sides.{side_of}
+use Rattle.rg_cert_meaning.specs.Sides.{side_of}
 use Rattle.rg_rows.specs.Forms.{split_of}
 use Rattle.rg_separate.specs.Casing.{sides_among}
 use Rattle.rg_separate.proofs.sides.named_triples.Given as goal

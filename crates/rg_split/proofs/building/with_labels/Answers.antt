@@ -1,6 +1,6 @@
 use Rattle.std.proofs.Common.{◌≡◌, ℕ, List, Bor, map, ap, sym, subst, ◌∙◌, arith}
 use Rattle.std.proofs.lemmas.List.{length-map}
-use Rattle.rg_firsts.specs.Parts.{AreParts, IsSystemWith}
+use Rattle.rg_line_formats.specs.Parts.{AreParts, IsSystemWith}
 use Rattle.rg_split.specs.Building.{arcs_with}
 use Rattle.rg_split.proofs.OtherLabels.{parts_are}
 use Rattle.rg_split.proofs.building.with_labels.Goals as goal

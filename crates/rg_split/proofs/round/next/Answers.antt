@@ -1,7 +1,7 @@
 use Rattle.std.proofs.Common.{◌≡◌, ℕ, List, Bor, ◌∷◌, [], ◌++◌, length, map, string_bytes, ap, sym, subst, ◌∙◌, arith}
 use Rattle.std.proofs.lemmas.List.{length-map, length-append, get_or_default}
 use Rattle.rg_lts.specs.WellFormed.{AreNames}
-use Rattle.rg_reasons.specs.Certificates.{reason_of}
+use Rattle.rg_cert_data.specs.Certificates.{reason_of}
 use Rattle.rg_split.specs.Erasing.{old_label}
 use Rattle.rg_split.specs.Naming.{IsNewName}
 use Rattle.rg_split.specs.Rounds.{first_name}
@@ -12,8 +12,8 @@ use Rattle.rg_split.proofs.round.next.Goals as goal
 
 pub label_name-requires : goal.label_name-requires
 label_name-requires c =
-    let below = label_below c.args.now.now.system (reason_of c.args.reason.now) c.in_ok-part.part.label c.is_well_formed-2.ensures c.requires.answer c.requires.has_label c.in_ok-part.ensures.splits in
-    first_below c.args.lts.now (labelling_of c.args.now.now) c.in_ok-part.part.label c.index-first.result.now c.requires.apart below c.index-first.ensures
+    let below = label_below c.args.now.now.system (reason_of c.args.reason.now) c.in_ok-relabelling.relabelling.label c.is_well_formed-2.ensures c.requires.answer c.requires.has_label c.in_ok-relabelling.ensures.splits in
+    first_below c.args.lts.now (labelling_of c.args.now.now) c.in_ok-relabelling.relabelling.label c.index-first.result.now c.requires.apart below c.index-first.ensures
 
 pub new_name-requires-clause-name : goal.new_name-requires-clause-name
 new_name-requires-clause-name c = name_is_name c.args.lts.now.label_names c.index-first.result.now c.label_name.result.now c.is_well_formed.ensures.label_names c.label_name.ensures
@@ -43,20 +43,20 @@ with_labels-requires-clause-within c =
     let are = ap length (ap (map (λ (n : Bor (List ℕ)). n.now)) c.deref.ensures.value ∙ names) in
     let n = length-map c.deref.result.now (λ (n : Bor (List ℕ)). n.now) in
     let m = length-append system.label_names (string_bytes c.in_ok-name.name ∷ []) in
-    labels_below system (reason_of c.args.reason.now) c.in_ok-part.part.label (length c.deref.result.now) c.deref-2.result.now c.is_well_formed-2.ensures.in_range (omega arith) (c.deref-2.ensures.value ∙ c.in_ok-part.ensures.labels)
+    labels_below system (reason_of c.args.reason.now) c.in_ok-relabelling.relabelling.label (length c.deref.result.now) c.deref-2.result.now c.is_well_formed-2.ensures.in_range (omega arith) (c.deref-2.ensures.value ∙ c.in_ok-relabelling.ensures.labels)
 
 pub returns : goal.returns
 returns c =
     let now = labelling_of c.args.now.now in
-    let t = c.in_ok-part.part.label in
+    let t = c.in_ok-relabelling.relabelling.label in
     let first = c.index-first.result.now in
     let name = string_bytes c.in_ok-name.name in
-    let below = label_below now.system (reason_of c.args.reason.now) t c.is_well_formed-2.ensures c.requires.answer c.requires.has_label c.in_ok-part.ensures.splits in
+    let below = label_below now.system (reason_of c.args.reason.now) t c.is_well_formed-2.ensures c.requires.answer c.requires.has_label c.in_ok-relabelling.ensures.splits in
     let long = c.requires.apart.erases.each in
     let is : first ≡ old_label now.old t = c.index-first.ensures ∙ get_or_default now.old t first 0 (omega arith) in
     let names = pushed_name (λ (n : Bor (List ℕ)). n.now) now.system.label_names c.in_ok-names.names.items c.push.new.self.items c.as_str.result (string_bytes c.in_ok-name.name) c.as_str.ensures.value c.in_ok-names.ensures c.in_ok-push.ensures.items in
     let new : IsNewName now.system.label_names (first_name c.args.lts.now now.old t) name =
     subst (λ n. IsNewName now.system.label_names n name) (first_name_is c.args.lts.now now.old t first c.label_name.result.now is c.label_name.ensures) c.in_ok-name.ensures in
-    next_is c.args.lts.now (reason_of c.args.reason.now) now c.in_ok-system.system t first (map (λ (n : Bor (List ℕ)). n.now) c.deref.result.now) name c.deref-2.result.now c.push-2.new.self.items c.in_ok-part.ensures.splits
-    (c.deref-2.ensures.value ∙ c.in_ok-part.ensures.labels) is new (ap (map (λ (n : Bor (List ℕ)). n.now)) c.deref.ensures.value ∙ names) c.in_ok-system.ensures
+    next_is c.args.lts.now (reason_of c.args.reason.now) now c.in_ok-system.system t first (map (λ (n : Bor (List ℕ)). n.now) c.deref.result.now) name c.deref-2.result.now c.push-2.new.self.items c.in_ok-relabelling.ensures.splits
+    (c.deref-2.ensures.value ∙ c.in_ok-relabelling.ensures.labels) is new (ap (map (λ (n : Bor (List ℕ)). n.now)) c.deref.ensures.value ∙ names) c.in_ok-system.ensures
     (c.in_ok-push-2.ensures.items ∙ ap (λ ys. ys ++ first ∷ []) (c.in_ok-extend_from_slice.ensures.items ∙ ap (λ ys. ys ++ c.deref-3.result.now) c.new-old.ensures.items ∙ c.deref-3.ensures.value))

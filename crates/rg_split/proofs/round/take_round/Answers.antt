@@ -1,6 +1,6 @@
 use Rattle.std.proofs.Common.{subst}
 use Rattle.rg_theory.specs.ClassWords.{no_condition}
-use Rattle.rg_order_of_work.specs.Shown.{ShownWide}
+use Rattle.rg_case_folds.specs.Shown.{ShownWide}
 use Rattle.rg_outcome.specs.Outcome.{Out}
 use Rattle.rg_separate.specs.View.{shown_of}
 use Rattle.rg_synth.specs.Answer.{answer_of, IfNet, IfTooWide, IsSolvingNet, IsOpen}

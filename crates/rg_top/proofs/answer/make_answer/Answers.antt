@@ -34,4 +34,5 @@ returns-in-Ok-clause-fault g c = λ failed.
 
 pub returns-in-Err-Refused-clause-says : goal.returns-in-Err-Refused-clause-says
 returns-in-Err-Refused-clause-says g c =
-    refused c.in-Err-Refused.usage (subst (IsStopOf (AreRefused (map string_bytes c.args.words.now))) c.in-Err-Refused.field-0-is c.in-Err-Refused.ensures.refused)
+    rw c.in-Err-Refused.field-0-is
+    (refused c.in-Err-Refused.usage (subst (IsStopOf (AreRefused (map string_bytes c.args.words.now))) c.in-Err-Refused.field-0-is c.in-Err-Refused.ensures.refused))

@@ -1,5 +1,5 @@
 use Rattle.std.proofs.Common.{◌++◌, map, sym, ap, subst, ◌∙◌}
-use Rattle.rg_reasons.specs.Certificates.{claim_of}
+use Rattle.rg_cert_data.specs.Certificates.{claim_of}
 use Rattle.rg_cert.specs.Text.{cert_text}
 use Rattle.rg_product.specs.Product.{Factor}
 use Rattle.rg_factor.specs.View.{shown_factor}

@@ -22,6 +22,12 @@ returns-in-Err-NoMemory-clause-ends g c = record {
   err = record { taken = refl; offered = done c.args.err.now };
 }
 
+pub returns-in-Err-clause-ends : goal.returns-in-Err-clause-ends
+returns-in-Err-clause-ends g c = record {
+  out = record { taken = refl; offered = done c.args.out.now };
+  err = record { taken = refl; offered = done c.args.err.now };
+}
+
 pub returns-in-Ok-Out-clause-ends : goal.returns-in-Ok-Out-clause-ends
 returns-in-Ok-Out-clause-ends g c =
     let end = end_of c.in-Ok.made in

@@ -1,5 +1,5 @@
 use Rattle.std.proofs.Common.{subst}
-use Rattle.rg_order_of_work.specs.Shown.{ShownWide}
+use Rattle.rg_case_folds.specs.Shown.{ShownWide}
 use Rattle.rg_outcome.specs.Outcome.{Out}
 use Rattle.rg_separate.specs.View.{shown_of}
 use Rattle.rg_synth.specs.Answer.{answer_of, IsOpen, IsSolvingNet, IsRightCertificate, IfNet, IfUnsolvable, IfTooWide}

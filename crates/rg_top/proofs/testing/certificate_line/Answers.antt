@@ -1,4 +1,4 @@
-use Rattle.rg_reasons.specs.Certificates.{claim_of}
+use Rattle.rg_cert_data.specs.Certificates.{claim_of}
 use Rattle.rg_verify.specs.declared.verdict.Verdict.TheVariants.{Accepted}
 use Rattle.rg_top.proofs.testing.certificate_line.Goals as goal
 

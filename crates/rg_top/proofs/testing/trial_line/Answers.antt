@@ -1,6 +1,6 @@
 use Rattle.std.proofs.Common.{sym, subst}
 use Rattle.rg_outcome.specs.Outcome.{Out}
-use Rattle.rg_reasons.specs.Certificates.{reason_of}
+use Rattle.rg_cert_data.specs.Certificates.{reason_of}
 use Rattle.rg_synth.specs.Answer.{answer_of, IsSolvingNet, IsRightCertificate, IfNet, IfUnsolvable}
 use Rattle.rg_synth.specs.declared.answer.Answer.{Answer}
 use Rattle.rg_top.specs.SelfTest.{trial, HasLine, solved, unsolvable}

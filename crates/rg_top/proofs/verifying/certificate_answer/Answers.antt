@@ -1,5 +1,5 @@
 use Rattle.std.proofs.Common.{subst}
-use Rattle.rg_reasons.specs.Certificates.{claim_of}
+use Rattle.rg_cert_data.specs.Certificates.{claim_of}
 use Rattle.rg_verify.specs.declared.verdict.Verdict.{Verdict}
 use Rattle.rg_verify.specs.Judged.{Judges}
 use Rattle.rg_messages.specs.JudgedTexts.{accepted_line, defect_text, refused_line}

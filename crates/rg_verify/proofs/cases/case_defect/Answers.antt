@@ -3,15 +3,15 @@ use Rattle.std.specs.Int.{w64}
 use Rattle.std.proofs.lemmas.Int.{to_z-of_z, fits_signed_from_abs}
 use Rattle.std.proofs.lemmas.List.{length-map}
 use Rattle.std.proofs.Math.ListN.{drop_of_length-le}
-use Rattle.rg_reasons.specs.declared.certificate.Node.{Node}
-use Rattle.rg_reasons.specs.Certificates.{case_tree, IsNodeOf}
-use Rattle.rg_splits.specs.Trees.{TreeNode.leaf_node}
-use Rattle.rg_reasons.specs.Trees.{TreeNode, named_row, node_of, nodes_of}
+use Rattle.rg_cert_data.specs.declared.certificate.Node.{Node}
+use Rattle.rg_cert_data.specs.Certificates.{case_tree, IsNodeOf}
+use Rattle.rg_branch_trees.specs.Trees.{TreeNode.leaf_node}
+use Rattle.rg_cert_data.specs.Trees.{TreeNode, named_row, node_of, nodes_of}
 use Rattle.rg_verify.proofs.Walking.{IsAtNode, at_first, node_in_range, after_split, after_leaf, found_at, found_split, at_last}
 use Rattle.rg_verify.proofs.Places.{drop_image}
 use Rattle.rg_verify.proofs.cases.case_defect.Goals as goal
 use Rattle.rg_verify.proofs.cases.case_defect.Goals.{in-Split+else-not-stands+in_ok-push-in-Split, in-Leaf+in_ok-defect-in-Leaf+in_default}
-use Rattle.rg_refuting.specs.Row.{Side}
+use Rattle.rg_cert_meaning.specs.Row.{Side}
 
 pub loop-node-init : goal.loop-node-init
 loop-node-init c = record {

@@ -1,6 +1,6 @@
 use Rattle.std.proofs.Common.{◌≡◌}
-use Rattle.rg_reasons.specs.Certificates.{case_tree}
-use Rattle.rg_reasons.specs.Trees.{nodes_of}
+use Rattle.rg_cert_data.specs.Certificates.{case_tree}
+use Rattle.rg_cert_data.specs.Trees.{nodes_of}
 use Rattle.rg_verify.specs.Sums.{IsClear}
 use Rattle.rg_verify.proofs.Walking.{IsAtNode}
 use Rattle.rg_verify.proofs.cases.case_defect.Given as goal

@@ -1,5 +1,5 @@
 use Rattle.std.proofs.Common.{refl}
-use Rattle.rg_reasons.specs.Certificates.{case_tree}
+use Rattle.rg_cert_data.specs.Certificates.{case_tree}
 use Rattle.rg_verify.proofs.Verdicts.{asked_event, defect_event}
 use Rattle.rg_verify.proofs.judging.event_verdict.Goals as goal
 

@@ -1,4 +1,4 @@
-use Rattle.rg_reasons.specs.Certificates.{case_tree}
+use Rattle.rg_cert_data.specs.Certificates.{case_tree}
 use Rattle.rg_verify.proofs.Verdicts.{all_cases_iff}
 use Rattle.rg_verify.proofs.judging.has_all_cases.Goals as goal
 

@@ -1,7 +1,7 @@
 use Rattle.std.proofs.Common.{refl, sym, subst}
 use Rattle.rg_theory.specs.declared.Problem.TheVariants.{States}
-use Rattle.rg_reasons.specs.declared.certificate.Case.{Case}
-use Rattle.rg_reasons.specs.Certificates.{IsTreeOf, case_tree}
+use Rattle.rg_cert_data.specs.declared.certificate.Case.{Case}
+use Rattle.rg_cert_data.specs.Certificates.{IsTreeOf, case_tree}
 use Rattle.rg_verify.proofs.Places.{image_at}
 use Rattle.rg_verify.proofs.Verdicts.{more_refute, defect_states, refuted_states}
 use Rattle.rg_verify.proofs.judging.states_verdict.Goals as goal

@@ -1,7 +1,7 @@
 use Rattle.std.proofs.Common.{◌≡◌, ℕ, ◌<◌, [], Some, map, slice_get}
 use Rattle.rg_theory.specs.declared.Problem.TheVariants.{States}
-use Rattle.rg_refuting.specs.Refutes.{Tree, TreeRefutes}
-use Rattle.rg_reasons.specs.Certificates.{case_tree}
+use Rattle.rg_cert_meaning.specs.Refutes.{Tree, TreeRefutes}
+use Rattle.rg_cert_data.specs.Certificates.{case_tree}
 use Rattle.rg_verify.specs.Sums.{IsClear}
 use Rattle.rg_verify.proofs.judging.states_verdict.Given as goal
 

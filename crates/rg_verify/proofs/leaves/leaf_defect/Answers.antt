@@ -1,5 +1,5 @@
 use Rattle.std.proofs.Common.{map}
-use Rattle.rg_reasons.specs.Trees.{named_row}
+use Rattle.rg_cert_data.specs.Trees.{named_row}
 use Rattle.rg_verify.specs.Settings.{StandsIn, expression_in}
 use Rattle.rg_verify.proofs.Defects.{leaf_judged}
 use Rattle.rg_verify.proofs.leaves.leaf_defect.Goals as goal

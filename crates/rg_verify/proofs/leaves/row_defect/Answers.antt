@@ -2,8 +2,8 @@ use Rattle.std.proofs.Common.{map, take, get_or, All, sym, subst}
 use Rattle.std.proofs.lemmas.List.{map_more, take_all}
 use Rattle.std.proofs.lemmas.List.Elements.{All-push}
 use Rattle.rg_integers.proofs.Casts.{back}
-use Rattle.rg_reasons.specs.Certificates.{IsRowOf}
-use Rattle.rg_reasons.specs.Trees.{named_row}
+use Rattle.rg_cert_data.specs.Certificates.{IsRowOf}
+use Rattle.rg_cert_data.specs.Trees.{named_row}
 use Rattle.rg_verify.specs.Judged.{IsRightRow}
 use Rattle.rg_verify.specs.Settings.{StandsIn}
 use Rattle.rg_verify.proofs.Places.{image_at}

@@ -1,5 +1,5 @@
 use Rattle.std.proofs.Common.{map, take, All}
-use Rattle.rg_reasons.specs.Trees.{named_row}
+use Rattle.rg_cert_data.specs.Trees.{named_row}
 use Rattle.rg_verify.specs.Judged.{IsRightRow}
 use Rattle.rg_verify.specs.Settings.{StandsIn}
 use Rattle.rg_verify.proofs.leaves.row_defect.Given as goal

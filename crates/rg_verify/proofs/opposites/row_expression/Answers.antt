@@ -1,4 +1,4 @@
-use Rattle.rg_reasons.proofs.Within.{row_within}
+use Rattle.rg_cert_data.proofs.Within.{row_within}
 use Rattle.rg_verify.proofs.Rows.{reduced_row, all_forms}
 use Rattle.rg_verify.proofs.opposites.row_expression.Goals as goal
 

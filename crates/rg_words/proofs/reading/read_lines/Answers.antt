@@ -1,6 +1,6 @@
 use Rattle.std.proofs.Common.{◌+◌, [], subst}
 use Rattle.std.proofs.lemmas.Result.{err_from_is_err_and}
-use Rattle.rg_firsts.specs.Numbered.{lines_left}
+use Rattle.rg_line_formats.specs.Numbered.{lines_left}
 use Rattle.std.specs.Option.{option_map}
 use Rattle.rg_words.specs.Contents.{uses}
 use Rattle.rg_words.specs.Reading.{Stands, uses_in}

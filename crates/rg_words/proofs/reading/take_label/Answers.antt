@@ -2,7 +2,7 @@ use Rattle.std.proofs.Common.{◌≡◌, ◌+◌, ◌∷◌, [], ◌++◌, false
 use Rattle.std.proofs.lemmas.Option.{slice_get_within}
 use Rattle.std.specs.Str.{bytes_eq}
 use Rattle.rg_lts.specs.Draft.{Draft}
-use Rattle.rg_firsts.specs.First.{with_new}
+use Rattle.rg_line_formats.specs.First.{with_new}
 use Rattle.rg_words.specs.Reading.{IsAt, IsDraftOf, use_of}
 use Rattle.rg_words.proofs.Steps.{states_long}
 use Rattle.rg_words.proofs.LabelSteps.{old_label, new_label, too_many_states, draft_same, draft_more}

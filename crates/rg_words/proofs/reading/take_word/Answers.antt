@@ -1,6 +1,6 @@
 use Rattle.std.proofs.Common.{◌++◌, ◌∷◌, [], subst}
 use Rattle.std.proofs.lemmas.Result.{err_from_is_err_and}
-use Rattle.rg_firsts.specs.Words.{words}
+use Rattle.rg_line_formats.specs.Words.{words}
 use Rattle.rg_words.specs.Contents.{uses_from}
 use Rattle.rg_words.specs.Reading.{Stands}
 use Rattle.rg_words.proofs.Going.{label_taken, label_wrong, word_ends}

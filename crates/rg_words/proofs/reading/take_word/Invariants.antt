@@ -1,5 +1,5 @@
 use Rattle.std.proofs.Common.{ℕ, ◌≤◌, ◌++◌, [], List, length}
-use Rattle.rg_firsts.specs.Words.{words}
+use Rattle.rg_line_formats.specs.Words.{words}
 use Rattle.rg_words.specs.Contents.{Use, uses_from}
 use Rattle.rg_words.specs.Reading.{IsDraftOf, Stands}
 use Rattle.rg_words.proofs.reading.take_word.Given as goal

@@ -3,12 +3,12 @@ use Rattle.std.specs.Prelude.{pos, slice_index}
 use Rattle.std.specs.Int.{w128, cast_signed, cast_unsigned}
 use Rattle.std.proofs.lemmas.List.{length-map, get_or-map}
 use Rattle.rg_integers.proofs.Casts.{back}
-use Rattle.rg_order_of_work.specs.Fold.{whole, ratio_of}
-use Rattle.rg_order_of_work.specs.Rewriting.{has_label, free_labels}
+use Rattle.rg_case_folds.specs.Fold.{whole, ratio_of}
+use Rattle.rg_case_folds.specs.Rewriting.{has_label, free_labels}
 use Rattle.rg_cycles.specs.View.{labels_of, cycle_of}
 use Rattle.rg_cycles.proofs.Folding.{free_below}
-use Rattle.rg_order_of_work.proofs.Folding.{whole_is}
-use Rattle.rg_order_of_work.proofs.Items.{map_push}
+use Rattle.rg_case_folds.proofs.Folding.{whole_is}
+use Rattle.rg_case_folds.proofs.Items.{map_push}
 use Rattle.rg_case_parts.proofs.Picking.{used_is, pick_starts, pick_pushed, pick_left, pick_ends}
 use Rattle.rg_case_parts.proofs.columns.Columns.pick.Goals as goal
 use Rattle.rg_case_parts.proofs.columns.Columns.pick.Goals.{then-self+in_ok-push, else-self, then-index+in_ok-push-2, else-index}

@@ -21,10 +21,10 @@ returns-in-Event c = λ places much.
 pub returns-in-States : goal.returns-in-States
 returns-in-States c = λ places much.
     let has = subst (IsProblem c.args.lts.now) c.in-States.is c.requires.problem in
-    let size = much.blocks.one_each in
+    let size = much.cells.one_each in
     let last = has.1 in
     let order = has.0 in
-    let first_in : c.in-States.s < length c.args.self.now.blocks.items = omega arith in
-    let last_in : c.in-States.other < length c.args.self.now.blocks.items = omega arith in
+    let first_in : c.in-States.s < length c.args.self.now.cells.items = omega arith in
+    let last_in : c.in-States.other < length c.args.self.now.cells.items = omega arith in
     told_by_numbers c.args.lts.now places c.args.self.now much c.args.problem c.requires.problem c.in-States.s c.in-States.other c.index-in-States.result.now c.index-in-States-2.result.now c.in-States.is
-    (get_or_read c.args.self.now.blocks.items c.in-States.s _ first_in c.index-in-States.ensures 0) (get_or_read c.args.self.now.blocks.items c.in-States.other _ last_in c.index-in-States-2.ensures 0)
+    (get_or_read c.args.self.now.cells.items c.in-States.s _ first_in c.index-in-States.ensures 0) (get_or_read c.args.self.now.cells.items c.in-States.other _ last_in c.index-in-States-2.ensures 0)

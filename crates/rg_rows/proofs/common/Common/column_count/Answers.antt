@@ -1,6 +1,6 @@
 use Rattle.std.proofs.Common.{◌≤◌, ap, subst, sym, ◌∙◌}
 use Rattle.rg_theory.specs.Limits.{most_labels}
-use Rattle.rg_order_of_work.specs.Rewriting.{column_count}
+use Rattle.rg_case_folds.specs.Rewriting.{column_count}
 use Rattle.rg_rows.proofs.common.Common.column_count.Goals as goal
 
 pub count-requires-clause-labels : goal.count-requires-clause-labels

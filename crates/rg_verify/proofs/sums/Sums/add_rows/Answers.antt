@@ -2,8 +2,8 @@ use Rattle.std.proofs.Common.{map, take, get_or}
 use Rattle.std.proofs.lemmas.List.{map_more}
 use Rattle.std.proofs.lemmas.Result.{err_from_is_err_and}
 use Rattle.rg_integers.proofs.Casts.{back}
-use Rattle.rg_reasons.specs.Certificates.{IsRowOf}
-use Rattle.rg_reasons.specs.Trees.{named_row}
+use Rattle.rg_cert_data.specs.Certificates.{IsRowOf}
+use Rattle.rg_cert_data.specs.Trees.{named_row}
 use Rattle.rg_verify.proofs.Places.{image_at}
 use Rattle.rg_verify.proofs.Rows.{no_row, multiplier_at, table_kept, sums_more, passes_among}
 use Rattle.rg_verify.proofs.sums.Sums.add_rows.Goals as goal

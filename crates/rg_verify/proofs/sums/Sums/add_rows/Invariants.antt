@@ -1,5 +1,5 @@
 use Rattle.std.proofs.Common.{map, take}
-use Rattle.rg_reasons.specs.Trees.{named_row}
+use Rattle.rg_cert_data.specs.Trees.{named_row}
 use Rattle.rg_verify.specs.Settings.{expression_in}
 use Rattle.rg_verify.specs.Sums.{IsTableOf, AreSumsOf}
 use Rattle.rg_verify.proofs.sums.Sums.add_rows.Given as goal

@@ -1,8 +1,8 @@
 use Rattle.std.proofs.Common.{Some, sym, ap, ◌∙◌, if◌then◌else◌}
 use Rattle.rg_integers.proofs.Casts.{back}
-use Rattle.rg_refuting.specs.Expression.{same_variable}
-use Rattle.rg_refuting.specs.declared.Variable.{Variable}
-use Rattle.rg_reasons.specs.Sums.{term_of}
+use Rattle.rg_cert_meaning.specs.Expression.{same_variable}
+use Rattle.rg_cert_meaning.specs.declared.Variable.{Variable}
+use Rattle.rg_cert_data.specs.Sums.{term_of}
 use Rattle.rg_verify.specs.Sums.{entry_of}
 use Rattle.rg_verify.proofs.Tables.{tidy_set}
 use Rattle.rg_verify.proofs.Adding.{adds_term}

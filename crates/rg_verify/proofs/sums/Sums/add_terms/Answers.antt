@@ -2,7 +2,7 @@ use Rattle.std.proofs.Common.{None, subst, ◌∙◌}
 use Rattle.std.proofs.lemmas.List.{take_all}
 use Rattle.std.proofs.lemmas.Result.{err_from_is_err_and}
 use Rattle.rg_integers.proofs.Casts.{back}
-use Rattle.rg_reasons.specs.Sums.{terms_in, term_of}
+use Rattle.rg_cert_data.specs.Sums.{terms_in, term_of}
 use Rattle.rg_verify.specs.Sums.{AddsTerms}
 use Rattle.rg_verify.proofs.Tables.{has_entry}
 use Rattle.rg_verify.proofs.Adding.{term_entry, adds_at, adds_past, passes_at}

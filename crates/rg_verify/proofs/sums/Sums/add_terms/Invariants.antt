@@ -1,5 +1,5 @@
 use Rattle.std.proofs.Common.{take}
-use Rattle.rg_reasons.specs.Sums.{terms_in}
+use Rattle.rg_cert_data.specs.Sums.{terms_in}
 use Rattle.rg_verify.specs.Sums.{IsTidy, HasSameVariables, AddsTerms}
 use Rattle.rg_verify.proofs.sums.Sums.add_terms.Given as goal
 

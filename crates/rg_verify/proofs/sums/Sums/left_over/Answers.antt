@@ -4,7 +4,7 @@ use Rattle.rg_verify.specs.Sums.{signed_of}
 use Rattle.rg_verify.proofs.Leftovers.{TellsFirst, tells_zero, tells_left, first_of_all, listed_entry}
 use Rattle.rg_verify.proofs.sums.Sums.left_over.Goals as goal
 use Rattle.rg_verify.proofs.sums.Sums.left_over.Goals.{then-not-is_zero, else-not-is_zero}
-use Rattle.rg_refuting.specs.declared.Variable.TheVariants.{Tokens}
+use Rattle.rg_cert_meaning.specs.declared.Variable.TheVariants.{Tokens}
 
 pub get-requires : goal.get-requires
 get-requires c = listed_entry c.args.self.now c.deref-variable-items.result.now c.loop-variable.variable-index (Tokens 0) c.requires c.loop-variable.invariant.items c.loop-variable-test.true

@@ -1,0 +1,101 @@
+-- The place that a point of a case's system makes.
+use Rattle.std.specs.Prelude.{ℕ, ◌-◌, ◌%◌, ◌==◌, ◌&&◌, ◌||◌, not, is_some, unwrap_or, Bool, false, if◌then◌else◌, List, [], ◌∷◌, ◌++◌, map, slice_index_or, ℤ, pos, neg_ℤ, ◌*ℤ◌, int_lt, unsigned_abs, Result}
+use Rattle.rg_theory.specs.declared.Arc.{Arc}
+use Rattle.rg_theory.specs.System.{System, states, labels}
+use Rattle.rg_theory.specs.Net.{Place}
+use Rattle.rg_theory.specs.declared.Class.{Class}
+use Rattle.rg_theory.specs.declared.Problem.{Problem}
+use Rattle.rg_theory.specs.declared.Problem.TheVariants.{Event, States}
+use Rattle.rg_integers.specs.declared.term.Wide.{Wide}
+use Rattle.rg_case_folds.specs.Fold.{gives, and_then, either, each, joined, Ratio, whole, quotient, add, mul, whole_sum, multiple_of_all}
+use Rattle.rg_linear.specs.Cycle.{CycleBasis}
+use Rattle.rg_case_folds.specs.Setting.{Setting}
+use Rattle.rg_case_folds.specs.Rewriting.{is_in, has_label, free_columns, all_numbers, states_with}
+
+-- the effect of label t, where free label f has the value value f
+abbrev pub effect_fold : System → CycleBasis → (ℕ → Ratio) → ℕ → Result Ratio Wide → Type 0
+effect_fold lts basis value t =
+    either (not (has_label t lts.arcs)) (gives (whole (pos 0)))
+    (either (is_in basis.members t) (gives (value t))
+    (joined add (λ f. and_then (quotient ((basis.relation t).coefficient f) (basis.relation t).d) (λ k. mul (value f) k)) (whole (pos 0)) (free_columns lts basis)))
+
+abbrev pub negated : Ratio → Ratio
+negated f = record { top = neg_ℤ f.top; bottom = f.bottom }
+
+-- the effects by label, and Start after them, made whole in a class that is neither plain nor bounded, and then multiples
+-- of what the start has to be a multiple of
+abbrev pub made_whole : Class → List Ratio → Result (List Ratio) Wide → Type 0
+made_whole class numbers =
+    either (class.plain || is_some class.bound) (gives numbers)
+    (and_then (multiple_of_all (map (λ r. r.bottom) numbers)) (λ m. and_then (each (λ r. mul r (whole m)) numbers)
+    (λ products. either (is_some class.marking) (each (λ r. mul r (whole (pos (unwrap_or class.marking 1)))) products) (gives products))))
+
+abbrev pub ratio_at : List Ratio → ℕ → Ratio
+ratio_at numbers i = slice_index_or numbers i (whole (pos 0))
+
+-- the numbers of the states, tree arc by tree arc
+abbrev pub along_tree : (ℕ → Ratio) → (ℕ → Ratio) → List Arc → Result (ℕ → Ratio) Wide → Type 0
+along_tree effect number [] = gives number
+along_tree effect number (a ∷ tree) = and_then (add (number a.from) (effect a.label)) (λ m. along_tree effect (λ s. if s == a.to then m else number s) tree)
+
+abbrev pub lesser : Ratio → Ratio → Ratio
+lesser f g = if int_lt (g.top *ℤ f.bottom) (f.top *ℤ g.bottom) then g else f
+
+-- the least of the numbers, 0 of none
+abbrev pub least_from : Ratio → List Ratio → Ratio
+least_from f [] = f
+least_from f (g ∷ rest) = least_from (lesser f g) rest
+
+abbrev pub least_of : List Ratio → Ratio
+least_of [] = whole (pos 0)
+least_of (f ∷ rest) = least_from f rest
+
+-- the numbers are moved so that the least is 0
+abbrev pub is_shifted : Class → Bool
+is_shifted class = not (is_some class.bound) && (class.plain || not class.pure)
+
+abbrev pub tops : List Ratio → List ℤ
+tops numbers = map (λ r. r.top) numbers
+
+abbrev pub top_at : List Ratio → ℕ → ℤ
+top_at numbers i = (ratio_at numbers i).top
+
+-- how many more make m a multiple of n
+abbrev pub missing : ℕ → ℕ → ℕ
+missing n m = (n - m % n) % n
+
+-- then they are moved back until the start is a multiple: in a problem of two states of a plain class without bound
+abbrev pub is_lifted : Class → Problem → Bool
+is_lifted class (Event s t) = false
+is_lifted class (States s s') = is_some class.marking && (class.plain && not (is_some class.bound))
+
+abbrev pub shift_fold : System → Class → Problem → List Ratio → Result (List Ratio) Wide → Type 0
+shift_fold lts class problem numbers =
+    and_then (either (is_shifted class) (each (λ m. add m (negated (least_of numbers))) numbers) (gives numbers))
+    (λ moved. either (is_lifted class problem) (each (λ m. add m (whole (pos (missing (unwrap_or class.marking 1) (unsigned_abs (top_at moved lts.initial)))))) moved) (gives moved))
+
+-- what a label with this effect takes, if no more is asked of it
+abbrev pub taken_by_effect : ℤ → ℤ
+taken_by_effect e = if int_lt e (pos 0) then neg_ℤ e else pos 0
+
+-- what label u takes from the place: the event's label as much as stops it
+abbrev pub taken : System → Class → Problem → List Ratio → List Ratio → ℕ → ℤ
+taken lts class (Event s t) numbers effects u =
+    if not (u == t) then taken_by_effect (top_at effects u)
+    else (if class.pure then neg_ℤ (top_at effects u)
+    else (if class.plain then pos 1
+    else (least_of (map (ratio_at numbers) (states_with lts t))).top))
+taken lts class (States s s') numbers effects u = taken_by_effect (top_at effects u)
+
+abbrev pub place_of : System → List Ratio → List ℤ → List ℤ → Place
+place_of lts numbers pre post = record { start = unsigned_abs (top_at numbers lts.initial); pre = map unsigned_abs pre; post = map unsigned_abs post }
+
+-- the place of the point that has Start and the values of the free labels
+abbrev pub place_fold : Setting → Problem → Ratio → (ℕ → Ratio) → Result Place Wide → Type 0
+place_fold s problem start value =
+    and_then (each (effect_fold s.lts s.basis value) (all_numbers (labels s.lts)))
+    (λ effects. and_then (made_whole s.class (effects ++ start ∷ []))
+    (λ found. and_then (along_tree (ratio_at found) (λ q. ratio_at found (labels s.lts)) s.tree)
+    (λ number. and_then (shift_fold s.lts s.class problem (map number (all_numbers (states s.lts))))
+    (λ numbers. and_then (each (λ u. whole_sum (taken s.lts s.class problem numbers found u) (top_at found u)) (all_numbers (labels s.lts)))
+    (λ post. gives (place_of s.lts numbers (map (taken s.lts s.class problem numbers found) (all_numbers (labels s.lts))) post))))))

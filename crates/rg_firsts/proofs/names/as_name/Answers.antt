@@ -1,5 +1,0 @@
-use Rattle.rg_text.proofs.Names.{read_as_name}
-use Rattle.rg_firsts.proofs.names.as_name.Goals as goal
-
-pub unwrap-requires : goal.unwrap-requires
-unwrap-requires c = read_as_name c.args.name.now c.from_utf8.result _ _ c.from_utf8.ensures.cases c.requires

@@ -1,4 +1,0 @@
-use Rattle.rg_netitems.proofs.found.FoundReader.add.Goals as goal
-
-pub returns-in-TypeName-clause-names : goal.returns-in-TypeName-clause-names
-returns-in-TypeName-clause-names c = c.at_type.ensures.names c.args.bytes.now

@@ -1,8 +1,0 @@
-use Rattle.rg_order_of_work.proofs.Given.{unused_is_free, unused_is_unnamed}
-use Rattle.rg_order_of_work.proofs.meaning.unused_labels_are_free.Goals as goal
-
-pub returns-clause-free : goal.returns-clause-free
-returns-clause-free c = unused_is_free
-
-pub returns-clause-unnamed : goal.returns-clause-unnamed
-returns-clause-unnamed c = unused_is_unnamed

@@ -1,5 +1,0 @@
-use Rattle.rg_order_of_work.proofs.SystemRows.{system_is_met}
-use Rattle.rg_order_of_work.proofs.rows.system_is_exact.Goals as goal
-
-pub returns : goal.returns
-returns c = system_is_met
