@@ -1,6 +1,6 @@
 -- Least common multiples of positive numbers.
-use Rattle.std.proofs.Common.{◌≡◌, ℕ, ◌+◌, ◌<◌, List, [], ◌∷◌, map, drop, length, Result, Ok, Err, ap, refl, subst, sym, ◌∙◌, inl, inr, add-one, arith}
-use Rattle.std.specs.Prelude.{ℤ, pos, ◌-ℤ◌, ◌*ℤ◌, int_div, slice_index_or}
+use Rattle.std.proofs.Common.{◌≡◌, ℕ, suc, ◌+◌, ◌<◌, List, [], ◌∷◌, All, map, drop, length, Result, Ok, Err, ap, refl, subst, sym, ◌∙◌, inl, inr, add-one, arith}
+use Rattle.std.specs.Prelude.{ℤ, pos, ◌-ℤ◌, ◌*ℤ◌, int_div, unsigned_abs, slice_index_or}
 use Rattle.std.proofs.Math.Nat.{one-dvd}
 use Rattle.std.proofs.Math.Seq.{drop-cons}
 use Rattle.std.proofs.lemmas.Int.{ints}
@@ -14,7 +14,7 @@ use Rattle.rg_integers.proofs.Ring.{mul-one}
 use Rattle.rg_fraction.specs.declared.fraction.Fraction.{Fraction}
 use Rattle.rg_fraction.specs.Fractions.{numerator_of, denominator_of}
 use Rattle.rg_fraction.specs.Terms.{product_term, product_top, product_bottom}
-use Rattle.rg_fraction.proofs.Ones.{first_part, second_part}
+use Rattle.rg_fraction.proofs.Ones.{first_part, second_part, one_is_reduced}
 use Rattle.rg_case_folds.specs.Fold.{gives, each, further, common_multiple, multiple_of_all, IsRatio, IsWithin, Ratio, ratio_of, whole, mul, term}
 use Rattle.rg_case_folds.specs.Rewriting.{scaled_fold}
 use Rattle.rg_case_folds.proofs.Folding.{further_next, further_unjoined}
@@ -103,3 +103,31 @@ times_one f h = (top, bottom, value)
 pub all_times_one : (fs : List Fraction) → each (λ f. mul f (whole (pos 1))) (map ratio_of fs) (Ok (map ratio_of fs))
 all_times_one [] = refl
 all_times_one (f ∷ fs) = (ratio_of f, times_one (ratio_of f) (fraction_within f), (map ratio_of fs, all_times_one fs, refl))
+
+-- ---- whole numbers
+
+all_whole : (zs : List ℤ) → All InRange zs → each (λ r. mul r (whole (pos 1))) (map whole zs) (Ok (map whole zs))
+all_whole [] h = refl
+all_whole (z ∷ zs) h = (whole z, times_one (whole z) (within z (h 0 z (omega arith))), (map whole zs, all_whole zs (λ k d lt. h (suc k) d (omega arith)), refl))
+  where
+    within : (z : ℤ) → InRange z → IsWithin (whole z)
+    within z h = record { positive = omega (arith, ints); reduced = one_is_reduced (unsigned_abs z); top_in_range = h; bottom_in_range = omega arith }
+
+-- the least common multiple of ones
+further_ones : (zs : List ℤ) → further common_multiple gives (pos 1) (map (λ (r : Ratio). r.bottom) (map whole zs)) (Ok (pos 1))
+further_ones [] = refl
+further_ones (z ∷ zs) = (pos 1, refl, (pos 1, multiple_with_one (pos 1) (omega arith), further_ones zs))
+
+multiple_of_ones : (zs : List ℤ) → multiple_of_all (map (λ (r : Ratio). r.bottom) (map whole zs)) (Ok (pos 1))
+multiple_of_ones [] = refl
+multiple_of_ones (z ∷ zs) = (pos 1, refl, further_ones zs)
+
+tops_of_wholes : (zs : List ℤ) → map (λ (r : Ratio). r.top) (map whole zs) ≡ zs
+tops_of_wholes [] = refl
+tops_of_wholes (z ∷ zs) = ap (λ l. z ∷ l) (tops_of_wholes zs)
+
+-- whole numbers are without denominators
+pub scaled_wholes : (zs : List ℤ) → All InRange zs → scaled_fold (map whole zs) (Ok (record { multiple = pos 1; numbers = zs }))
+scaled_wholes zs h =
+    subst (λ l. scaled_fold (map whole zs) (Ok (record { multiple = pos 1; numbers = l }))) (tops_of_wholes zs)
+    (scaled_made (map whole zs) (pos 1) (multiple_of_ones zs) (map whole zs) (all_whole zs h))

@@ -1,11 +1,13 @@
 -- The numbers of the columns, picked label by label.
-use Rattle.std.proofs.Common.{◌≡◌, ℕ, zero, suc, ◌+◌, ◌<◌, ◌≤◌, ◌&&◌, Ok, Bool, true, false, if◌then◌else◌, List, [], ◌∷◌, ◌++◌, map, drop, length, ap, refl, subst, sym, ◌∙◌, arith, append_assoc, add-one}
+use Rattle.std.proofs.Common.{◌≡◌, ℕ, zero, suc, ◌+◌, ◌<◌, ◌≤◌, ◌&&◌, Ok, Bool, true, false, if◌then◌else◌, List, [], ◌∷◌, ◌++◌, All, map, drop, length, ap, refl, subst, sym, ◌∙◌, arith, append_assoc, add-one}
 use Rattle.std.specs.Prelude.{ℤ, pos, slice_index, slice_index_or}
 use Rattle.std.specs.Int.{from_bool}
-use Rattle.std.proofs.lemmas.List.{append-nil, drop_all, length-map, get_or_default}
+use Rattle.std.proofs.lemmas.List.{append-nil, drop_all, length-map, get_or_default, get_or-map}
+use Rattle.std.proofs.lemmas.List.Elements.{All-nil, All-cons, All-append, All-map}
 use Rattle.std.proofs.Math.Seq.{drop-cons}
 use Rattle.rg_theory.specs.declared.Class.{Class}
 use Rattle.rg_theory.specs.System.{System, labels}
+use Rattle.rg_integers.specs.Range.{InRange}
 use Rattle.rg_linear.specs.Cycle.{CycleBasis}
 use Rattle.rg_case_folds.specs.Fold.{Ratio, whole}
 use Rattle.rg_case_folds.specs.Rewriting.{is_in, has_label, numbers_where, free_labels, free_columns, has_start, pick, coefficient_fold, substitute_fold, columns_of, column_count}
@@ -128,3 +130,32 @@ columns_few lts basis class = go (has_start class)
     go : (b : Bool) → length ((if b then (pos 0 ∷ []) else []) ++ map pos (free_columns lts basis)) ≤ labels lts + 1
     go true = let h = few in omega arith
     go false = let h = few in omega arith
+
+-- ---- what holds of all numbers
+
+pick_all : (P : Ratio → Type 0) (test : ℕ → Bool) (fs : List ℕ) (rs : List Ratio) → All P rs → All P (pick test fs rs)
+pick_all P test [] rs h = All-nil P
+pick_all P test (f ∷ fs) [] h = All-nil P
+pick_all P test (f ∷ fs) (r ∷ rs) h = go (test f) (pick_all P test fs rs (λ k d lt. h (suc k) d (omega arith)))
+  where
+    go : (b : Bool) → All P (pick test fs rs) → All P (if b then (r ∷ pick test fs rs) else pick test fs rs)
+    go true rest = All-cons P r (pick test fs rs) (h 0 r (omega arith)) rest
+    go false rest = rest
+
+columns_all : (P : Ratio → Type 0) (lts : System) (basis : CycleBasis) (class : Class) (start : ℤ) (free : List Ratio) → P (whole start) → All P free → All P (columns_of lts basis class start free)
+columns_all P lts basis class start free first all =
+    All-append P (if has_start class then (whole start ∷ []) else []) (pick (λ t. has_label t lts.arcs) (free_labels (labels lts) basis) free) (go (has_start class))
+    (pick_all P (λ t. has_label t lts.arcs) (free_labels (labels lts) basis) free all)
+  where
+    go : (b : Bool) → All P (if b then (whole start ∷ []) else [])
+    go true = All-cons P (whole start) [] first (All-nil P)
+    go false = All-nil P
+
+-- the numbers of the columns are in range where those of the free labels are
+pub columns_in_range : (lts : System) (basis : CycleBasis) (class : Class) (start : ℤ) (free numbers : List ℤ) → InRange start → All InRange free
+    → map whole numbers ≡ columns_of lts basis class start (map whole free) → All InRange numbers
+columns_in_range lts basis class start free numbers first all is = λ k d lt.
+    (subst (λ (r : Ratio). InRange r.top) (get_or-map whole numbers k d (whole d) lt)
+    (subst (All (λ (r : Ratio). InRange r.top)) (sym is)
+    (columns_all (λ r. InRange r.top) lts basis class start (map whole free) first (All-map (λ (r : Ratio). InRange r.top) whole free all))
+    k (whole d) (subst (λ n. k < n) (sym (length-map numbers whole)) lt)))

@@ -1,17 +1,15 @@
 //! The columns of a system: Start, where it is one, and the free labels with an arc.
 ghost use Rattle.std.specs.Prelude.{◌≡◌, ℕ, ◌<◌, ◌≤◌, false, length, map, slice_index_or, ℤ, IfOk};
-ghost use Rattle.rg_integers.specs.Range.{InRange};
 ghost use Rattle.rg_theory.specs.declared.Class.{Class};
 ghost use Rattle.rg_theory.specs.Limits.{most_labels};
 ghost use Rattle.rg_theory.specs.System.{System, labels};
 ghost use Rattle.rg_lts.specs.WellFormed.{IsWellFormed};
-ghost use Rattle.rg_case_folds.specs.Fold.{ratio_of};
+ghost use Rattle.rg_case_folds.specs.Fold.{Ratio, whole};
 ghost use Rattle.rg_case_folds.specs.Rewriting.{has_label, free_labels, has_start, columns_of, column_count};
 ghost use Rattle.rg_cycles.specs.View.{labels_of, cycle_of};
 ghost use Rattle.rg_case_parts.specs.ColumnViews.{TellsUsedLabels, AreColumns};
 
 use rg_cycles::Basis;
-use rg_fraction::Fraction;
 use rg_lts::Lts;
 use rg_theory::Class;
 use std::alloc::{AllocError, Global};
@@ -51,23 +49,22 @@ impl Columns {
         count
     }
 
-    /// The numbers of the columns: of Start, and of the free labels with an arc, out of those of all free labels.
-    /// Returns an error if memory runs out.
-    pub fn pick(
+    /// Returns the numbers of the columns: of Start, and of the free labels with an arc, out of those of all free labels.
+    /// `free` has one number for each free label, in order. Returns an error if memory runs out.
+    pub fn pick<T: Copy>(
         &self,
         alloc: Global,
         basis: &Basis,
-        start: i128,
-        free: &[Fraction],
-    ) -> Result<Vec<Fraction>, AllocError>
-        requires in_range { InRange start }
+        start: T,
+        free: &[T],
+    ) -> Result<Vec<T>, AllocError>
         requires labels { length self.now.used.items ≡ labels_of basis.now }
         requires one_each { length free.now ≡ length (free_labels (labels_of basis.now) (cycle_of basis.now)) }
-        ensures { IfOk result (λ v. (lts : System) (class : Class) → labels lts ≡ labels_of basis.now → AreColumns lts class self.now → map ratio_of v.items ≡ columns_of lts (cycle_of basis.now) class start (map ratio_of free.now)) }
+        ensures { IfOk result (λ v. (lts : System) (class : Class) (show : T → Ratio) (z : ℤ) → labels lts ≡ labels_of basis.now → AreColumns lts class self.now → show start ≡ whole z → map show v.items ≡ columns_of lts (cycle_of basis.now) class z (map show free.now)) }
     {
         let mut numbers = Vec::with_capacity(alloc, free.len() + 1)?;
         if self.start {
-            numbers.push(Fraction::new(start, 1))?;
+            numbers.push(start)?;
         }
         for (index, &label) in basis.free().iter().enumerate() {
             if self.used[label as usize] {

@@ -12,3 +12,4 @@ pub mod Folding
 pub mod AddsNothing
 pub mod Entries
 pub mod Counted
+pub mod WholeSteps

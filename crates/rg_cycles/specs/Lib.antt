@@ -6,3 +6,4 @@ pub mod View
 pub mod Walk
 pub mod Relating
 pub mod Reading
+pub mod WholeSums

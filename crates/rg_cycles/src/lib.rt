@@ -16,6 +16,7 @@ mod solving;
 mod stop;
 mod substitution;
 mod walk;
+mod whole;
 mod widened;
 
 pub use basis::Basis;
@@ -25,3 +26,4 @@ pub use rg_fraction::FoldStop;
 pub use solving::reduce;
 pub use stop::{CycleWide, Stop};
 pub use substitution::{FreeRow, dependent, substitute};
+pub use whole::whole_sums;

@@ -55,7 +55,7 @@ pub fn dependent(alloc: Global, basis: &Basis, labels: u32) -> Result<Vec<u32>, 
 }
 
 // The labels that aren't free and whose count isn't 0, in order.
-fn counted(alloc: Global, basis: &Basis, counts: &[i128]) -> Result<Vec<u32>, AllocError>
+pub(crate) fn counted(alloc: Global, basis: &Basis, counts: &[i128]) -> Result<Vec<u32>, AllocError>
     requires counts { length counts.now ≡ labels_of basis.now }
     requires in_range { (t : ℕ) → t < length counts.now → InRange (number_at counts.now t) }
     ensures { IfOk result (λ v. v.items ≡ counted_labels basis.now (number_at counts.now)) }

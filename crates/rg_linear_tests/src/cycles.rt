@@ -1,8 +1,9 @@
 //! Small bases worked by hand, and the walk at the limit of the range.
 ghost use Rattle.std.specs.Prelude.{◌≡◌, ◌<◌, IfSome, IfOk};
+ghost use Rattle.rg_integers.specs.Range.{InRange};
 ghost use Rattle.rg_cycles.specs.View.{labels_of};
 
-use rg_cycles::{Basis, CycleWide, Stop, dependent, substitute};
+use rg_cycles::{Basis, CycleWide, FreeRow, Stop, dependent, substitute};
 use rg_fraction::{FoldStop, Fraction};
 use rg_integers::Wide;
 use rg_test_bases::solved;
@@ -11,6 +12,9 @@ use std::test::Fail;
 
 // 2^126
 const HALF: i128 = 85070591730234615865843651857942052864;
+
+// 2^63 - 1, the greatest number of 64 bits
+const LONG: i128 = 9223372036854775807;
 
 // Chord i says that twice the effect of label i is the effect of label i + 1.
 fn doubling(alloc: Global, labels: u32) -> Result<Vec<Vec<i64>>, AllocError> {
@@ -236,5 +240,32 @@ fn sums_are_written_over_the_free_labels(rt: HostRuntime) -> Result<(), Fail> {
     assert!(rt; is_dependent(alloc, &basis));
     assert!(rt; is_written(alloc, &basis));
     assert!(rt; is_passed(alloc, &basis));
+    Ok(())
+}
+
+// Whether there is one coefficient, and it is this number.
+fn is_whole(row: Result<FreeRow, FoldStop>, number: i128) -> bool
+    requires { InRange number }
+{
+    match row {
+        Ok(row) => row.coeffs.as_slice() == [Fraction::new(number, 1)].as_slice(),
+        Err(_) => false,
+    }
+}
+
+// Whether sums of whole numbers are whole: a short one, one past 64 bits, and one of a long number.
+fn are_whole(alloc: Global, basis: &Basis) -> bool
+    requires { labels_of basis.now ≡ 2 }
+{
+    is_whole(substitute(alloc, basis, &[3, 1]), 4)
+        && is_whole(substitute(alloc, basis, &[1, LONG]), LONG + 1)
+        && is_whole(substitute(alloc, basis, &[HALF, 1]), HALF + 1)
+}
+
+#[test]
+fn sums_of_whole_numbers_are_whole_at_any_size(rt: HostRuntime) -> Result<(), Fail> {
+    let alloc = rt.alloc();
+    let basis = basis(alloc, 2, &[[1, -1]]).ok_or("a basis")?;
+    assert!(rt; are_whole(alloc, &basis));
     Ok(())
 }

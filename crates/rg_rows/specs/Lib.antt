@@ -4,3 +4,4 @@ pub mod Shown
 pub mod Forms
 pub mod Making
 pub mod Hashing
+pub mod Columns

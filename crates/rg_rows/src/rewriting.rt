@@ -1,20 +1,22 @@
 //! A named row, written over the columns.
-ghost use Rattle.std.specs.Prelude.{◌≡◌, ◌↔◌, IsTrue, ◌≤◌, ℕ, ◌<◌, ◌<ℤ◌, pos, ◌≤ℤ◌, map, length, All, ◌++◌, ◌∷◌, [], IfOk, unsigned_abs};
+ghost use Rattle.std.specs.Prelude.{◌≡◌, ◌↔◌, IsTrue, ◌≤◌, ℕ, ◌<◌, ℤ, ◌<ℤ◌, pos, ◌≤ℤ◌, Ok, map, length, All, ◌++◌, ◌∷◌, [], IfOk, unsigned_abs};
 ghost use Rattle.std.specs.Arc.{arc_slice_items};
 ghost use Rattle.rg_integers.specs.Range.{InRange};
+ghost use Rattle.rg_integers.specs.Sum.{number_at};
 ghost use Rattle.rg_theory.specs.System.{labels};
 ghost use Rattle.rg_fraction.specs.Rows.{IsRowGcd};
 ghost use Rattle.rg_linear.specs.Cycle.{IsZeroVector};
 ghost use Rattle.rg_spanning.specs.Spanning.{IsTreeOf};
-ghost use Rattle.rg_case_folds.specs.Rewriting.{terms_fold, row_fold, divided};
-ghost use Rattle.rg_cycles.specs.View.{labels_of};
+ghost use Rattle.rg_case_folds.specs.Rewriting.{free_labels, substitute_fold, terms_fold, row_fold, divided};
+ghost use Rattle.rg_cycles.specs.View.{labels_of, cycle_of};
 ghost use Rattle.rg_cert_data.specs.Sums.{expression_of};
 ghost use Rattle.rg_case_parts.specs.SettingViews.{shown_setting};
 ghost use Rattle.rg_case_parts.specs.StatesNamed.{TermNamesStateBelow};
 ghost use Rattle.rg_case_parts.specs.WholeNumbers.{scaled_of};
 ghost use Rattle.rg_case_parts.specs.ColumnViews.{AreColumns};
 ghost use Rattle.rg_rows.specs.View.{kept_row, terms_of, columns_in};
-ghost use Rattle.rg_case_folds.specs.Fold.{Comes};
+ghost use Rattle.rg_rows.specs.Columns.{columns_fold};
+ghost use Rattle.rg_case_folds.specs.Fold.{Comes, whole};
 
 use crate::case_row::CaseRow;
 use crate::counts::counts;
@@ -23,7 +25,7 @@ use crate::row_numbers::RowNumbers;
 use rg_case_parts::{Columns, Scaled, Setting, start, without_denominators};
 use rg_cert_data::Expression;
 use rg_cert_meaning::RowName;
-use rg_cycles::substitute;
+use rg_cycles::{substitute, whole_sums};
 use rg_fraction::{FoldStop, Fraction, reduce, row_gcd};
 use rg_linear::norm;
 use std::alloc::{AllocError, Global};
@@ -50,7 +52,7 @@ pub(crate) fn row(
     divided(alloc, name, scaled, constant.numerator())
 }
 
-// The terms over the columns, without denominators.
+// The terms over the columns, without denominators: in whole numbers if the relations of their labels allow it.
 fn over_columns(
     alloc: Global,
     setting: Setting<'_>,
@@ -66,8 +68,53 @@ fn over_columns(
 {
     let labels = columns.used.len() as u32;
     let counts = counts(alloc, setting.tree, labels, expression)?;
-    let free = substitute(alloc, setting.basis, &counts)?;
-    let numbers = columns.pick(alloc, setting.basis, start(expression), &free.coeffs)?;
+    let start = start(expression);
+    match whole_sums(alloc, setting.basis, &counts)? {
+        Some(free) => whole_columns(alloc, setting, columns, start, &free),
+        None => scaled_columns(alloc, setting, columns, start, &counts),
+    }
+}
+
+// The columns where the sums over the free labels are these whole numbers.
+fn whole_columns(
+    alloc: Global,
+    setting: Setting<'_>,
+    columns: &Columns,
+    start: i128,
+    free: &[i128],
+) -> Result<Scaled, FoldStop>
+    requires labels { labels_of setting.basis.now ≡ labels setting.lts.now }
+    requires columns { AreColumns setting.lts.now setting.class columns.now }
+    requires start { InRange start }
+    requires one_each { length free.now ≡ length (free_labels (labels_of setting.basis.now) (cycle_of setting.basis.now)) }
+    requires in_range { All InRange free.now }
+    ensures { (counts : ℕ → ℤ) → substitute_fold (labels setting.entry.lts.now) (cycle_of setting.entry.basis.now) counts (Ok (map whole free.now)) → Comes (columns_fold (shown_setting setting.entry) start counts) scaled_of result }
+{
+    let numbers = columns.pick(alloc, setting.basis, start, free)?;
+    Ok(Scaled {
+        multiple: 1,
+        numbers,
+    })
+}
+
+// The columns where the labels have these counts.
+fn scaled_columns(
+    alloc: Global,
+    setting: Setting<'_>,
+    columns: &Columns,
+    start: i128,
+    counts: &[i128],
+) -> Result<Scaled, FoldStop>
+    requires labels { labels_of setting.basis.now ≡ labels setting.lts.now }
+    requires columns { AreColumns setting.lts.now setting.class columns.now }
+    requires start { InRange start }
+    requires counts { length counts.now ≡ labels_of setting.basis.now }
+    requires in_range { (t : ℕ) → t < length counts.now → InRange (number_at counts.now t) }
+    ensures { Comes (columns_fold (shown_setting setting.entry) start (number_at counts.now)) scaled_of result }
+{
+    let free = substitute(alloc, setting.basis, counts)?;
+    let start = Fraction::new(start, 1);
+    let numbers = columns.pick(alloc, setting.basis, start, &free.coeffs)?;
     without_denominators(alloc, &numbers)
 }
 
