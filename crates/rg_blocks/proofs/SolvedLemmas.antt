@@ -16,7 +16,6 @@ use Rattle.rg_outcome.specs.Blocks.{IsBlock, last_of}
 use Rattle.rg_outcome.proofs.BlockLemmas.{behind_too}
 use Rattle.rg_blocks.specs.declared.solving.SolvedProblem.{SolvedProblem}
 use Rattle.rg_blocks.specs.Taking.{IsSolvedBy, problems_of}
-use Rattle.rg_blocks.specs.Separating.{AsksAll}
 
 same_list : (problems : List Problem) (xs : List SolvedProblem) → length xs ≡ length problems → ((i : ℕ) (x : SolvedProblem) → slice_get xs i ≡ Some x → slice_get problems i ≡ Some x.problem) → problems_of xs ≡ problems
 same_list [] [] e each = refl
@@ -34,13 +33,10 @@ pub all_solved : {E V : Type 0} (items : V → List SolvedProblem) (problems : L
 all_solved items problems comes makes (Ok v) are = λ i d lt. (are.each i (get_or (items v) i d) (slice_get-get_or (items v) i d lt)).1
 all_solved items problems comes makes (Err e) are = are
 
--- what is asked of all problems is asked of those of a block
-pub block_asks : (lts : System) (kept : List Place) (asks : Problem → Type 0) (last : Option Problem) (block : List Problem) → AsksAll lts asks → IsBlock lts kept last block → All asks block
-block_asks lts kept asks last [] all is = λ i d lt. absurd (omega arith)
-block_asks lts kept asks last (p ∷ block) all is = All-cons asks p block (all.each p is.0.0.0.0) (block_asks lts kept asks (Some p) block all is.1)
-
-pub all_have : (lts : System) → AsksAll lts (IsProblem lts)
-all_have lts = record { each = λ problem is. is }
+-- the problems of a block are of the system
+pub block_has : (lts : System) (kept : List Place) (last : Option Problem) (block : List Problem) → IsBlock lts kept last block → All (IsProblem lts) block
+block_has lts kept last [] is = λ i d lt. absurd (omega arith)
+block_has lts kept last (p ∷ block) is = All-cons (IsProblem lts) p block is.0.0.0.0 (block_has lts kept (Some p) block is.1)
 
 -- what holds of the problems holds of what was solved
 pub of_solved : (P : Problem → Type 0) (solved : List SolvedProblem) → All P (problems_of solved) → All (λ s. P s.problem) solved

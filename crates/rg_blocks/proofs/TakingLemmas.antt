@@ -1,5 +1,5 @@
 -- Taking over, problem by problem.
-use Rattle.std.proofs.Common.{◌≡◌, ◌⊎◌, inl, inr, ℕ, suc, ◌+◌, ◌<◌, List, [], ◌∷◌, ◌++◌, length, get_or, take, drop, Option, None, Some, Result, Ok, Err, IfOk, All, IfNone, refl, sym, ap, subst, ◌∙◌, arith}
+use Rattle.std.proofs.Common.{◌≡◌, ◌⊎◌, inl, inr, ℕ, suc, ◌+◌, ◌<◌, List, [], ◌∷◌, ◌++◌, length, get_or, take, drop, Option, None, Some, Result, Ok, Err, IfOk, refl, sym, ap, subst, ◌∙◌}
 use Rattle.std.proofs.Math.Seq.{split_at}
 use Rattle.std.proofs.lemmas.List.{append_assoc, map-append, take_more, take-append-drop}
 use Rattle.rg_theory.specs.System.{System}
@@ -94,14 +94,6 @@ stands_next items yielded rest rest' s e f = e ∙ ap (λ xs. yielded ++ xs) f
 pub left_over : {X : Type 0} (items yielded rest rest' : List X) (s : X) → items ≡ yielded ++ rest → rest ≡ s ∷ rest' → items ≡ (yielded ++ s ∷ []) ++ rest'
 left_over items yielded rest rest' s e f = stands_next items yielded rest rest' s e f ∙ sym (append_assoc yielded (s ∷ []) rest')
 
--- what is asked of all problems is asked of the next one
-pub asked_next : (asks : Problem → Type 0) (items yielded rest : List SolvedProblem) (s : SolvedProblem) → items ≡ yielded ++ s ∷ rest → All asks (problems_of items) → asks s.problem
-asked_next asks items yielded rest s are all = behind yielded (subst (λ xs. All asks (problems_of xs)) are all)
-  where
-    behind : (yielded : List SolvedProblem) → All asks (problems_of (yielded ++ s ∷ rest)) → asks s.problem
-    behind [] all = all 0 s.problem (omega arith)
-    behind (x ∷ yielded) all = behind yielded (λ i d lt. all (suc i) d (omega arith))
-
 module _ (lts : System) (comes : Problem → Solved → Type 0) (before now after : List Place) (end : Option Problem) where
   pub solved_more : (yielded : List SolvedProblem) (s : SolvedProblem) → end ≡ None → TakenOver lts comes before (problems_of yielded) (kept_places now) → IsTakenOver lts comes now (s.problem ∷ []) after end
       → TakenOver lts comes before (problems_of (yielded ++ s ∷ [])) (kept_places after)
@@ -124,7 +116,3 @@ module _ (lts : System) (comes : Problem → Solved → Type 0) (before now afte
   turn_ends problems i p d q lt is some taken one =
       let split : problems ≡ take i problems ++ p ∷ drop (suc i) problems = split_at problems i d lt ∙ ap (λ x. take i problems ++ x ∷ drop (suc i) problems) (sym is) in
       subst (λ xs. IsTakenOver lts comes before xs after (Some q)) (sym split) (one_ends lts comes before now after (take i problems) (drop (suc i) problems) p q end some taken one)
-
--- what is said where there is no value
-pub none_is : {X : Type 0} (o : Option X) (P : Type 0) → o ≡ None → IfNone o P → P
-none_is o P e fact = subst (λ r. IfNone r P) e fact

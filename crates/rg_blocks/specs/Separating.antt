@@ -1,4 +1,4 @@
--- What is asked of the solving of problems, and what all of them come to.
+-- What all problems come to.
 use Rattle.std.specs.Prelude.{◌≡◌, List, Option, None, Some}
 use Rattle.rg_theory.specs.System.{System}
 use Rattle.rg_theory.specs.Net.{Place}
@@ -9,10 +9,6 @@ use Rattle.rg_outcome.specs.Solving.{Solved, Solved.refuted, Solved.passed}
 use Rattle.rg_outcome.specs.Coming.{Separation, Separation.places, Separation.unsolvable, Separation.too_wide, IsFirstProblem, IsLeft, IsDone, ComesFrom, AllComeTo, PlacesSeparate, IsSound}
 use Rattle.rg_blocks.specs.declared.separation.SeparationOutcome.{SeparationOutcome}
 use Rattle.rg_blocks.specs.declared.separation.SeparationOutcome.TheVariants as outcome
-
--- each problem of the system may be solved
-pub record AsksAll (lts : System) (asks : Problem → Type 0) : Type 0 where
-  pub each : (problem : Problem) → IsProblem lts problem → asks problem
 
 -- what comes after the last problem, with the places kept now, comes of all problems
 pub record LeadsTo (lts : System) (comes : Problem → Solved → Type 0) (before now : List Place) (last : Option Problem) : Type 0 where

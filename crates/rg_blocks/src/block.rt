@@ -5,10 +5,12 @@ ghost use Rattle.rg_outcome.specs.Blocks.{IsBlock, last_of};
 ghost use Rattle.rg_outcome.specs.Coming.{IsDone};
 ghost use Rattle.rg_marks.specs.Separated.{AreSome};
 ghost use Rattle.rg_blocks.specs.Blocks.{most_in_block};
-ghost use Rattle.rg_blocks.specs.Taking.{IsSolvedBy, AreNotable, problems_of};
+ghost use Rattle.rg_blocks.specs.Taking.{IsSolvedBy, problems_of};
+ghost use Rattle.rg_blocks.specs.Searching.{CanSearch, IsSearching};
 
 use crate::keeping::Keeping;
 use crate::left::next_problem;
+use crate::search::{Progress, Search};
 use crate::solving::{ProblemOutcome, SolvedProblem, Solving};
 use rg_lts::Lts;
 use rg_marks::Separated;
@@ -26,7 +28,7 @@ pub(crate) const FIRST_BLOCK: u32 = 64;
 const LARGEST_BLOCK: u32 = 2048;
 
 // How many problems a block has at most after one of at most so many: twice as many, as long as that is no more than a block may have.
-pub(crate) fn most_behind(most: u32) -> u32
+pub(crate) fn most_after(most: u32) -> u32
     requires some { 1 ≤ most }
     requires few { most ≤ most_in_block }
     ensures some { 1 ≤ result }
@@ -66,11 +68,9 @@ pub fn next_block<K: Keeping>(
 
 // The solving of the problems of a block that aren't taken over yet, by their numbers in it. Each part has a copy of the workspace.
 #[derive(Drop)]
-struct Problems<'a, K, S: Solving> {
-    alloc: Global,
-    lts: &'a Lts,
+struct Problems<'a, K, S: Solving, G> {
+    search: &'a Search<'a, S, G>,
     kept: &'a K,
-    solving: &'a S,
     workspace: &'a S::Workspace,
     problems: &'a [Problem],
     taken: usize,
@@ -83,23 +83,24 @@ struct Part<W> {
     workspace: W,
 }
 
-impl<K: Keeping, S: Solving> PartTask for Problems<'_, K, S>
+impl<K: Keeping, S: Solving, G> PartTask for Problems<'_, K, S, G>
 where
     S::Workspace: Drop,
+    S::Proof: Drop,
 {
     type Part = Part<S::Workspace>;
 
     type Out = SolvedProblem;
 
-    ghost holds = { λ s part. AreSome s.lts.now part.separated × (S.serves s.solving.now s.workspace.now → S.serves s.solving.now part.workspace) };
+    ghost holds = { λ s part. AreSome s.search.now.lts.now part.separated × (S.serves s.search.now.solving.now s.workspace.now → S.serves s.search.now.solving.now part.workspace) };
 
-    ghost asks = { λ s i. (i < length s.problems.now) × K.keeps_for s.kept.now s.lts.now × All (IsProblem s.lts.now) s.problems.now × All (S.asks s.solving.now) s.problems.now × AreNotable s.lts.now (S.makes s.solving.now) × S.serves s.solving.now s.workspace.now };
+    ghost asks = { λ s i. (i < length s.problems.now) × All (IsProblem s.search.now.lts.now) s.problems.now × CanSearch s.search.now S.asks S.comes S.makes K.may_keep × K.keeps_for s.kept.now s.search.now.lts.now × S.serves s.search.now.solving.now s.workspace.now };
 
-    ghost answers = { λ s i v. (slice_get s.problems.now i ≡ Some v.problem) × IsSolvedBy (S.comes s.solving.now) (S.makes s.solving.now) v };
+    ghost answers = { λ s i v. (slice_get s.problems.now i ≡ Some v.problem) × IsSolvedBy (S.comes s.search.now.solving.now) (S.makes s.search.now.solving.now) v };
 
     fn begin(&self) -> Result<Part<S::Workspace>, NoMemory> {
-        let separated = Separated::nothing(self.alloc, self.lts)?;
-        let workspace = self.solving.copy_workspace(self.workspace)?;
+        let separated = Separated::nothing(self.search.alloc, self.search.lts)?;
+        let workspace = self.search.solving.copy_workspace(self.workspace)?;
         Ok(Part {
             separated,
             workspace,
@@ -108,19 +109,24 @@ where
 
     fn run(&self, part: &mut Part<S::Workspace>, i: u32) -> Result<SolvedProblem, NoMemory> {
         let problem = self.problems[i as usize];
+        let lts = self.search.lts;
         if (i as usize) < self.taken
-            || self.kept.separates(self.lts, problem)
-            || part.separated.separates(self.lts, problem)
+            || self.kept.separates(lts, problem)
+            || part.separated.separates(lts, problem)
         {
             return Ok(SolvedProblem {
                 problem,
                 outcome: None,
             });
         }
-        let outcome = self.solving.solve(&mut part.workspace, problem)?;
+        let mut proof = None;
+        let outcome = self
+            .search
+            .solving
+            .solve(&mut part.workspace, problem, &mut proof)?;
         if let ProblemOutcome::Place(region) = &outcome {
             part.separated
-                .add(self.alloc, self.lts, &region.place, &region.tokens)?;
+                .add(self.search.alloc, lts, &region.place, &region.tokens)?;
         }
         Ok(SolvedProblem {
             problem,
@@ -129,43 +135,35 @@ where
     }
 }
 
-/// Returns the outcomes of the problems of a block, in their order, computed by at most `jobs` parts that run in
-/// parallel, each for a run of neighbours. The first `taken` problems are left unsolved, and so is a problem that a
-/// kept place separates, or a place that its own part made before: its outcome is None. Each part solves with a copy
-/// of the workspace. The gate is entered before each number of the block and left after it, also for a problem that
-/// is left unsolved. Returns `NoMemory` if memory runs out.
+/// Returns the outcomes of the problems of a block, in their order, computed by parts that run in parallel, each for a
+/// run of neighbours. The first `taken` problems are left unsolved, and so is a problem that a kept place separates,
+/// or a place that its own part made before: its outcome is None. Each part solves with a copy of the workspace, and
+/// keeps no proof. The gate is entered before each number of the block and left after it, also for a problem that is
+/// left unsolved. Returns `NoMemory` if memory runs out.
 pub fn solve_block<R: Threads + Sync, K: Keeping + Sync, S: Solving + Sync, G: Gate + Sync>(
     rt: &R,
-    alloc: Global,
-    lts: &Lts,
-    kept: &K,
-    solving: &S,
-    workspace: &S::Workspace,
+    search: &Search<'_, S, G>,
+    progress: &Progress<K, S::Workspace, S::Proof>,
     problems: &[Problem],
     taken: usize,
-    jobs: u8,
-    gate: &G,
 ) -> Result<Vec<SolvedProblem>, NoMemory>
 where
     S::Workspace: Send + Sync + Drop,
+    S::Proof: Send + Sync + Drop,
     requires few { length problems.now ≤ most_in_block }
-    requires some { 1 ≤ jobs }
-    requires kept { K.keeps_for kept.now lts.now }
-    requires problems { All (IsProblem lts.now) problems.now }
-    requires asked { All (S.asks solving.now) problems.now }
-    requires notable { AreNotable lts.now (S.makes solving.now) }
-    requires serves { S.serves solving.now workspace.now }
-    ensures solved { IfOk result (λ v. All (IsSolvedBy (S.comes solving.now) (S.makes solving.now)) v.items) }
+    requires can { CanSearch search.now S.asks S.comes S.makes K.may_keep }
+    requires searching { IsSearching search.now K.keeps_for S.serves S.proves progress.now }
+    requires problems { All (IsProblem search.now.lts.now) problems.now }
+    ensures solved { IfOk result (λ v. All (IsSolvedBy (S.comes search.now.solving.now) (S.makes search.now.solving.now)) v.items) }
     ensures same { IfOk result (λ v. problems_of v.items ≡ problems.now) }
 {
     let task = Problems {
-        alloc,
-        lts,
-        kept,
-        solving,
-        workspace,
+        search,
+        kept: &progress.kept,
+        workspace: &progress.workspace,
         problems,
         taken,
     };
-    block_of_parts(rt, alloc, &task, 0, problems.len() as u32, jobs, gate)
+    let many = problems.len() as u32;
+    block_of_parts(rt, search.alloc, &task, 0, many, search.jobs, search.gate)
 }

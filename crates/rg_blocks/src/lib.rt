@@ -11,6 +11,7 @@
 mod block;
 mod keeping;
 mod left;
+mod search;
 mod separation;
 mod solving;
 mod taking;
@@ -19,6 +20,7 @@ pub use block::{next_block, solve_block};
 pub use keeping::Keeping;
 pub use left::next_problem;
 pub use rg_memory::NoMemory;
+pub use search::{Progress, Search};
 pub use separation::{SeparationOutcome, separate_all};
 pub use solving::{ProblemOutcome, SolvedProblem, Solving};
 pub use taking::{Begun, begin_in_turn, solve_in_turn, take_over};

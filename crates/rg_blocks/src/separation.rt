@@ -1,22 +1,21 @@
 //! All problems.
-ghost use Rattle.std.specs.Prelude.{◌≡◌, ◌≤◌, [], All, IfOk, IfSome, OnOk, None, length};
-ghost use Rattle.rg_theory.specs.System.{IsAllReachable};
+ghost use Rattle.std.specs.Prelude.{◌≡◌, ◌≤◌, [], All, IfOk, OnOk, None, length};
 ghost use Rattle.rg_theory.specs.Problem.{IsProblem};
 ghost use Rattle.rg_outcome.specs.Coming.{IsSound};
 ghost use Rattle.rg_blocks.specs.Blocks.{most_in_block};
-ghost use Rattle.rg_blocks.specs.Taking.{IsTakenOver, AreKeepable, AreNotable};
-ghost use Rattle.rg_blocks.specs.Separating.{AsksAll, EndsAll, EachPlaceSeparates, IsSeparationOutcome};
+ghost use Rattle.rg_blocks.specs.Taking.{IsTakenOver};
+ghost use Rattle.rg_blocks.specs.Separating.{EndsAll, IsSeparationOutcome};
+ghost use Rattle.rg_blocks.specs.Searching.{CanSearch, IsSearching};
 
-use crate::block::{FIRST_BLOCK, most_behind, next_block, solve_block};
+use crate::block::{FIRST_BLOCK, most_after, next_block, solve_block};
 use crate::keeping::Keeping;
 use crate::left::next_problem;
+use crate::search::{Progress, Search};
 use crate::solving::Solving;
 use crate::taking::{Begun, begin_in_turn, pass_by, solve_in_turn, take_over};
-use rg_lts::Lts;
 use rg_memory::NoMemory;
 use rg_ports::Gate;
 use rg_theory::Problem;
-use std::alloc::Global;
 use std::thread::Threads;
 
 /// The outcome of all problems of a system.
@@ -34,134 +33,89 @@ pub enum SeparationOutcome {
 // their places separate what follows, and the others when all parts are done.
 fn take_block<R: Threads + Sync, K: Keeping + Sync, S: Solving + Sync, G: Gate + Sync>(
     rt: &R,
-    alloc: Global,
-    lts: &Lts,
-    kept: &mut K,
-    solving: &S,
-    workspace: &mut S::Workspace,
+    search: &Search<'_, S, G>,
+    progress: &mut Progress<K, S::Workspace, S::Proof>,
     problems: &[Problem],
-    jobs: u8,
-    gate: &G,
-    proof: &mut Option<(Problem, S::Proof)>,
 ) -> Result<Option<Problem>, NoMemory>
 where
     S::Workspace: Send + Sync + Drop,
+    S::Proof: Send + Sync + Drop,
     requires few { length problems.now ≤ most_in_block }
-    requires some { 1 ≤ jobs }
-    requires kept { K.keeps_for kept.old lts.now }
-    requires keepable { AreKeepable (S.makes solving.now) (K.may_keep lts.now) }
-    requires notable { AreNotable lts.now (S.makes solving.now) }
-    requires problems { All (IsProblem lts.now) problems.now }
-    requires asked { All (S.asks solving.now) problems.now }
-    requires serves { S.serves solving.now workspace.old }
-    requires proves { IfSome proof.old (λ p. S.proves solving.now p.0 p.1) }
-    ensures kept { OnOk result (K.keeps_for kept.new lts.now) }
-    ensures serves { OnOk result (S.serves solving.now workspace.new) }
-    ensures proves { IfSome proof.new (λ p. S.proves solving.now p.0 p.1) }
-    ensures taken { IfOk result (λ end. IsTakenOver lts.now (S.comes solving.now) (K.places kept.old) problems.now (K.places kept.new) end) }
+    requires can { CanSearch search.now S.asks S.comes S.makes K.may_keep }
+    requires searching { IsSearching search.now K.keeps_for S.serves S.proves progress.old }
+    requires problems { All (IsProblem search.now.lts.now) problems.now }
+    ensures searching { OnOk result (IsSearching search.now K.keeps_for S.serves S.proves progress.new) }
+    ensures taken { IfOk result (λ end. IsTakenOver search.now.lts.now (S.comes search.now.solving.now) (K.places progress.old.kept) problems.now (K.places progress.new.kept) end) }
 {
-    if jobs == 1 {
-        return solve_in_turn(lts, kept, solving, workspace, problems, gate, proof);
+    if search.jobs == 1 {
+        return solve_in_turn(search, progress, problems);
     }
-    match begin_in_turn(lts, kept, solving, workspace, problems, proof)? {
+    match begin_in_turn(search, progress, problems)? {
         Begun::Ended(end) => {
-            pass_by(gate, 0, problems.len() as u32);
+            pass_by(search.gate, 0, problems.len() as u32);
             Ok(end)
         }
         Begun::First(taken) => {
-            let mut solved = solve_block(
-                rt, alloc, lts, kept, solving, workspace, problems, taken, jobs, gate,
-            )?;
+            let mut solved = solve_block(rt, search, progress, problems, taken)?;
             let others = solved.split_off(taken)?;
-            take_over(lts, kept, solving, workspace, others, proof)
+            take_over(search, progress, others)
         }
     }
 }
 
-// Takes all problems, block by block, as long as one is left after the last one. The first problem that is refuted ends it, and is given;
-// None where none is.
+// Takes all problems, block by block, as long as one is left after the last one. Returns the first problem that is refuted, which ends it, and
+// None if there is none.
 fn solve_all<R: Threads + Sync, K: Keeping + Sync, S: Solving + Sync, G: Gate + Sync>(
     rt: &R,
-    alloc: Global,
-    lts: &Lts,
-    kept: &mut K,
-    solving: &S,
-    workspace: &mut S::Workspace,
-    jobs: u8,
-    gate: &G,
-    proof: &mut Option<(Problem, S::Proof)>,
+    search: &Search<'_, S, G>,
+    progress: &mut Progress<K, S::Workspace, S::Proof>,
 ) -> Result<Option<Problem>, NoMemory>
 where
     S::Workspace: Send + Sync + Drop,
-    requires some { 1 ≤ jobs }
-    requires asked { AsksAll lts.now (S.asks solving.now) }
-    requires reachable { IsAllReachable lts.now }
-    requires separating { EachPlaceSeparates lts.now (S.comes solving.now) }
-    requires kept { K.keeps_for kept.old lts.now }
-    requires keepable { AreKeepable (S.makes solving.now) (K.may_keep lts.now) }
-    requires notable { AreNotable lts.now (S.makes solving.now) }
-    requires sound { IsSound lts.now (S.comes solving.now) None (K.places kept.old) }
-    requires serves { S.serves solving.now workspace.old }
-    requires proves { IfSome proof.old (λ p. S.proves solving.now p.0 p.1) }
-    ensures kept { OnOk result (K.keeps_for kept.new lts.now) }
-    ensures serves { OnOk result (S.serves solving.now workspace.new) }
-    ensures proves { IfSome proof.new (λ p. S.proves solving.now p.0 p.1) }
-    ensures ends { IfOk result (λ end. EndsAll lts.now (S.comes solving.now) (K.places kept.old) (K.places kept.new) end) }
+    S::Proof: Send + Sync + Drop,
+    requires can { CanSearch search.now S.asks S.comes S.makes K.may_keep }
+    requires searching { IsSearching search.now K.keeps_for S.serves S.proves progress.old }
+    requires sound { IsSound search.now.lts.now (S.comes search.now.solving.now) None (K.places progress.old.kept) }
+    ensures searching { OnOk result (IsSearching search.now K.keeps_for S.serves S.proves progress.new) }
+    ensures ends { IfOk result (λ end. EndsAll search.now.lts.now (S.comes search.now.solving.now) (K.places progress.old.kept) (K.places progress.new.kept) end) }
 {
     let mut last = None;
     let mut most = FIRST_BLOCK;
     loop {
-        let block = next_block(alloc, lts, kept, last, most)?;
+        let block = next_block(search.alloc, search.lts, &progress.kept, last, most)?;
         if block.is_empty() {
             return Ok(None);
         }
         let end = block[block.len() - 1];
-        if let Some(refuted) = take_block(
-            rt, alloc, lts, kept, solving, workspace, &block, jobs, gate, proof,
-        )? {
+        if let Some(refuted) = take_block(rt, search, progress, &block)? {
             return Ok(Some(refuted));
         }
         last = Some(end);
-        most = most_behind(most);
+        most = most_after(most);
     }
 }
 
 /// Separates all problems of the system, all of whose states are reachable, beginning without a place. The outcome
-/// and the places that are kept are the same for any number of jobs and any gate. The calling thread solves with
-/// `workspace`, and each part of a block with a copy of it. Returns `NoMemory` if memory runs out; nothing is known
-/// of the workspace then.
+/// and the places that are kept are the same for any number of jobs and any gate. The calling thread solves with its
+/// workspace, and each part of a block with a copy of it. Returns `NoMemory` if memory runs out; nothing is known
+/// of the progress then.
 pub fn separate_all<R: Threads + Sync, K: Keeping + Sync, S: Solving + Sync, G: Gate + Sync>(
     rt: &R,
-    alloc: Global,
-    lts: &Lts,
-    kept: &mut K,
-    solving: &S,
-    workspace: &mut S::Workspace,
-    jobs: u8,
-    gate: &G,
-    proof: &mut Option<(Problem, S::Proof)>,
+    search: &Search<'_, S, G>,
+    progress: &mut Progress<K, S::Workspace, S::Proof>,
 ) -> Result<SeparationOutcome, NoMemory>
 where
     S::Workspace: Send + Sync + Drop,
-    requires some { 1 ≤ jobs }
-    requires asked { AsksAll lts.now (S.asks solving.now) }
-    requires reachable { IsAllReachable lts.now }
-    requires separating { EachPlaceSeparates lts.now (S.comes solving.now) }
-    requires kept { K.keeps_for kept.old lts.now }
-    requires keepable { AreKeepable (S.makes solving.now) (K.may_keep lts.now) }
-    requires notable { AreNotable lts.now (S.makes solving.now) }
-    requires empty { K.places kept.old ≡ [] }
-    requires serves { S.serves solving.now workspace.old }
-    requires proves { IfSome proof.old (λ p. S.proves solving.now p.0 p.1) }
-    ensures kept { OnOk result (K.keeps_for kept.new lts.now) }
-    ensures serves { OnOk result (S.serves solving.now workspace.new) }
-    ensures proves { IfSome proof.new (λ p. S.proves solving.now p.0 p.1) }
-    ensures comes { IfOk result (IsSeparationOutcome lts.now (S.comes solving.now) (K.places kept.new)) }
+    S::Proof: Send + Sync + Drop,
+    requires can { CanSearch search.now S.asks S.comes S.makes K.may_keep }
+    requires searching { IsSearching search.now K.keeps_for S.serves S.proves progress.old }
+    requires empty { K.places progress.old.kept ≡ [] }
+    ensures searching { OnOk result (IsSearching search.now K.keeps_for S.serves S.proves progress.new) }
+    ensures comes { IfOk result (IsSeparationOutcome search.now.lts.now (S.comes search.now.solving.now) (K.places progress.new.kept)) }
 {
-    let refuted = solve_all(rt, alloc, lts, kept, solving, workspace, jobs, gate, proof)?;
-    match refuted {
+    match solve_all(rt, search, progress)? {
         Some(problem) => Ok(SeparationOutcome::Unsolvable(problem)),
-        None => match next_problem(lts, kept, None) {
+        None => match next_problem(search.lts, &progress.kept, None) {
             Some(problem) => Ok(SeparationOutcome::TooWide(problem)),
             None => Ok(SeparationOutcome::Separated),
         },

@@ -58,21 +58,9 @@ pub trait Solving {
     fn copy_workspace(&self, workspace: &Self::Workspace) -> Result<Self::Workspace, NoMemory>
         ensures { IfOk result (λ copy. serves self.now workspace.now → serves self.now copy) };
 
-    /// Solves a problem with the workspace of a thread. Returns `NoMemory` if memory runs out; nothing is known of
-    /// the workspace then.
+    /// Solves a problem with the workspace of a thread, and keeps the proof that it is refuted, if it is. Returns
+    /// `NoMemory` if memory runs out; nothing is known of the workspace then.
     fn solve(
-        &self,
-        workspace: &mut Self::Workspace,
-        problem: Problem,
-    ) -> Result<ProblemOutcome, NoMemory>
-        requires asked { asks self.now problem }
-        requires serves { serves self.now workspace.old }
-        ensures outcome { IfOk result (IsOutcome (comes self.now) (makes self.now) problem) }
-        ensures serves { OnOk result (serves self.now workspace.new) };
-
-    /// Solves a problem whose outcome is taken over at once, and keeps the proof that it is refuted, if it is.
-    /// Returns `NoMemory` if memory runs out; nothing is known of the workspace then.
-    fn solve_in_turn(
         &self,
         workspace: &mut Self::Workspace,
         problem: Problem,

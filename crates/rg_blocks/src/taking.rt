@@ -1,11 +1,13 @@
 //! How the outcomes of the problems of a block are taken over.
-ghost use Rattle.std.specs.Prelude.{◌≡◌, ◌≤◌, [], ◌∷◌, All, IfOk, IfSome, IfNone, OnOk, length};
+ghost use Rattle.std.specs.Prelude.{◌≡◌, ◌≤◌, [], ◌∷◌, All, IfOk, OnOk, length};
 ghost use Rattle.rg_theory.specs.Problem.{IsProblem};
 ghost use Rattle.rg_outcome.specs.Coming.{IsSeparated};
 ghost use Rattle.rg_blocks.specs.Blocks.{most_in_block};
-ghost use Rattle.rg_blocks.specs.Taking.{IsOutcome, IsSolvedBy, problems_of, IsTakenOver, IsBegun, AreKeepable};
+ghost use Rattle.rg_blocks.specs.Taking.{IsOutcome, IsSolvedBy, problems_of, IsTakenOver, IsBegun};
+ghost use Rattle.rg_blocks.specs.Searching.{CanSearch, IsSearching};
 
 use crate::keeping::Keeping;
+use crate::search::{Progress, Search};
 use crate::solving::{ProblemOutcome, SolvedProblem, Solving};
 use rg_lts::Lts;
 use rg_memory::NoMemory;
@@ -15,24 +17,44 @@ use rg_theory::Problem;
 // Of so many problems of a block one is solved in turn.
 const ONE_IN_TURN_OF: usize = 256;
 
-// Takes over what a problem comes to that no kept place separates; the problem, where it is refuted.
-fn take<K: Keeping, S: Solving>(
-    lts: &Lts,
-    kept: &mut K,
-    _solving: &S,
-    problem: Problem,
-    outcome: ProblemOutcome,
-) -> Result<Option<Problem>, NoMemory>
-    requires kept { K.keeps_for kept.old lts.now }
-    requires keepable { AreKeepable (S.makes _solving.now) (K.may_keep lts.now) }
-    requires left { ¬ IsSeparated lts.now (K.places kept.old) problem }
-    requires outcome { IsOutcome (S.comes _solving.now) (S.makes _solving.now) problem outcome }
-    ensures kept { OnOk result (K.keeps_for kept.new lts.now) }
-    ensures taken { IfOk result (λ end. IsTakenOver lts.now (S.comes _solving.now) (K.places kept.old) (problem ∷ []) (K.places kept.new) end) }
+// The outcome of a problem, which is solved now if it isn't solved yet.
+fn outcome_of<K: Keeping, S: Solving, G>(
+    search: &Search<'_, S, G>,
+    progress: &mut Progress<K, S::Workspace, S::Proof>,
+    solved: SolvedProblem,
+) -> Result<ProblemOutcome, NoMemory>
+    requires can { CanSearch search.now S.asks S.comes S.makes K.may_keep }
+    requires searching { IsSearching search.now K.keeps_for S.serves S.proves progress.old }
+    requires problem { IsProblem search.now.lts.now solved.problem }
+    requires solved { IsSolvedBy (S.comes search.now.solving.now) (S.makes search.now.solving.now) solved }
+    ensures outcome { IfOk result (IsOutcome (S.comes search.now.solving.now) (S.makes search.now.solving.now) solved.problem) }
+    ensures searching { OnOk result (IsSearching search.now K.keeps_for S.serves S.proves progress.new) }
+    ensures same { progress.new.kept ≡ progress.old.kept }
 {
-    match outcome {
+    match solved.outcome {
+        Some(outcome) => Ok(outcome),
+        None => search.solving.solve(&mut progress.workspace, solved.problem, &mut progress.proof),
+    }
+}
+
+// Takes over the outcome of a problem that no kept place separates. Returns the problem if it is refuted.
+fn take_left<K: Keeping, S: Solving, G>(
+    search: &Search<'_, S, G>,
+    progress: &mut Progress<K, S::Workspace, S::Proof>,
+    solved: SolvedProblem,
+) -> Result<Option<Problem>, NoMemory>
+    requires can { CanSearch search.now S.asks S.comes S.makes K.may_keep }
+    requires searching { IsSearching search.now K.keeps_for S.serves S.proves progress.old }
+    requires problem { IsProblem search.now.lts.now solved.problem }
+    requires solved { IsSolvedBy (S.comes search.now.solving.now) (S.makes search.now.solving.now) solved }
+    requires left { ¬ IsSeparated search.now.lts.now (K.places progress.old.kept) solved.problem }
+    ensures searching { OnOk result (IsSearching search.now K.keeps_for S.serves S.proves progress.new) }
+    ensures taken { IfOk result (λ end. IsTakenOver search.now.lts.now (S.comes search.now.solving.now) (K.places progress.old.kept) (solved.problem ∷ []) (K.places progress.new.kept) end) }
+{
+    let problem = solved.problem;
+    match outcome_of(search, progress, solved)? {
         ProblemOutcome::Place(place) => {
-            kept.keep(lts, place)?;
+            progress.kept.keep(search.lts, place)?;
             Ok(None)
         }
         ProblemOutcome::Refuted => Ok(Some(problem)),
@@ -40,90 +62,48 @@ fn take<K: Keeping, S: Solving>(
     }
 }
 
+// Takes over the outcome of a problem, and drops it if a kept place separates the problem. Returns the problem if it is refuted.
+fn take<K: Keeping, S: Solving, G>(
+    search: &Search<'_, S, G>,
+    progress: &mut Progress<K, S::Workspace, S::Proof>,
+    solved: SolvedProblem,
+) -> Result<Option<Problem>, NoMemory>
+    requires can { CanSearch search.now S.asks S.comes S.makes K.may_keep }
+    requires searching { IsSearching search.now K.keeps_for S.serves S.proves progress.old }
+    requires problem { IsProblem search.now.lts.now solved.problem }
+    requires solved { IsSolvedBy (S.comes search.now.solving.now) (S.makes search.now.solving.now) solved }
+    ensures searching { OnOk result (IsSearching search.now K.keeps_for S.serves S.proves progress.new) }
+    ensures taken { IfOk result (λ end. IsTakenOver search.now.lts.now (S.comes search.now.solving.now) (K.places progress.old.kept) (solved.problem ∷ []) (K.places progress.new.kept) end) }
+{
+    if progress.kept.separates(search.lts, solved.problem) {
+        return Ok(None);
+    }
+    take_left(search, progress, solved)
+}
+
 /// Takes over the outcomes of the problems of a block, in the order of the problems. A place is kept, and a problem
 /// with a number out of range is passed over. The outcome of a problem that a place kept meanwhile separates is
 /// dropped, whatever it is. Any other problem that isn't solved yet is solved now, on the calling thread and with its
 /// workspace. The first other problem that is refuted ends the call and is returned, with its proof kept if it was
 /// solved here; None is returned if there is no such problem. Returns `NoMemory` if memory runs out.
-pub fn take_over<K: Keeping, S: Solving>(
-    lts: &Lts,
-    kept: &mut K,
-    solving: &S,
-    workspace: &mut S::Workspace,
+pub fn take_over<K: Keeping, S: Solving, G>(
+    search: &Search<'_, S, G>,
+    progress: &mut Progress<K, S::Workspace, S::Proof>,
     solved: Vec<SolvedProblem>,
-    proof: &mut Option<(Problem, S::Proof)>,
 ) -> Result<Option<Problem>, NoMemory>
-    requires kept { K.keeps_for kept.old lts.now }
-    requires keepable { AreKeepable (S.makes solving.now) (K.may_keep lts.now) }
-    requires problems { All (λ s. IsProblem lts.now s.problem) solved.items }
-    requires asked { All (S.asks solving.now) (problems_of solved.items) }
-    requires solved { All (IsSolvedBy (S.comes solving.now) (S.makes solving.now)) solved.items }
-    requires serves { S.serves solving.now workspace.old }
-    requires proves { IfSome proof.old (λ p. S.proves solving.now p.0 p.1) }
-    ensures kept { OnOk result (K.keeps_for kept.new lts.now) }
-    ensures serves { OnOk result (S.serves solving.now workspace.new) }
-    ensures proves { IfSome proof.new (λ p. S.proves solving.now p.0 p.1) }
-    ensures taken { IfOk result (λ end. IsTakenOver lts.now (S.comes solving.now) (K.places kept.old) (problems_of solved.items) (K.places kept.new) end) }
+    requires can { CanSearch search.now S.asks S.comes S.makes K.may_keep }
+    requires searching { IsSearching search.now K.keeps_for S.serves S.proves progress.old }
+    requires problems { All (λ s. IsProblem search.now.lts.now s.problem) solved.items }
+    requires solved { All (IsSolvedBy (S.comes search.now.solving.now) (S.makes search.now.solving.now)) solved.items }
+    ensures searching { OnOk result (IsSearching search.now K.keeps_for S.serves S.proves progress.new) }
+    ensures taken { IfOk result (λ end. IsTakenOver search.now.lts.now (S.comes search.now.solving.now) (K.places progress.old.kept) (problems_of solved.items) (K.places progress.new.kept) end) }
 {
     for s in solved {
-        let SolvedProblem { problem, outcome } = s;
-        if kept.separates(lts, problem) {
-            continue;
-        }
-        let outcome = outcome_of(solving, workspace, problem, outcome, proof)?;
-        if let Some(refuted) = take(lts, kept, solving, problem, outcome)? {
+        if let Some(refuted) = take(search, progress, s)? {
             return Ok(Some(refuted));
         }
     }
     Ok(None)
-}
-
-// What the problem comes to; it is solved now where it isn't solved yet.
-fn outcome_of<S: Solving>(
-    solving: &S,
-    workspace: &mut S::Workspace,
-    problem: Problem,
-    outcome: Option<ProblemOutcome>,
-    proof: &mut Option<(Problem, S::Proof)>,
-) -> Result<ProblemOutcome, NoMemory>
-    requires asked { S.asks solving.now problem }
-    requires solved { IfSome outcome (IsOutcome (S.comes solving.now) (S.makes solving.now) problem) }
-    requires serves { S.serves solving.now workspace.old }
-    requires proves { IfSome proof.old (λ p. S.proves solving.now p.0 p.1) }
-    ensures outcome { IfOk result (IsOutcome (S.comes solving.now) (S.makes solving.now) problem) }
-    ensures serves { OnOk result (S.serves solving.now workspace.new) }
-    ensures proves { IfSome proof.new (λ p. S.proves solving.now p.0 p.1) }
-{
-    match outcome {
-        Some(outcome) => Ok(outcome),
-        None => solving.solve_in_turn(workspace, problem, proof),
-    }
-}
-
-// What the problem comes to, unless a kept place separates it.
-fn solve_left<K: Keeping, S: Solving>(
-    lts: &Lts,
-    kept: &K,
-    solving: &S,
-    workspace: &mut S::Workspace,
-    problem: Problem,
-    proof: &mut Option<(Problem, S::Proof)>,
-) -> Result<Option<ProblemOutcome>, NoMemory>
-    requires kept { K.keeps_for kept.now lts.now }
-    requires problem { IsProblem lts.now problem }
-    requires asked { S.asks solving.now problem }
-    requires serves { S.serves solving.now workspace.old }
-    requires proves { IfSome proof.old (λ p. S.proves solving.now p.0 p.1) }
-    ensures separated { IfOk result (λ o. IfNone o (IsSeparated lts.now (K.places kept.now) problem)) }
-    ensures left { IfOk result (λ o. IfSome o (λ _. ¬ IsSeparated lts.now (K.places kept.now) problem)) }
-    ensures solved { IfOk result (λ o. IfSome o (IsOutcome (S.comes solving.now) (S.makes solving.now) problem)) }
-    ensures serves { OnOk result (S.serves solving.now workspace.new) }
-    ensures proves { IfSome proof.new (λ p. S.proves solving.now p.0 p.1) }
-{
-    if kept.separates(lts, problem) {
-        return Ok(None);
-    }
-    Ok(Some(solving.solve_in_turn(workspace, problem, proof)?))
 }
 
 /// Enters and leaves the gate for the numbers from `from` on below `to`.
@@ -147,34 +127,30 @@ pub enum Begun {
 /// every 256, and further ones as long as the places that are kept separate the problem that follows. A problem that
 /// a kept place separates isn't solved. The first one that is refuted ends the call. Returns `NoMemory` if memory
 /// runs out.
-pub fn begin_in_turn<K: Keeping, S: Solving>(
-    lts: &Lts,
-    kept: &mut K,
-    solving: &S,
-    workspace: &mut S::Workspace,
+pub fn begin_in_turn<K: Keeping, S: Solving, G>(
+    search: &Search<'_, S, G>,
+    progress: &mut Progress<K, S::Workspace, S::Proof>,
     problems: &[Problem],
-    proof: &mut Option<(Problem, S::Proof)>,
 ) -> Result<Begun, NoMemory>
-    requires kept { K.keeps_for kept.old lts.now }
-    requires keepable { AreKeepable (S.makes solving.now) (K.may_keep lts.now) }
-    requires problems { All (IsProblem lts.now) problems.now }
-    requires asked { All (S.asks solving.now) problems.now }
-    requires serves { S.serves solving.now workspace.old }
-    requires proves { IfSome proof.old (λ p. S.proves solving.now p.0 p.1) }
-    ensures kept { OnOk result (K.keeps_for kept.new lts.now) }
-    ensures serves { OnOk result (S.serves solving.now workspace.new) }
-    ensures proves { IfSome proof.new (λ p. S.proves solving.now p.0 p.1) }
-    ensures begun { IfOk result (IsBegun lts.now (S.comes solving.now) (K.places kept.old) problems.now (K.places kept.new)) }
+    requires can { CanSearch search.now S.asks S.comes S.makes K.may_keep }
+    requires searching { IsSearching search.now K.keeps_for S.serves S.proves progress.old }
+    requires problems { All (IsProblem search.now.lts.now) problems.now }
+    ensures searching { OnOk result (IsSearching search.now K.keeps_for S.serves S.proves progress.new) }
+    ensures begun { IfOk result (IsBegun search.now.lts.now (S.comes search.now.solving.now) (K.places progress.old.kept) problems.now (K.places progress.new.kept)) }
 {
     let in_turn = problems.len() / ONE_IN_TURN_OF;
     for (i, &problem) in problems.iter().enumerate() {
-        let Some(outcome) = solve_left(lts, kept, solving, workspace, problem, proof)? else {
+        if progress.kept.separates(search.lts, problem) {
             continue;
+        }
+        let solved = SolvedProblem {
+            problem,
+            outcome: None,
         };
-        if let Some(refuted) = take(lts, kept, solving, problem, outcome)? {
+        if let Some(refuted) = take_left(search, progress, solved)? {
             return Ok(Begun::Ended(Some(refuted)));
         }
-        if i + 1 >= in_turn && !follows_separated(lts, kept, problems, i + 1) {
+        if i + 1 >= in_turn && !follows_separated(search.lts, &progress.kept, problems, i + 1) {
             return Ok(Begun::First(i + 1));
         }
     }
@@ -197,35 +173,27 @@ fn follows_separated<K: Keeping>(lts: &Lts, kept: &K, problems: &[Problem], numb
 /// returned if there is no such problem. The gate is entered and left once for each number of the block, also for
 /// problems that aren't solved. Returns `NoMemory` if memory runs out.
 pub fn solve_in_turn<K: Keeping, S: Solving, G: Gate>(
-    lts: &Lts,
-    kept: &mut K,
-    solving: &S,
-    workspace: &mut S::Workspace,
+    search: &Search<'_, S, G>,
+    progress: &mut Progress<K, S::Workspace, S::Proof>,
     problems: &[Problem],
-    gate: &G,
-    proof: &mut Option<(Problem, S::Proof)>,
 ) -> Result<Option<Problem>, NoMemory>
     requires few { length problems.now ≤ most_in_block }
-    requires kept { K.keeps_for kept.old lts.now }
-    requires keepable { AreKeepable (S.makes solving.now) (K.may_keep lts.now) }
-    requires problems { All (IsProblem lts.now) problems.now }
-    requires asked { All (S.asks solving.now) problems.now }
-    requires serves { S.serves solving.now workspace.old }
-    requires proves { IfSome proof.old (λ p. S.proves solving.now p.0 p.1) }
-    ensures kept { OnOk result (K.keeps_for kept.new lts.now) }
-    ensures serves { OnOk result (S.serves solving.now workspace.new) }
-    ensures proves { IfSome proof.new (λ p. S.proves solving.now p.0 p.1) }
-    ensures taken { IfOk result (λ end. IsTakenOver lts.now (S.comes solving.now) (K.places kept.old) problems.now (K.places kept.new) end) }
+    requires can { CanSearch search.now S.asks S.comes S.makes K.may_keep }
+    requires searching { IsSearching search.now K.keeps_for S.serves S.proves progress.old }
+    requires problems { All (IsProblem search.now.lts.now) problems.now }
+    ensures searching { OnOk result (IsSearching search.now K.keeps_for S.serves S.proves progress.new) }
+    ensures taken { IfOk result (λ end. IsTakenOver search.now.lts.now (S.comes search.now.solving.now) (K.places progress.old.kept) problems.now (K.places progress.new.kept) end) }
 {
     for (i, &problem) in problems.iter().enumerate() {
-        gate.enter(i as u32);
-        let solved = solve_left(lts, kept, solving, workspace, problem, proof);
-        gate.leave(i as u32);
-        let Some(outcome) = solved? else {
-            continue;
+        search.gate.enter(i as u32);
+        let solved = SolvedProblem {
+            problem,
+            outcome: None,
         };
-        if let Some(refuted) = take(lts, kept, solving, problem, outcome)? {
-            pass_by(gate, i as u32 + 1, problems.len() as u32);
+        let taken = take(search, progress, solved);
+        search.gate.leave(i as u32);
+        if let Some(refuted) = taken? {
+            pass_by(search.gate, i as u32 + 1, problems.len() as u32);
             return Ok(Some(refuted));
         }
     }

@@ -93,17 +93,33 @@ impl<'a> Answers<'a> {
             used: AtomicU64::new(0),
         }
     }
+
+    // Counts a problem that is solved with the workspace. The calling thread has the one that is no copy.
+    fn count(&self, workspace: &mut Work) {
+        self.solved.fetch_add(1, Ordering::SeqCst);
+        if !workspace.is_copy {
+            self.in_turn.fetch_add(1, Ordering::SeqCst);
+        }
+        if !workspace.used {
+            self.used.fetch_add(1, Ordering::SeqCst);
+            workspace.used = true;
+        }
+    }
 }
 
-// What a thread solves with: whether a problem was solved in it.
+// What a thread solves with: whether it is a copy, and whether a problem was solved in it.
 #[derive(Drop)]
 pub(crate) struct Work {
+    is_copy: bool,
     used: bool,
 }
 
 impl Work {
     pub(crate) fn new() -> Work {
-        Work { used: false }
+        Work {
+            is_copy: false,
+            used: false,
+        }
     }
 }
 
@@ -124,15 +140,19 @@ impl Solving for Answers<'_> {
 
     fn copy_workspace(&self, _workspace: &Work) -> Result<Work, NoMemory> {
         self.copied.fetch_add(1, Ordering::SeqCst);
-        Ok(Work::new())
+        Ok(Work {
+            is_copy: true,
+            used: false,
+        })
     }
 
-    fn solve(&self, workspace: &mut Work, problem: Problem) -> Result<ProblemOutcome, NoMemory> {
-        self.solved.fetch_add(1, Ordering::SeqCst);
-        if !workspace.used {
-            self.used.fetch_add(1, Ordering::SeqCst);
-            workspace.used = true;
-        }
+    fn solve(
+        &self,
+        workspace: &mut Work,
+        problem: Problem,
+        proof: &mut Option<(Problem, ())>,
+    ) -> Result<ProblemOutcome, NoMemory> {
+        self.count(workspace);
         let Problem::Event(_, t) = problem else {
             return Ok(ProblemOutcome::TooWide);
         };
@@ -144,23 +164,12 @@ impl Solving for Answers<'_> {
                 let place = stopping(self.alloc, self.lts, self.given.len(), t, other)?;
                 Ok(ProblemOutcome::Place(place))
             }
-            Some(Given::Refuted) => Ok(ProblemOutcome::Refuted),
+            Some(Given::Refuted) => {
+                *proof = Some((problem, ()));
+                Ok(ProblemOutcome::Refuted)
+            }
             Some(Given::NoMemory) => Err(NoMemory),
             Some(Given::TooWide) | None => Ok(ProblemOutcome::TooWide),
         }
-    }
-
-    fn solve_in_turn(
-        &self,
-        workspace: &mut Work,
-        problem: Problem,
-        proof: &mut Option<(Problem, ())>,
-    ) -> Result<ProblemOutcome, NoMemory> {
-        self.in_turn.fetch_add(1, Ordering::SeqCst);
-        let outcome = self.solve(workspace, problem)?;
-        if let ProblemOutcome::Refuted = &outcome {
-            *proof = Some((problem, ()));
-        }
-        Ok(outcome)
     }
 }

@@ -4,7 +4,7 @@ ghost use Rattle.std.specs.Prelude.{◌≤◌};
 use crate::answers::{Answers, Counts, Given, Work};
 use crate::meeting::Meeting;
 use crate::places::{Places, has_dead};
-use rg_blocks::{SeparationOutcome, separate_all};
+use rg_blocks::{Progress, Search, SeparationOutcome, separate_all};
 use rg_lts::Lts;
 use rg_marks::RegionPlace;
 use rg_ports::Gate;
@@ -252,24 +252,22 @@ fn come<R: Threads + Sync, G: Gate + Sync>(
     let Ok(_tree) = Tree::grow(alloc, lts) else {
         return None;
     };
-    let mut places = Places {
-        kept: Vec::new(alloc),
-    };
-    let mut workspace = Work::new();
-    let mut proof = None;
-    let end = separate_all(
-        rt,
+    let search = Search {
         alloc,
         lts,
-        &mut places,
-        answers,
-        &mut workspace,
+        solving: answers,
         jobs,
         gate,
-        &mut proof,
-    );
-    match end {
-        Ok(outcome) => Some((outcome, places.kept)),
+    };
+    let mut progress = Progress {
+        kept: Places {
+            kept: Vec::new(alloc),
+        },
+        workspace: Work::new(),
+        proof: None,
+    };
+    match separate_all(rt, &search, &mut progress) {
+        Ok(outcome) => Some((outcome, progress.kept.kept)),
         Err(_) => None,
     }
 }

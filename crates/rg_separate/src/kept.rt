@@ -1,5 +1,6 @@
 //! Places that are kept.
-ghost use Rattle.std.specs.Prelude.{◌≡◌, map};
+ghost use Rattle.std.specs.Prelude.{◌≡◌, [], map, IfOk};
+ghost use Rattle.rg_theory.specs.System.{IsAllReachable};
 ghost use Rattle.rg_net.specs.Shown.{shown_place};
 ghost use Rattle.rg_separate.specs.Keeping.{AreKept, MayKeep};
 
@@ -18,6 +19,22 @@ pub(crate) struct Kept {
     pub(crate) places: Vec<Place>,
     pub(crate) firsts: Vec<Firsts>,
     pub(crate) separated: Separated,
+}
+
+impl Kept {
+    // No place, and nothing that any separates.
+    pub(crate) fn nothing(alloc: Global, lts: &Lts) -> Result<Kept, NoMemory>
+        requires { IsAllReachable lts.now }
+        ensures none { IfOk result (λ k. k.places.items ≡ []) }
+        ensures kept { IfOk result (λ k. AreKept lts.now k.places.items k.firsts.items k.separated) }
+    {
+        Ok(Kept {
+            alloc,
+            places: Vec::new(alloc),
+            firsts: Vec::new(alloc),
+            separated: Separated::nothing(alloc, lts)?,
+        })
+    }
 }
 
 impl Keeping for Kept {

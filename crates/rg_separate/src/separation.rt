@@ -17,12 +17,12 @@ use crate::kept::Kept;
 use crate::problem::{ProblemAnswer, solve_problem};
 use crate::solving::Problems;
 use crate::workspace::Workspace;
-use rg_blocks::{SeparationOutcome, separate_all};
+use rg_blocks::{Progress, Search, SeparationOutcome, separate_all};
 use rg_case_parts::{Setting, chord_vectors};
 use rg_cert_data::{Certificate, Reason, Stage, WideAt};
 use rg_cycles::{CycleWide, Stop, reduce};
 use rg_lts::Lts;
-use rg_marks::{Firsts, Separated};
+use rg_marks::Firsts;
 use rg_memory::NoMemory;
 use rg_net::Place;
 use rg_ports::Gate;
@@ -159,30 +159,30 @@ fn separated<R: Threads + Sync, G: Gate + Sync>(
     let lts = setting.lts;
     lts.is_well_formed();
     let columns = common.column_count(setting.basis);
-    let mut workspace = Workspace::new(alloc, common, columns)?;
+    let workspace = Workspace::new(alloc, common, columns)?;
     let problems = Problems {
         alloc,
         setting,
         columns,
     };
-    let mut kept = Kept {
-        alloc,
-        places: Vec::new(alloc),
-        firsts: Vec::new(alloc),
-        separated: Separated::nothing(alloc, lts)?,
-    };
-    let mut proof = None;
-    let outcome = separate_all(
-        rt,
+    let search = Search {
         alloc,
         lts,
-        &mut kept,
-        &problems,
-        &mut workspace,
+        solving: &problems,
         jobs,
         gate,
-        &mut proof,
-    )?;
+    };
+    let mut progress = Progress {
+        kept: Kept::nothing(alloc, lts)?,
+        workspace,
+        proof: None,
+    };
+    let outcome = separate_all(rt, &search, &mut progress)?;
+    let Progress {
+        kept,
+        mut workspace,
+        proof,
+    } = progress;
     match outcome {
         SeparationOutcome::Separated => Ok(SeparationWithFirsts::Places(kept.places, kept.firsts)),
         SeparationOutcome::Unsolvable(refuted) => certified(

@@ -47,18 +47,6 @@ impl Solving for Problems<'_> {
         &self,
         workspace: &mut Workspace,
         problem: Problem,
-    ) -> Result<ProblemOutcome, NoMemory> {
-        match solve_problem(self.alloc, workspace, self.setting, problem)? {
-            ProblemAnswer::Place(region) => Ok(ProblemOutcome::Place(region)),
-            ProblemAnswer::Refuted(_) => Ok(ProblemOutcome::Refuted),
-            ProblemAnswer::Wide(_) => Ok(ProblemOutcome::TooWide),
-        }
-    }
-
-    fn solve_in_turn(
-        &self,
-        workspace: &mut Workspace,
-        problem: Problem,
         proof: &mut Option<(Problem, Reason)>,
     ) -> Result<ProblemOutcome, NoMemory> {
         match solve_problem(self.alloc, workspace, self.setting, problem)? {

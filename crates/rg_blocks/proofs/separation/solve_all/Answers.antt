@@ -2,27 +2,22 @@ use Rattle.std.proofs.Common.{rules, ◌≡◌, ◌<◌, length, All, sym, subst
 use Rattle.rg_theory.specs.Problem.{IsProblem}
 use Rattle.rg_blocks.specs.Taking.{IsTakenOver}
 use Rattle.rg_blocks.proofs.RankLemmas.{behind_rises}
-use Rattle.rg_blocks.proofs.SolvedLemmas.{block_asks, all_have, end_is}
+use Rattle.rg_blocks.proofs.SolvedLemmas.{block_has, end_is}
 use Rattle.rg_blocks.proofs.SeparationLemmas.{block_leads, block_ends, block_sound}
 use Rattle.rg_blocks.proofs.separation.solve_all.Goals as goal
 
 pub take_block-requires-clause-problems : goal.take_block-requires-clause-problems
 take_block-requires-clause-problems g c κs within =
-    subst (λ xs. All (IsProblem c.args.lts.now) xs) (sym c.deref.ensures.value)
-    (block_asks c.args.lts.now (g.K.Keeping.places c.loop-block.kept) (IsProblem c.args.lts.now) c.loop-block.last c.in_ok-block.block.items (all_have c.args.lts.now) c.in_ok-block.ensures.block)
-
-pub take_block-requires-clause-asked : goal.take_block-requires-clause-asked
-take_block-requires-clause-asked g c κs within =
-    subst (λ xs. All (g.S.Solving.asks c.args.solving.now) xs) (sym c.deref.ensures.value)
-    (block_asks c.args.lts.now (g.K.Keeping.places c.loop-block.kept) (g.S.Solving.asks c.args.solving.now) c.loop-block.last c.in_ok-block.block.items c.requires.asked c.in_ok-block.ensures.block)
+    subst (λ xs. All (IsProblem c.args.search.now.lts.now) xs) (sym c.deref.ensures.value)
+    (block_has c.args.search.now.lts.now (g.K.Keeping.places c.loop-block.progress.kept) c.loop-block.last c.in_ok-block.block.items c.in_ok-block.ensures.block)
 
 pub returns-in-Some-clause-ends : goal.returns-in-Some-clause-ends
 returns-in-Some-clause-ends g c =
-    let lts = c.args.lts.now in
-    let comes = g.S.Solving.comes c.args.solving.now in
-    let before = g.K.Keeping.places c.args.kept.now in
-    let now = g.K.Keeping.places c.loop-block.kept in
-    let after = g.K.Keeping.places c.take_block.new.kept in
+    let lts = c.args.search.now.lts.now in
+    let comes = g.S.Solving.comes c.args.search.now.solving.now in
+    let before = g.K.Keeping.places c.args.progress.now.kept in
+    let now = g.K.Keeping.places c.loop-block.progress.kept in
+    let after = g.K.Keeping.places c.take_block.new.progress.kept in
     let taken = subst (λ xs. IsTakenOver lts comes now xs after c.in_ok-refuted.field-0) c.deref.ensures.value c.in_ok-refuted.ensures.taken in
     block_ends lts comes before now c.loop-block.last c.in_ok-block.block.items c.in-Some.refuted c.loop-block.invariant.0 c.in_ok-block.ensures.block (subst (IsTakenOver lts comes now c.in_ok-block.block.items after) c.in-Some.is taken)
 
@@ -30,16 +25,16 @@ pub loop-block-smaller : goal.loop-block-smaller
 loop-block-smaller g c =
     let some : 0 < length c.in_ok-block.block.items = search rules in
     let n : c.len.result ≡ length c.in_ok-block.block.items = search rules in
-    let end = end_is c.args.lts.now (g.K.Keeping.places c.loop-block.kept) c.loop-block.last c.in_ok-block.block.items c.index-end.result.now c.len.result c.in_ok-block.ensures.block some n c.index-end.ensures in
-    behind_rises c.args.lts.now c.loop-block.last c.index-end.result.now c.loop-block.invariant.1 end.1 end.2
+    let end = end_is c.args.search.now.lts.now (g.K.Keeping.places c.loop-block.progress.kept) c.loop-block.last c.in_ok-block.block.items c.index-end.result.now c.len.result c.in_ok-block.ensures.block some n c.index-end.ensures in
+    behind_rises c.args.search.now.lts.now c.loop-block.last c.index-end.result.now c.loop-block.invariant.1 end.1 end.2
 
 pub loop-block-preserved : goal.loop-block-preserved
 loop-block-preserved g c =
-    let lts = c.args.lts.now in
-    let comes = g.S.Solving.comes c.args.solving.now in
-    let before = g.K.Keeping.places c.args.kept.now in
-    let now = g.K.Keeping.places c.loop-block.kept in
-    let after = g.K.Keeping.places c.take_block.new.kept in
+    let lts = c.args.search.now.lts.now in
+    let comes = g.S.Solving.comes c.args.search.now.solving.now in
+    let before = g.K.Keeping.places c.args.progress.now.kept in
+    let now = g.K.Keeping.places c.loop-block.progress.kept in
+    let after = g.K.Keeping.places c.take_block.new.progress.kept in
     let some : 0 < length c.in_ok-block.block.items = search rules in
     let n : c.len.result ≡ length c.in_ok-block.block.items = search rules in
     let end = end_is lts now c.loop-block.last c.in_ok-block.block.items c.index-end.result.now c.len.result c.in_ok-block.ensures.block some n c.index-end.ensures in
@@ -47,10 +42,8 @@ loop-block-preserved g c =
     let taken_all = subst (IsTakenOver lts comes now c.in_ok-block.block.items after) c.in_default.is taken in (
       block_leads lts comes before now after c.loop-block.last _ c.in_ok-block.block.items c.loop-block.invariant.0 c.in_ok-block.ensures.block end.0 taken_all,
       end.1,
-      block_sound lts comes now after c.loop-block.last _ c.in_ok-block.block.items c.requires.reachable c.requires.separating c.loop-block.invariant.2 c.in_ok-block.ensures.block end.0 taken_all,
-      c.in_ok-refuted.ensures.kept,
-      c.in_ok-refuted.ensures.serves,
-      c.most_behind-most.ensures.some,
-      c.most_behind-most.ensures.few,
-      c.in_ok-refuted.ensures.proves,
+      block_sound lts comes now after c.loop-block.last _ c.in_ok-block.block.items c.requires.can.reachable c.requires.can.separating c.loop-block.invariant.2 c.in_ok-block.ensures.block end.0 taken_all,
+      c.in_ok-refuted.ensures.searching,
+      c.most_after-most.ensures.some,
+      c.most_after-most.ensures.few,
     )

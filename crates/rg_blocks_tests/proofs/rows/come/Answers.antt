@@ -1,8 +1,17 @@
+use Rattle.std.proofs.Common.{rules, length}
+use Rattle.rg_blocks_tests.specs.Constant.{HasDead}
 use Rattle.rg_blocks_tests.proofs.ConstantLemmas.{separating, notable}
 use Rattle.rg_blocks_tests.proofs.rows.come.Goals as goal
 
-pub separate_all-end-requires-clause-separating : goal.separate_all-end-requires-clause-separating
-separate_all-end-requires-clause-separating g c κs within = separating c.args.answers.now.lts.now
-
-pub separate_all-end-requires-clause-notable : goal.separate_all-end-requires-clause-notable
-separate_all-end-requires-clause-notable g c κs within = notable c.args.answers.now.lts.now c.in-Ok.ensures.all_reachable
+pub separate_all-requires-clause-can : goal.separate_all-requires-clause-can
+separate_all-requires-clause-can g c κs within =
+    let lts = c.args.answers.now.lts.now in
+    let dead : HasDead (length c.args.answers.now.given.now) lts = search rules in
+    record {
+      some = c.requires;
+      reachable = c.in-Ok.ensures.all_reachable;
+      asked = λ problem has. dead;
+      separating = separating lts;
+      keepable = record { each = λ r is. is.constant };
+      notable = notable lts c.in-Ok.ensures.all_reachable;
+    }

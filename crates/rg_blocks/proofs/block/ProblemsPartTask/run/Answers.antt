@@ -7,7 +7,7 @@ use Rattle.rg_blocks.proofs.block.ProblemsPartTask.run.Goals.{in-Place+in_ok-add
 
 pub returns-clause-holds : goal.returns-clause-holds
 returns-clause-holds g c =
-    let lts = c.args.self.now.lts.now in
+    let lts = c.args.self.now.search.now.lts.now in
     elim c.match-outcome.branch [
       | in-Place+in_ok-add+in-Some-1 w ↦ rw w.part-is (one_noted lts (shown_place w.in-Place.region.place) c.args.part.now.separated w.add.new.self c.requires.holds.0 w.in_ok-add.ensures.separated, (λ _. c.in_ok-outcome.ensures.serves))
       | in-Place+in_ok-add+in-None-1 w ↦ rw w.part-is (one_noted lts (shown_place w.in-Place.region.place) c.args.part.now.separated w.add.new.self c.requires.holds.0 w.in_ok-add.ensures.separated, (λ _. c.in_ok-outcome.ensures.serves))
