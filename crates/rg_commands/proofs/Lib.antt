@@ -1,3 +1,4 @@
 mod WordLemmas
 mod Numbers
 mod Telling
+mod Bounds

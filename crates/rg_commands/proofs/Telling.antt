@@ -10,8 +10,7 @@ use Rattle.rg_theory.proofs.ClassSome.{class_told}
 use Rattle.rg_commands.specs.declared.usage.Usage.{Usage}
 use Rattle.rg_commands.specs.declared.table.Command.{Command}
 use Rattle.rg_commands.specs.Values.{with_value, ClassSays}
-use Rattle.rg_commands.specs.Requests.{Asked}
-use Rattle.rg_commands.specs.Says.{command_asked, values_asked, with_values, command_says, class_word_in, class_word, says, WordsSay, AreRefused}
+use Rattle.rg_commands.specs.Says.{Said, command_asked, values_asked, with_values, command_says, class_word_in, class_word, says, WordsSay, AreRefused}
 
 -- a text tells one thing, and something
 pub one_told : (text : List ℕ) (a b : Result Class ClassFault) → ClassSays text a → ClassSays text b → a ≡ b
@@ -28,10 +27,10 @@ some_told text = by (class_told text)
     by (inr (fault, refused)) = (Err fault, refused)
 
 -- and so do words
-pub one_said : (words : List (List ℕ)) (a b : Result Asked Usage) → WordsSay words a → WordsSay words b → a ≡ b
+pub one_said : (words : List (List ℕ)) (a b : Said) → WordsSay words a → WordsSay words b → a ≡ b
 one_said words a b x y = x.same ∙ ap (λ told. says told words) (one_told (class_word words) x.told y.told x.class y.class) ∙ sym y.same
 
-pub some_said : (words : List (List ℕ)) → (said : Result Asked Usage) × WordsSay words said
+pub some_said : (words : List (List ℕ)) → (said : Said) × WordsSay words said
 some_said words = let (told, tells) = some_told (class_word words) in (says told words, record { told = told; class = tells; same = refl })
 
 -- ---- by command
@@ -46,7 +45,7 @@ pub with_values-taken : {A : Type 0} (words : List (List ℕ)) (command : Comman
 with_values-taken words command rows make named taken = with_values-named words command make named ∙ ap (λ r. with_value r (λ rows. make command rows)) taken
 
 -- the words say what their values do
-pub values_say : (words : List (List ℕ)) (command : Command) (rows : List Row) (said : Result Asked Usage) → Ok command ≡ command_asked words → values_asked command words ≡ Ok rows
+pub values_say : (words : List (List ℕ)) (command : Command) (rows : List Row) (said : Said) → Ok command ≡ command_asked words → values_asked command words ≡ Ok rows
     → ((told : Result Class ClassFault) → ClassSays (class_word_in command rows) told → said ≡ command_says command told rows) → WordsSay words said
 values_say words command rows said named taken so =
     let (told, tells) = some_told (class_word_in command rows) in

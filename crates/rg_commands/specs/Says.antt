@@ -1,5 +1,5 @@
 -- What words ask for, or the first reason in order for which they are refused.
-use Rattle.std.specs.Prelude.{◌≡◌, ℕ, ◌≤◌, List, [], ◌∷◌, Result, Ok, Err, codes, slice_get}
+use Rattle.std.specs.Prelude.{◌≡◌, ℕ, List, [], ◌∷◌, Result, Ok, Err, codes, slice_get}
 use Rattle.std.specs.Option.{ok_or}
 use Rattle.std.specs.Result.{result_unwrap_or}
 use Rattle.clap.specs.Words.{Kinds, Row, fault_of, first_of, matches_of}
@@ -13,10 +13,14 @@ use Rattle.rg_commands.specs.declared.usage.WordsStop.TheVariants as stop
 use Rattle.rg_commands.specs.declared.table.Command.{Command}
 use Rattle.rg_commands.specs.declared.table.Command.TheVariants as command
 use Rattle.rg_commands.specs.declared.request.Request.{Request}
-use Rattle.rg_commands.specs.declared.request.Request.TheVariants.{Synthesize, Factor, Split}
+use Rattle.rg_commands.specs.declared.request.Request.TheVariants.{OfSystem, Generate, SelfTest}
+use Rattle.rg_commands.specs.declared.request.Work.TheVariants.{Synthesize, Verify, Check, Convert, Factor, Split, Isomorphic, Examine}
 use Rattle.rg_commands.specs.Table.{command_named, app_for}
-use Rattle.rg_commands.specs.Values.{with_value, text_in, file_in, ClassSays, class_asked, class_if_any, form_asked, target_asked, kind_asked, split_output, examine_output, number_asked, jobs_asked, most_jobs, most_self_test}
-use Rattle.rg_commands.specs.Requests.{Asked, of_system, generation, self_test, net, judgement, verdict, conversion, factoring, splitting, comparison, examination}
+use Rattle.rg_commands.specs.Values.{with_value, text_in, file_in, ClassSays, class_asked, class_if_any, form_asked, target_asked, kind_asked, split_output, examine_output, number_asked, jobs_asked, most_self_test}
+
+-- what words say: what they ask for, or why they are refused
+abbrev pub Said : Type 0
+Said = Result (Request (List ℕ)) Usage
 
 -- why the words give nothing: they are refused for this reason, or there is no memory
 abbrev pub IsStopOf : (Usage → Type 0) → WordsStop → Type 0
@@ -43,48 +47,48 @@ with_values words make = with_value (command_asked words) (λ command. with_valu
 
 -- ---- what the values of each command ask for, where `told` is what its class word says
 
-abbrev pub synthesize_says : Result Class ClassFault → List Row → Result Asked Usage
+abbrev pub synthesize_says : Result Class ClassFault → List Row → Said
 synthesize_says told rows =
     with_value (class_asked told) (λ class. with_value (form_asked (codes "from") rows) (λ form. with_value (jobs_asked rows) (λ jobs.
-    Ok (of_system (net class) (file_in rows) form))))
+    Ok (OfSystem (Synthesize class jobs) (file_in rows) form))))
 
-abbrev pub verify_says : List Row → Result Asked Usage
-verify_says rows = with_value (form_asked (codes "from") rows) (λ form. Ok (of_system (judgement (text_in (codes "CERT") rows)) (file_in rows) form))
+abbrev pub verify_says : List Row → Said
+verify_says rows = with_value (form_asked (codes "from") rows) (λ form. Ok (OfSystem (Verify (text_in (codes "CERT") rows)) (file_in rows) form))
 
-abbrev pub check_says : Result Class ClassFault → List Row → Result Asked Usage
+abbrev pub check_says : Result Class ClassFault → List Row → Said
 check_says told rows =
     with_value (class_asked told) (λ class. with_value (form_asked (codes "from") rows) (λ form.
-    Ok (of_system (verdict class (text_in (codes "NET") rows)) (file_in rows) form)))
+    Ok (OfSystem (Check class (text_in (codes "NET") rows)) (file_in rows) form)))
 
-abbrev pub convert_says : List Row → Result Asked Usage
+abbrev pub convert_says : List Row → Said
 convert_says rows =
-    with_value (target_asked rows) (λ target. with_value (form_asked (codes "from") rows) (λ form. Ok (of_system (conversion target) (file_in rows) form)))
+    with_value (target_asked rows) (λ target. with_value (form_asked (codes "from") rows) (λ form. Ok (OfSystem (Convert target) (file_in rows) form)))
 
-abbrev pub generate_says : List Row → Result Asked Usage
-generate_says rows = with_value (kind_asked rows) (λ kind. with_value (number_asked (greatest kind) rows) (λ n. Ok (generation kind n)))
+abbrev pub generate_says : List Row → Said
+generate_says rows = with_value (kind_asked rows) (λ kind. with_value (number_asked (greatest kind) rows) (λ n. Ok (Generate kind n)))
 
-abbrev pub selftest_says : List Row → Result Asked Usage
-selftest_says rows = with_value (number_asked most_self_test rows) (λ n. Ok (self_test n))
+abbrev pub selftest_says : List Row → Said
+selftest_says rows = with_value (number_asked most_self_test rows) (λ n. Ok (SelfTest n))
 
-abbrev pub factor_says : Result Class ClassFault → List Row → Result Asked Usage
+abbrev pub factor_says : Result Class ClassFault → List Row → Said
 factor_says told rows =
     with_value (class_if_any (first_of (codes "class") rows) told) (λ class. with_value (form_asked (codes "from") rows) (λ form. with_value (jobs_asked rows) (λ jobs.
-    Ok (of_system (factoring class) (file_in rows) form))))
+    Ok (OfSystem (Factor class jobs) (file_in rows) form))))
 
-abbrev pub split_says : List Row → Result Asked Usage
+abbrev pub split_says : List Row → Said
 split_says rows =
-    with_value (form_asked (codes "from") rows) (λ form. with_value (jobs_asked rows) (λ jobs. Ok (of_system (splitting (split_output rows)) (file_in rows) form)))
+    with_value (form_asked (codes "from") rows) (λ form. with_value (jobs_asked rows) (λ jobs. Ok (OfSystem (Split (split_output rows) jobs) (file_in rows) form)))
 
-abbrev pub isomorphic_says : List Row → Result Asked Usage
+abbrev pub isomorphic_says : List Row → Said
 isomorphic_says rows =
     with_value (form_asked (codes "from") rows) (λ form. with_value (form_asked (codes "from2") rows) (λ second.
-    Ok (of_system (comparison (text_in (codes "FILE2") rows) second) (file_in rows) form)))
+    Ok (OfSystem (Isomorphic (text_in (codes "FILE2") rows) second) (file_in rows) form)))
 
-abbrev pub examine_says : List Row → Result Asked Usage
-examine_says rows = with_value (form_asked (codes "from") rows) (λ form. Ok (of_system (examination (examine_output rows)) (file_in rows) form))
+abbrev pub examine_says : List Row → Said
+examine_says rows = with_value (form_asked (codes "from") rows) (λ form. Ok (OfSystem (Examine (examine_output rows)) (file_in rows) form))
 
 -- those of any command
-abbrev pub command_says : Command → Result Class ClassFault → List Row → Result Asked Usage
+abbrev pub command_says : Command → Result Class ClassFault → List Row → Said
 command_says command.Synthesize told rows = synthesize_says told rows
 command_says command.Verify told rows = verify_says rows
 command_says command.Check told rows = check_says told rows
@@ -110,43 +114,19 @@ abbrev pub class_word : List (List ℕ) → List ℕ
 class_word words = result_unwrap_or (with_values words (λ command rows. Ok (class_word_in command rows))) []
 
 -- what words ask for, or why they are refused, where `told` is what their class word says
-abbrev pub says : Result Class ClassFault → List (List ℕ) → Result Asked Usage
+abbrev pub says : Result Class ClassFault → List (List ℕ) → Said
 says told words = with_values words (λ command rows. command_says command told rows)
 
 -- words say this
-pub record WordsSay (words : List (List ℕ)) (said : Result Asked Usage) : Type 0 where
+pub record WordsSay (words : List (List ℕ)) (said : Said) : Type 0 where
   pub told : Result Class ClassFault
   pub class : ClassSays (class_word words) told
   pub same : said ≡ says told words
 
 -- the words ask for it
-abbrev pub Ask : List (List ℕ) → Asked → Type 0
-Ask words asked = WordsSay words (Ok asked)
+abbrev pub Ask : List (List ℕ) → Request (List ℕ) → Type 0
+Ask words request = WordsSay words (Ok request)
 
 -- the words are refused for this reason
 abbrev pub AreRefused : List (List ℕ) → Usage → Type 0
 AreRefused words usage = WordsSay words (Err usage)
-
--- ---- jobs
-
--- so many jobs are asked, from 1 to the most
-abbrev pub AreSoMany : Result ℕ Usage → ℕ → Type 0
-AreSoMany asked jobs = (asked ≡ Ok jobs) × (1 ≤ jobs) × (jobs ≤ most_jobs)
-
--- the request has so many jobs; the commands without the option have none
-abbrev pub HasJobs : Result ℕ Usage → Request → Type 0
-HasJobs asked (Synthesize words) = AreSoMany asked words.jobs
-HasJobs asked (Factor words) = AreSoMany asked words.jobs
-HasJobs asked (Split words) = AreSoMany asked words.jobs
-HasJobs asked _ = Unit {0}
-
--- how many jobs the words ask for
-abbrev pub jobs_in_words : List (List ℕ) → Result ℕ Usage
-jobs_in_words words = with_values words (λ command rows. jobs_asked rows)
-
--- the words ask for so many jobs, and so does the request
-abbrev pub AreJobs : List (List ℕ) → ℕ → Type 0
-AreJobs words jobs = AreSoMany (jobs_in_words words) jobs
-
-abbrev pub AreJobsOf : List (List ℕ) → Request → Type 0
-AreJobsOf words request = HasJobs (jobs_in_words words) request

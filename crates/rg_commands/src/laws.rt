@@ -1,11 +1,13 @@
 //! Words say one thing.
-ghost use Rattle.std.specs.Prelude.{◌≡◌, ℕ, List, Result};
-ghost use Rattle.rg_commands.specs.declared.usage.Usage.{Usage};
-ghost use Rattle.rg_commands.specs.Requests.{Asked};
-ghost use Rattle.rg_commands.specs.Says.{WordsSay};
+ghost use Rattle.std.specs.Prelude.{◌≡◌, ℕ, List};
+ghost use Rattle.rg_commands.specs.declared.request.Request.{Request};
+ghost use Rattle.rg_commands.specs.Requests.{HasBounds};
+ghost use Rattle.rg_commands.specs.Says.{Said, Ask, WordsSay};
 
-/// Words ask for one thing or are refused for one reason, always, and never for two.
+/// Words ask for one thing or are refused for one reason, always, and never for two. What they ask for has its
+/// numbers in range.
 pub fn words_say_one_thing()
-    ensures one { (words : List (List ℕ)) (a b : Result Asked Usage) → WordsSay words a → WordsSay words b → a ≡ b }
-    ensures some { (words : List (List ℕ)) → (said : Result Asked Usage) × WordsSay words said }
+    ensures one { (words : List (List ℕ)) (a b : Said) → WordsSay words a → WordsSay words b → a ≡ b }
+    ensures some { (words : List (List ℕ)) → (said : Said) × WordsSay words said }
+    ensures bounds { (words : List (List ℕ)) (request : Request (List ℕ)) → Ask words request → HasBounds request }
 {}

@@ -1,11 +1,12 @@
 //! The words of `split`.
-ghost use Rattle.std.specs.Prelude.{◌≡◌, Ok, IfOk};
+ghost use Rattle.std.specs.Prelude.{◌≡◌, Ok};
 ghost use Rattle.clap.specs.Words.{found_of, rows_of};
-ghost use Rattle.rg_commands.specs.Values.{with_value, split_output, jobs_asked};
-ghost use Rattle.rg_commands.specs.Requests.{of_system, splitting};
-ghost use Rattle.rg_commands.specs.Says.{split_says, AreSoMany};
+ghost use Rattle.rg_commands.specs.Values.{with_value, split_output};
+ghost use Rattle.rg_commands.specs.Requests.{named};
+ghost use Rattle.rg_commands.specs.Says.{split_says};
 
-use crate::forms::{Form, form_asked};
+use crate::forms::form_asked;
+use crate::request::{Request, Work};
 use crate::usage::Usage;
 use crate::values::{is_given, jobs_of, text_of};
 use clap::ArgMatches;
@@ -19,35 +20,17 @@ pub enum SplitOutput {
     System,
 }
 
-/// What the words of `split` ask for.
-#[derive(Clone, Copy, Debug, PartialEq, Eq)]
-pub struct SplitWords<'a> {
-    /// What is to be written: the system with `--system`, the net without it.
-    pub output: SplitOutput,
-    /// The name of the system's file.
-    pub file: &'a str,
-    /// The form of that file.
-    pub form: Form,
-    /// How many jobs do the work, from 1 to 16.
-    pub jobs: u8,
-}
-
 // What the values ask for, or why they are refused.
-pub(crate) fn split_words<'a>(matches: &ArgMatches<'a>) -> Result<SplitWords<'a>, Usage>
-    ensures asks { with_value result (λ w. Ok (of_system (splitting w.output) w.file.now w.form)) ≡ split_says (rows_of (found_of matches.now)) }
-    ensures jobs { IfOk result (λ w. AreSoMany (jobs_asked (rows_of (found_of matches.now))) w.jobs) }
+pub(crate) fn split_words<'a>(matches: &ArgMatches<'a>) -> Result<Request<&'a str>, Usage>
+    ensures { with_value result (λ r. Ok (named r)) ≡ split_says (rows_of (found_of matches.now)) }
 {
     let form = form_asked(matches, "from")?;
     let jobs = jobs_of(matches)?;
-    Ok(SplitWords {
-        output: output_of(matches),
-        file: text_of(matches, "FILE"),
-        form,
-        jobs,
-    })
+    let work = Work::Split(output_of(matches), jobs);
+    Ok(Request::OfSystem(work, text_of(matches, "FILE"), form))
 }
 
-// What is to be written.
+// What is to be written: the system with `--system`, the net without it.
 fn output_of(matches: &ArgMatches<'_>) -> SplitOutput
     ensures { result ≡ split_output (rows_of (found_of matches.now)) }
 {

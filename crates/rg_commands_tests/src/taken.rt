@@ -1,10 +1,6 @@
 //! Words that are taken, each with its request.
 use crate::words::owned;
-use rg_commands::{
-    CheckWords, ConvertWords, ExamineOutput, ExamineWords, FactorWords, Form, GenerateWords,
-    IsomorphicWords, Request, SelfTestWords, SplitOutput, SplitWords, SynthesizeWords, Target,
-    VerifyWords, read_words,
-};
+use rg_commands::{ExamineOutput, Form, Request, SplitOutput, Target, Work, read_words};
 use rg_families::Kind;
 use rg_theory::{ALL_NETS, Class};
 use std::alloc::{AllocError, Global};
@@ -19,40 +15,30 @@ const PURE_AND_TWO_BOUNDED: Class = Class {
     ..PURE
 };
 
-const NET: SynthesizeWords<'static> = SynthesizeWords {
-    class: ALL_NETS,
-    file: "f",
-    form: Form::Apt,
-    jobs: 1,
-};
+const NET: Request<&'static str> = Request::OfSystem(Work::Synthesize(ALL_NETS, 1), "f", Form::Apt);
 
-const NET_OF_WORDS: SynthesizeWords<'static> = SynthesizeWords {
-    form: Form::Words,
-    ..NET
-};
+const NET_OF_WORDS: Request<&'static str> = Request::OfSystem(
+    Work::Synthesize(ALL_NETS, 1),
+    "f",
+    Form::Words,
+);
 
-const GRID_1: Request<'static> = Request::Generate(GenerateWords {
-    kind: Kind::Grid,
-    number: 1,
-});
+const GRID_1: Request<&'static str> = Request::Generate(Kind::Grid, 1);
 
-const GRID_63: Request<'static> = Request::Generate(GenerateWords {
-    kind: Kind::Grid,
-    number: 63,
-});
+const GRID_63: Request<&'static str> = Request::Generate(Kind::Grid, 63);
 
 // The words of `synthesize`, and what they ask for.
-const NETS: [(&[&str], SynthesizeWords<'static>); 17] = [
+const NETS: [(&[&str], Request<&'static str>); 17] = [
     (&["synthesize", "none", "f"], NET),
     (&["synthesize", "none", "f", "--jobs", "01"], NET),
     (&["synthesize", "none", "f", "--jobs=000000001"], NET),
     (
         &["synthesize", "none", "f", "--jobs", "16"],
-        SynthesizeWords { jobs: 16, ..NET },
+        Request::OfSystem(Work::Synthesize(ALL_NETS, 16), "f", Form::Apt),
     ),
     (
         &["synthesize", "none", "f", "--jobs=9"],
-        SynthesizeWords { jobs: 9, ..NET },
+        Request::OfSystem(Work::Synthesize(ALL_NETS, 9), "f", Form::Apt),
     ),
     (&["synthesize", "none", "f", "--from=apt"], NET),
     (&["synthesize", "--from=words", "none", "f"], NET_OF_WORDS),
@@ -72,22 +58,19 @@ const NETS: [(&[&str], SynthesizeWords<'static>); 17] = [
     ),
     (
         &["synthesize", "none", "--", "-f"],
-        SynthesizeWords { file: "-f", ..NET },
+        Request::OfSystem(Work::Synthesize(ALL_NETS, 1), "-f", Form::Apt),
     ),
     (
         &["synthesize", "none", "-"],
-        SynthesizeWords { file: "-", ..NET },
+        Request::OfSystem(Work::Synthesize(ALL_NETS, 1), "-", Form::Apt),
     ),
     (
         &["synthesize", "none", ""],
-        SynthesizeWords { file: "", ..NET },
+        Request::OfSystem(Work::Synthesize(ALL_NETS, 1), "", Form::Apt),
     ),
     (
         &["synthesize", "none", "help"],
-        SynthesizeWords {
-            file: "help",
-            ..NET
-        },
+        Request::OfSystem(Work::Synthesize(ALL_NETS, 1), "help", Form::Apt),
     ),
     (
         &[
@@ -98,276 +81,144 @@ const NETS: [(&[&str], SynthesizeWords<'static>); 17] = [
             "f",
             "--from=graph",
         ],
-        SynthesizeWords {
-            class: PURE_AND_TWO_BOUNDED,
-            file: "f",
-            form: Form::Graph,
-            jobs: 2,
-        },
+        Request::OfSystem(Work::Synthesize(PURE_AND_TWO_BOUNDED, 2), "f", Form::Graph),
     ),
 ];
 
 // The words of the other commands, and what they ask for.
-const OTHERS: [(&[&str], Request<'static>); 9] = [
+const OTHERS: [(&[&str], Request<&'static str>); 9] = [
     (
         &["verify", "f", "c"],
-        Request::Verify(VerifyWords {
-            file: "f",
-            cert: "c",
-            form: Form::Apt,
-        }),
+        Request::OfSystem(Work::Verify("c"), "f", Form::Apt),
     ),
     (
         &["verify", "--from", "graph", "-", "c"],
-        Request::Verify(VerifyWords {
-            file: "-",
-            cert: "c",
-            form: Form::Graph,
-        }),
+        Request::OfSystem(Work::Verify("c"), "-", Form::Graph),
     ),
     (
         &["check", "none", "f", "n"],
-        Request::Check(CheckWords {
-            class: ALL_NETS,
-            file: "f",
-            net: "n",
-            form: Form::Apt,
-        }),
+        Request::OfSystem(Work::Check(ALL_NETS, "n"), "f", Form::Apt),
     ),
     (
         &["check", "pure", "f", "n", "--from", "graph"],
-        Request::Check(CheckWords {
-            class: PURE,
-            file: "f",
-            net: "n",
-            form: Form::Graph,
-        }),
+        Request::OfSystem(Work::Check(PURE, "n"), "f", Form::Graph),
     ),
     (
         &["check", "pure", "--", "--from", "graph"],
-        Request::Check(CheckWords {
-            class: PURE,
-            file: "--from",
-            net: "graph",
-            form: Form::Apt,
-        }),
+        Request::OfSystem(Work::Check(PURE, "graph"), "--from", Form::Apt),
     ),
     (
         &["convert", "graph", "f"],
-        Request::Convert(ConvertWords {
-            target: Target::Graph,
-            file: "f",
-            form: Form::Apt,
-        }),
+        Request::OfSystem(Work::Convert(Target::Graph), "f", Form::Apt),
     ),
     (
         &["convert", "apt", "f", "--from", "words"],
-        Request::Convert(ConvertWords {
-            target: Target::Apt,
-            file: "f",
-            form: Form::Words,
-        }),
+        Request::OfSystem(Work::Convert(Target::Apt), "f", Form::Words),
     ),
     (
         &["convert", "apt", "--", "--from=words"],
-        Request::Convert(ConvertWords {
-            target: Target::Apt,
-            file: "--from=words",
-            form: Form::Apt,
-        }),
+        Request::OfSystem(Work::Convert(Target::Apt), "--from=words", Form::Apt),
     ),
     (
         &["convert", "apt", "--", "--"],
-        Request::Convert(ConvertWords {
-            target: Target::Apt,
-            file: "--",
-            form: Form::Apt,
-        }),
+        Request::OfSystem(Work::Convert(Target::Apt), "--", Form::Apt),
     ),
 ];
 
 // The words of the commands that name no file, and what they ask for.
-const WITHOUT_FILES: [(&[&str], Request<'static>); 10] = [
+const WITHOUT_FILES: [(&[&str], Request<&'static str>); 10] = [
     (&["generate", "grid", "1"], GRID_1),
     (&["generate", "--", "grid", "1"], GRID_1),
     (&["generate", "grid", "063"], GRID_63),
     (&["generate", "grid", "63"], GRID_63),
     (
         &["generate", "doubling", "255"],
-        Request::Generate(GenerateWords {
-            kind: Kind::Doubling,
-            number: 255,
-        }),
+        Request::Generate(Kind::Doubling, 255),
     ),
-    (
-        &["generate", "lock", "9"],
-        Request::Generate(GenerateWords {
-            kind: Kind::Lock,
-            number: 9,
-        }),
-    ),
+    (&["generate", "lock", "9"], Request::Generate(Kind::Lock, 9)),
     (
         &["generate", "lock", "000000001"],
-        Request::Generate(GenerateWords {
-            kind: Kind::Lock,
-            number: 1,
-        }),
+        Request::Generate(Kind::Lock, 1),
     ),
-    (
-        &["selftest", "1"],
-        Request::SelfTest(SelfTestWords { number: 1 }),
-    ),
-    (
-        &["selftest", "04"],
-        Request::SelfTest(SelfTestWords { number: 4 }),
-    ),
-    (
-        &["selftest", "40"],
-        Request::SelfTest(SelfTestWords { number: 40 }),
-    ),
+    (&["selftest", "1"], Request::SelfTest(1)),
+    (&["selftest", "04"], Request::SelfTest(4)),
+    (&["selftest", "40"], Request::SelfTest(40)),
 ];
 
 // The words of `factor`, and what they ask for.
-const FACTORS: [(&[&str], FactorWords<'static>); 4] = [
+const FACTORS: [(&[&str], Request<&'static str>); 4] = [
     (
         &["factor", "f"],
-        FactorWords {
-            class: None,
-            file: "f",
-            form: Form::Apt,
-            jobs: 1,
-        },
+        Request::OfSystem(Work::Factor(None, 1), "f", Form::Apt),
     ),
     (
         &["factor", "f", "--class", "none"],
-        FactorWords {
-            class: Some(ALL_NETS),
-            file: "f",
-            form: Form::Apt,
-            jobs: 1,
-        },
+        Request::OfSystem(Work::Factor(Some(ALL_NETS), 1), "f", Form::Apt),
     ),
     (
         &["factor", "--class=pure", "f", "--from=words", "--jobs", "4"],
-        FactorWords {
-            class: Some(PURE),
-            file: "f",
-            form: Form::Words,
-            jobs: 4,
-        },
+        Request::OfSystem(Work::Factor(Some(PURE), 4), "f", Form::Words),
     ),
     (
         &["factor", "--", "--class=none"],
-        FactorWords {
-            class: None,
-            file: "--class=none",
-            form: Form::Apt,
-            jobs: 1,
-        },
+        Request::OfSystem(Work::Factor(None, 1), "--class=none", Form::Apt),
     ),
 ];
 
 // The words of `split`, and what they ask for.
-const SPLITS: [(&[&str], SplitWords<'static>); 3] = [
+const SPLITS: [(&[&str], Request<&'static str>); 3] = [
     (
         &["split", "f"],
-        SplitWords {
-            output: SplitOutput::Net,
-            file: "f",
-            form: Form::Apt,
-            jobs: 1,
-        },
+        Request::OfSystem(Work::Split(SplitOutput::Net, 1), "f", Form::Apt),
     ),
     (
         &["split", "--system", "f", "--from", "graph", "--jobs=2"],
-        SplitWords {
-            output: SplitOutput::System,
-            file: "f",
-            form: Form::Graph,
-            jobs: 2,
-        },
+        Request::OfSystem(Work::Split(SplitOutput::System, 2), "f", Form::Graph),
     ),
     (
         &["split", "--", "--system"],
-        SplitWords {
-            output: SplitOutput::Net,
-            file: "--system",
-            form: Form::Apt,
-            jobs: 1,
-        },
+        Request::OfSystem(Work::Split(SplitOutput::Net, 1), "--system", Form::Apt),
     ),
 ];
 
 // The words of `isomorphic`, and what they ask for.
-const COMPARISONS: [(&[&str], IsomorphicWords<'static>); 4] = [
+const COMPARISONS: [(&[&str], Request<&'static str>); 4] = [
     (
         &["isomorphic", "f", "g"],
-        IsomorphicWords {
-            file: "f",
-            second: "g",
-            form: Form::Apt,
-            second_form: Form::Apt,
-        },
+        Request::OfSystem(Work::Isomorphic("g", Form::Apt), "f", Form::Apt),
     ),
     (
         &["isomorphic", "f", "g", "--from2", "words"],
-        IsomorphicWords {
-            file: "f",
-            second: "g",
-            form: Form::Apt,
-            second_form: Form::Words,
-        },
+        Request::OfSystem(Work::Isomorphic("g", Form::Words), "f", Form::Apt),
     ),
     (
         &["isomorphic", "--from", "graph", "f", "g"],
-        IsomorphicWords {
-            file: "f",
-            second: "g",
-            form: Form::Graph,
-            second_form: Form::Apt,
-        },
+        Request::OfSystem(Work::Isomorphic("g", Form::Apt), "f", Form::Graph),
     ),
     (
         &["isomorphic", "f", "--from2=graph", "f", "--from=words"],
-        IsomorphicWords {
-            file: "f",
-            second: "f",
-            form: Form::Words,
-            second_form: Form::Graph,
-        },
+        Request::OfSystem(Work::Isomorphic("f", Form::Graph), "f", Form::Words),
     ),
 ];
 
 // The words of `examine`, and what they ask for.
-const REPORTS: [(&[&str], ExamineWords<'static>); 3] = [
+const REPORTS: [(&[&str], Request<&'static str>); 3] = [
     (
         &["examine", "f"],
-        ExamineWords {
-            output: ExamineOutput::Lines,
-            file: "f",
-            form: Form::Apt,
-        },
+        Request::OfSystem(Work::Examine(ExamineOutput::Lines), "f", Form::Apt),
     ),
     (
         &["examine", "--json", "f", "--from", "words"],
-        ExamineWords {
-            output: ExamineOutput::Json,
-            file: "f",
-            form: Form::Words,
-        },
+        Request::OfSystem(Work::Examine(ExamineOutput::Json), "f", Form::Words),
     ),
     (
         &["examine", "--", "--json"],
-        ExamineWords {
-            output: ExamineOutput::Lines,
-            file: "--json",
-            form: Form::Apt,
-        },
+        Request::OfSystem(Work::Examine(ExamineOutput::Lines), "--json", Form::Apt),
     ),
 ];
 
 // Whether the words ask for this.
-fn ask_for(alloc: Global, words: &[&str], wanted: Request<'_>) -> Result<bool, AllocError> {
+fn ask_for(alloc: Global, words: &[&str], wanted: Request<&str>) -> Result<bool, AllocError> {
     let words = owned(alloc, words)?;
     Ok(read_words(alloc, &words) == Ok(wanted))
 }
@@ -376,7 +227,7 @@ fn ask_for(alloc: Global, words: &[&str], wanted: Request<'_>) -> Result<bool, A
 fn nets(rt: HostRuntime) -> Result<(), AllocError> {
     let alloc = rt.alloc();
     for (words, wanted) in NETS {
-        assert!(rt; ask_for(alloc, words, Request::Synthesize(wanted))?);
+        assert!(rt; ask_for(alloc, words, wanted)?);
     }
     Ok(())
 }
@@ -403,10 +254,10 @@ fn without_files(rt: HostRuntime) -> Result<(), AllocError> {
 fn factors_and_splits(rt: HostRuntime) -> Result<(), AllocError> {
     let alloc = rt.alloc();
     for (words, wanted) in FACTORS {
-        assert!(rt; ask_for(alloc, words, Request::Factor(wanted))?);
+        assert!(rt; ask_for(alloc, words, wanted)?);
     }
     for (words, wanted) in SPLITS {
-        assert!(rt; ask_for(alloc, words, Request::Split(wanted))?);
+        assert!(rt; ask_for(alloc, words, wanted)?);
     }
     Ok(())
 }
@@ -415,10 +266,10 @@ fn factors_and_splits(rt: HostRuntime) -> Result<(), AllocError> {
 fn comparisons_and_reports(rt: HostRuntime) -> Result<(), AllocError> {
     let alloc = rt.alloc();
     for (words, wanted) in COMPARISONS {
-        assert!(rt; ask_for(alloc, words, Request::Isomorphic(wanted))?);
+        assert!(rt; ask_for(alloc, words, wanted)?);
     }
     for (words, wanted) in REPORTS {
-        assert!(rt; ask_for(alloc, words, Request::Examine(wanted))?);
+        assert!(rt; ask_for(alloc, words, wanted)?);
     }
     Ok(())
 }

@@ -25,7 +25,6 @@ pub mod Something
 pub mod SomeNets
 pub mod SomeFactors
 pub mod SomeTrials
-pub mod SomeAsked
 pub mod SomeFile
 pub mod SomeJudged
 pub mod SomePair

@@ -14,7 +14,7 @@ use Rattle.rg_product.specs.Factoring.{Factoring, factors, one_block, fewer, IsF
 use Rattle.rg_product.proofs.OneFactoring.{factors_in_range}
 use Rattle.rg_synth.specs.Answer.{IsOpen}
 use Rattle.rg_factor_nets.specs.Answer.{HasNet}
-use Rattle.rg_commands.specs.Requests.{factoring}
+use Rattle.rg_commands.specs.declared.request.Work.TheVariants as work
 use Rattle.rg_top.specs.Factor.{HasFactors, for_a_state, for_a_fork, for_one_block, for_sizes, for_factors, for_nets, for_a_reason}
 use Rattle.rg_top.specs.Due.{for_factors as term_for_factors}
 use Rattle.rg_top.specs.Terms.{of_factor}
@@ -62,16 +62,16 @@ net_or_none some class fs numbers inside i = by (slice_get fs i) refl
     by (Some f) at = told f at (some f.lts class (inside i f at) numbers)
 
 -- each factor has a net, or there is a first one that has none
-with_nets : SomeOut → (files : Files) (class : Class) (lts : System) (fs : List Factor) → HasNumbersInRange class → AreInRange fs → HasFactors lts fs
-    → SomethingOn files (factoring (Some class)) lts
-with_nets some files class lts fs numbers inside has = by (each_or_first (IsNetAt class fs) (IsNoneAt class fs) (net_or_none some class fs numbers inside) (length fs))
+with_nets : SomeOut → (files : Files) (class : Class) (jobs : ℕ) (lts : System) (fs : List Factor) → HasNumbersInRange class → AreInRange fs → HasFactors lts fs
+    → SomethingOn files (work.Factor (Some class) jobs) lts
+with_nets some files class jobs lts fs numbers inside has = by (each_or_first (IsNetAt class fs) (IsNoneAt class fs) (net_or_none some class fs numbers inside) (length fs))
   where
-    none : (i : ℕ) (f : Factor) → IsFactorAt fs i f → ((j : ℕ) → j < i → IsNetAt class fs j) → HasNone class f → SomethingOn files (factoring (Some class)) lts
+    none : (i : ℕ) (f : Factor) → IsFactorAt fs i f → ((j : ℕ) → j < i → IsNetAt class fs j) → HasNone class f → SomethingOn files (work.Factor (Some class) jobs) lts
     none i f at before (a_reason reason out) = inl (No, for_a_reason class fs i f reason has (record { at = at; before = λ j g less at'. before j less g at' }) out)
     none i f at before (a_term w out) = inr (of_factor i w, term_for_factors class fs i f w has (record { at = at; before = λ j g less at'. before j less g at' }) out)
 
     by : ((i : ℕ) → i < length fs → IsNetAt class fs i) ⊎ ((i : ℕ) × (i < length fs) × IsNoneAt class fs i × ((j : ℕ) → j < i → IsNetAt class fs j))
-        → SomethingOn files (factoring (Some class)) lts
+        → SomethingOn files (work.Factor (Some class) jobs) lts
     by (inl all) = inl (Done, for_nets class fs has (λ i f at. all i (slice_get_within fs i f at) f at))
     by (inr (i, within, (f, at, is), before)) = none i f at before is
 
@@ -80,18 +80,18 @@ with_nets some files class lts fs numbers inside has = by (each_or_first (IsNetA
 factors_inside : (lts : System) (fs : List Factor) (tuples : List (List ℕ)) → IsFactoring lts (factors fs tuples) → AreInRange fs
 factors_inside lts fs tuples (of_factors blocks reached _ _ parted many parts product) = factors_in_range lts blocks reached fs parts
 
-of_open : SomeOut → (files : Files) (class : Option Class) (lts : System) → IfSome class HasNumbersInRange → IsOpen lts → (f : Factoring) × IsFactoring lts f
-    → SomethingOn files (factoring class) lts
-of_open some files class lts numbers is_open (one_block squares, is) = inl (No, for_one_block squares is_open is)
-of_open some files class lts numbers is_open (fewer sizes, is) = inl (No, for_sizes sizes is_open is)
-of_open some files None lts numbers is_open (factors fs tuples, is) = inl (Done, for_factors fs (tuples, is_open, is))
-of_open some files (Some class) lts numbers is_open (factors fs tuples, is) =
-    with_nets some files class lts fs numbers (factors_inside lts fs tuples is) (tuples, is_open, is)
+of_open : SomeOut → (files : Files) (class : Option Class) (jobs : ℕ) (lts : System) → IfSome class HasNumbersInRange → IsOpen lts → (f : Factoring) × IsFactoring lts f
+    → SomethingOn files (work.Factor class jobs) lts
+of_open some files class jobs lts numbers is_open (one_block squares, is) = inl (No, for_one_block squares is_open is)
+of_open some files class jobs lts numbers is_open (fewer sizes, is) = inl (No, for_sizes sizes is_open is)
+of_open some files None jobs lts numbers is_open (factors fs tuples, is) = inl (Done, for_factors fs (tuples, is_open, is))
+of_open some files (Some class) jobs lts numbers is_open (factors fs tuples, is) =
+    with_nets some files class jobs lts fs numbers (factors_inside lts fs tuples is) (tuples, is_open, is)
 
-pub some_factors : SomeFactoring → (files : Files) (class : Option Class) (lts : System) → IsInRange lts → IfSome class HasNumbersInRange → SomethingOn files (factoring class) lts
-some_factors some files class lts fine numbers = by (some.reachable lts fine) (some.fork_free lts fine)
+pub some_factors : SomeFactoring → (files : Files) (class : Option Class) (jobs : ℕ) (lts : System) → IsInRange lts → IfSome class HasNumbersInRange → SomethingOn files (work.Factor class jobs) lts
+some_factors some files class jobs lts fine numbers = by (some.reachable lts fine) (some.fork_free lts fine)
   where
-    by : IsAllReachable lts ⊎ ((s : ℕ) × IsLeastUnreachable lts s) → IsForkFree lts ⊎ ((s t s₁ s₂ : ℕ) × IsLeastFork lts s t s₁ s₂) → SomethingOn files (factoring class) lts
+    by : IsAllReachable lts ⊎ ((s : ℕ) × IsLeastUnreachable lts s) → IsForkFree lts ⊎ ((s t s₁ s₂ : ℕ) × IsLeastFork lts s t s₁ s₂) → SomethingOn files (work.Factor class jobs) lts
     by (inr (s, is)) fork = inl (No, for_a_state s is)
     by (inl all) (inr (s, t, p, q, is)) = inl (No, for_a_fork s t p q all is)
-    by (inl all) (inl one) = of_open some.out files class lts numbers (record { reachable = all; fork_free = one }) (some.factoring lts fine all one)
+    by (inl all) (inl one) = of_open some.out files class jobs lts numbers (record { reachable = all; fork_free = one }) (some.factoring lts fine all one)

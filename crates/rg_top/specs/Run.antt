@@ -6,7 +6,9 @@ use Rattle.rg_ports.specs.Offer.{Offers}
 use Rattle.rg_ports.specs.Shelf.{Files}
 use Rattle.rg_ports.specs.Sink.{taken_with, TakesPart}
 use Rattle.rg_theory.specs.System.{System}
-use Rattle.rg_commands.specs.Requests.{Work, of_system, file_words}
+use Rattle.rg_commands.specs.declared.request.Request.TheVariants.{OfSystem}
+use Rattle.rg_commands.specs.declared.request.Work.{Work}
+use Rattle.rg_commands.specs.Requests.{file_words}
 use Rattle.rg_commands.specs.Says.{Ask}
 use Rattle.rg_commands.specs.declared.forms.Form.{Form}
 use Rattle.rg_top.specs.Given.{IsSystemFile}
@@ -86,10 +88,10 @@ pub record Says (run : Run) (status : Status) : Type 0 where
 
 -- a fault of the shelf: the words name files, and its count of faults has risen
 pub record IsReadFault (words : List (List ℕ)) (faults : Change ℕ) : Type 0 where
-  pub work : Work
+  pub work : Work (List ℕ)
   pub file : List ℕ
   pub form : Form
-  pub ask : Ask words (of_system work file form)
+  pub ask : Ask words (OfSystem work file form)
   pub risen : HasRisen faults.before faults.after
 
 -- a file that the words name couldn't be read; nothing was written
@@ -121,29 +123,29 @@ Ends run status = Says run status
 
 -- the shelf was asked for some first ones of the files of the work, each once and in order, and for the second one only where the
 -- first spells a system
-abbrev pub AsksFiles : Option Files → Work → List ℕ → Form → Option (List (List ℕ)) → Option (List (List ℕ)) → Type 0
+abbrev pub AsksFiles : Option Files → Work (List ℕ) → List ℕ → Form → Option (List (List ℕ)) → Option (List (List ℕ)) → Type 0
 AsksFiles files work file form before after =
-    (names left : List (List ℕ)) × (file_words (of_system work file form) ≡ names ++ left) × (after ≡ option_map (λ all. all ++ names) before)
+    (names left : List (List ℕ)) × (file_words (OfSystem work file form) ≡ names ++ left) × (after ≡ option_map (λ all. all ++ names) before)
     × (1 < length names → (lts : System) × IsSystemFile files form file lts)
 
 -- the shelf was asked for some first ones of the files that the words name, or for nothing
 abbrev pub AsksAtMost : List (List ℕ) → Option Files → Option (List (List ℕ)) → Option (List (List ℕ)) → Type 0
 AsksAtMost words files before after =
-    (after ≡ before) ⊎ ((work : Work) × (file : List ℕ) × (form : Form) × Ask words (of_system work file form) × AsksFiles files work file form before after)
+    (after ≡ before) ⊎ ((work : Work (List ℕ)) × (file : List ℕ) × (form : Form) × Ask words (OfSystem work file form) × AsksFiles files work file form before after)
 
 -- the calls that read the system's file, and after them, where its end was found and it spells a system, those that read the second
 -- one
 pub data ReadsFiles {S : Type 0} (finds : S → List ℕ → Option Bool → S → Type 0) (hands : S → ℕ → Option ℕ → S → Type 0)
-    (files : Option Files) (work : Work) (file : List ℕ) (form : Form) : S → S → Type 0 where
+    (files : Option Files) (work : Work (List ℕ)) (file : List ℕ) (form : Form) : S → S → Type 0 where
   first_alone : (s t : S) (last : LastCall) → ReadsFile finds hands file s last t → ReadsFiles finds hands files work file form s t
-  both : (second : List ℕ) (s m t : S) (lts : System) (last : LastCall) → file_words (of_system work file form) ≡ file ∷ second ∷ []
+  both : (second : List ℕ) (s m t : S) (lts : System) (last : LastCall) → file_words (OfSystem work file form) ≡ file ∷ second ∷ []
       → ReadsFile finds hands file s finds_end m → IsSystemFile files form file lts
       → ReadsFile finds hands second m last t → ReadsFiles finds hands files work file form s t
 
 -- no call of the shelf, or those that read the files that the words name; none after the end of a file was found
 abbrev pub ReadsAtMost : {S : Type 0} (finds : S → List ℕ → Option Bool → S → Type 0) (hands : S → ℕ → Option ℕ → S → Type 0) → List (List ℕ) → Option Files → S → S → Type 0
 ReadsAtMost finds hands words files s t =
-    (t ≡ s) ⊎ ((work : Work) × (file : List ℕ) × (form : Form) × Ask words (of_system work file form) × ReadsFiles finds hands files work file form s t)
+    (t ≡ s) ⊎ ((work : Work (List ℕ)) × (file : List ℕ) × (form : Form) × Ask words (OfSystem work file form) × ReadsFiles finds hands files work file form s t)
 
 -- a fault, or want of memory
 abbrev pub IsMishap : Status → Type 0
@@ -154,7 +156,7 @@ IsMishap _ = ⊥
 
 -- the words ask for no work on a file
 pub record NameNoFile (words : List (List ℕ)) : Type 0 where
-  pub none : (work : Work) (file : List ℕ) (form : Form) → Ask words (of_system work file form) → ⊥
+  pub none : (work : Work (List ℕ)) (file : List ℕ) (form : Form) → Ask words (OfSystem work file form) → ⊥
 
 -- it is decided which status is expected: the shelf shows its files, or the words name none
 abbrev pub IsDecided : List (List ℕ) → Option Files → Type 0

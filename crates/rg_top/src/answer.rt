@@ -2,9 +2,9 @@
 ghost use Rattle.std.specs.Prelude.{◌≡◌, ℕ, ◌≤◌, map, string_bytes, IfOk, IsErrOf};
 ghost use Rattle.rg_ports.specs.Count.{HasRisen};
 ghost use Rattle.rg_lts.specs.WellFormed.{IsWellFormed};
-ghost use Rattle.rg_commands.specs.Requests.{asked_by, second_files, HasBounds, HasClassNumbers};
+ghost use Rattle.rg_commands.specs.Requests.{named, named_work, second_file, HasBounds, HasWorkBounds};
 ghost use Rattle.rg_top.specs.Ends.{EndsOn, FileEnds, EndsOf, Answers};
-ghost use Rattle.rg_top.specs.Requests.{end_of, HasJobs, HasWorkJobs, work_of, asked_more, ReadsMore, AsksOf, ReadsOf, IsOfFile};
+ghost use Rattle.rg_top.specs.Requests.{end_of, asked_more, ReadsMore, AsksOf, ReadsOf, IsOfFile};
 ghost use Rattle.rg_top.specs.Run.{AsksAtMost, AsksFiles, ReadsAtMost, ReadsFiles, IsReadFault};
 ghost use Rattle.rg_top.specs.declared.answer.Stop.TheVariants as stop;
 
@@ -17,10 +17,9 @@ use crate::files::{FileStop, read_system};
 use crate::generating::generated_answer;
 use crate::splitting::split_answer;
 use crate::synthesizing::net_answer;
-use crate::task::{Task, Work, task_of};
 use crate::testing::self_test_answer;
 use crate::verifying::judgement_answer;
-use rg_commands::{Form, Request, Usage, WordsStop, read_words};
+use rg_commands::{Form, Request, Usage, WordsStop, Work, read_words};
 use rg_lts::Lts;
 use rg_memory::NoMemory;
 use rg_messages::{FileFault, WideCause};
@@ -77,22 +76,23 @@ pub(crate) fn make_answer<R: Threads + Sync, H: Shelf, G: Gate + Sync>(
 fn request_answer<R: Threads + Sync, H: Shelf, G: Gate + Sync>(
     rt: &R,
     alloc: Global,
-    request: Request<'_>,
+    request: Request<&str>,
     shelf: &mut H,
     gate: &G,
 ) -> Result<Answer, Stop>
-    requires bounds { HasBounds (asked_by request) }
-    requires jobs { HasJobs request }
+    requires { HasBounds (named request) }
     ensures files { H.files shelf.new ≡ H.files shelf.old }
-    ensures asked { AsksOf (H.files shelf.old) (asked_by request.entry) (H.asked shelf.old) (H.asked shelf.new) }
-    ensures reads { ReadsOf H.finds H.hands (H.files shelf.old) (asked_by request.entry) shelf.old shelf.new }
-    ensures ok { IfOk result (λ a. EndsOf (H.files shelf.old) (asked_by request.entry) (end_of a)) }
-    ensures fault { IsErrOf result stop.ReadFault → IsOfFile (asked_by request.entry) × HasRisen (H.faults shelf.old) (H.faults shelf.new) }
+    ensures asked { AsksOf (H.files shelf.old) (named request.entry) (H.asked shelf.old) (H.asked shelf.new) }
+    ensures reads { ReadsOf H.finds H.hands (H.files shelf.old) (named request.entry) shelf.old shelf.new }
+    ensures ok { IfOk result (λ a. EndsOf (H.files shelf.old) (named request.entry) (end_of a)) }
+    ensures fault { IsErrOf result stop.ReadFault → IsOfFile (named request.entry) × HasRisen (H.faults shelf.old) (H.faults shelf.new) }
 {
-    match task_of(request) {
-        Task::OfSystem(work, file, form) => file_answer(rt, alloc, work, file, form, shelf, gate),
-        Task::Generation(kind, n) => Ok(generated_answer(alloc, kind, n)?),
-        Task::SelfTest(n) => Ok(self_test_answer(rt, alloc, n, gate)?),
+    match request {
+        Request::OfSystem(work, file, form) => {
+            file_answer(rt, alloc, work, file, form, shelf, gate)
+        }
+        Request::Generate(kind, n) => Ok(generated_answer(alloc, kind, n)?),
+        Request::SelfTest(n) => Ok(self_test_answer(rt, alloc, n, gate)?),
     }
 }
 
@@ -100,18 +100,17 @@ fn request_answer<R: Threads + Sync, H: Shelf, G: Gate + Sync>(
 fn file_answer<R: Threads + Sync, H: Shelf, G: Gate + Sync>(
     rt: &R,
     alloc: Global,
-    work: Work<'_>,
+    work: Work<&str>,
     file: &str,
     form: Form,
     shelf: &mut H,
     gate: &G,
 ) -> Result<Answer, Stop>
-    requires bounds { HasClassNumbers (work_of work) }
-    requires jobs { HasWorkJobs work }
+    requires { HasWorkBounds (named_work work) }
     ensures files { H.files shelf.new ≡ H.files shelf.old }
-    ensures asked { AsksFiles (H.files shelf.old) (work_of work.entry) file.now form (H.asked shelf.old) (H.asked shelf.new) }
-    ensures reads { ReadsFiles H.finds H.hands (H.files shelf.old) (work_of work.entry) file.now form shelf.old shelf.new }
-    ensures ok { IfOk result (λ a. FileEnds (H.files shelf.old) (work_of work.entry) file.now form (end_of a)) }
+    ensures asked { AsksFiles (H.files shelf.old) (named_work work.entry) file.now form (H.asked shelf.old) (H.asked shelf.new) }
+    ensures reads { ReadsFiles H.finds H.hands (H.files shelf.old) (named_work work.entry) file.now form shelf.old shelf.new }
+    ensures ok { IfOk result (λ a. FileEnds (H.files shelf.old) (named_work work.entry) file.now form (end_of a)) }
     ensures fault { IsErrOf result stop.ReadFault → HasRisen (H.faults shelf.old) (H.faults shelf.new) }
 {
     match read_system(alloc, shelf, file, form) {
@@ -126,30 +125,29 @@ fn file_answer<R: Threads + Sync, H: Shelf, G: Gate + Sync>(
 fn system_answer<R: Threads + Sync, H: Shelf, G: Gate + Sync>(
     rt: &R,
     alloc: Global,
-    work: Work<'_>,
+    work: Work<&str>,
     lts: &Lts,
     shelf: &mut H,
     gate: &G,
 ) -> Result<Answer, Stop>
-    requires bounds { HasClassNumbers (work_of work) }
-    requires jobs { HasWorkJobs work }
+    requires { HasWorkBounds (named_work work) }
     ensures formed { IsWellFormed lts.now }
     ensures files { H.files shelf.new ≡ H.files shelf.old }
-    ensures asked { H.asked shelf.new ≡ asked_more (H.asked shelf.old) (second_files (work_of work.entry)) }
-    ensures reads { ReadsMore H.finds H.hands (second_files (work_of work.entry)) shelf.old shelf.new }
-    ensures ok { IfOk result (λ a. EndsOn (H.files shelf.old) (work_of work.entry) lts.now (end_of a)) }
+    ensures asked { H.asked shelf.new ≡ asked_more (H.asked shelf.old) (second_file (named_work work.entry)) }
+    ensures reads { ReadsMore H.finds H.hands (second_file (named_work work.entry)) shelf.old shelf.new }
+    ensures ok { IfOk result (λ a. EndsOn (H.files shelf.old) (named_work work.entry) lts.now (end_of a)) }
     ensures never_falls { H.faults shelf.old ≤ H.faults shelf.new }
     ensures fault { IsErrOf result stop.ReadFault → HasRisen (H.faults shelf.old) (H.faults shelf.new) }
 {
     lts.is_well_formed();
     match work {
-        Work::Net(class, jobs) => Ok(net_answer(rt, alloc, class, lts, jobs, gate)?),
-        Work::Judgement(cert) => judgement_answer(alloc, lts, cert, shelf),
-        Work::Verdict(class, net) => verdict_answer(alloc, lts, class, net, shelf),
-        Work::Conversion(target) => Ok(conversion_answer(alloc, lts, target)?),
-        Work::Factoring(class, jobs) => Ok(factor_answer(rt, alloc, class, lts, jobs, gate)?),
-        Work::Splitting(output, jobs) => Ok(split_answer(rt, alloc, output, lts, jobs, gate)?),
-        Work::Comparison(name, form) => comparison_answer(alloc, lts, name, form, shelf),
-        Work::Examination(output) => Ok(report_answer(alloc, lts, output)?),
+        Work::Synthesize(class, jobs) => Ok(net_answer(rt, alloc, class, lts, jobs, gate)?),
+        Work::Verify(cert) => judgement_answer(alloc, lts, cert, shelf),
+        Work::Check(class, net) => verdict_answer(alloc, lts, class, net, shelf),
+        Work::Convert(target) => Ok(conversion_answer(alloc, lts, target)?),
+        Work::Factor(class, jobs) => Ok(factor_answer(rt, alloc, class, lts, jobs, gate)?),
+        Work::Split(output, jobs) => Ok(split_answer(rt, alloc, output, lts, jobs, gate)?),
+        Work::Isomorphic(second, form) => comparison_answer(alloc, lts, second, form, shelf),
+        Work::Examine(output) => Ok(report_answer(alloc, lts, output)?),
     }
 }

@@ -1,5 +1,5 @@
 //! The answer to a request for a verdict on a net.
-ghost use Rattle.std.specs.Prelude.{◌≡◌, ℕ, ◌∷◌, [], ◌≤◌, length, IfOk, IsErrOf};
+ghost use Rattle.std.specs.Prelude.{◌≡◌, ℕ, ◌≤◌, Some, length, IfOk, IsErrOf};
 ghost use Rattle.rg_ports.specs.Count.{HasRisen};
 ghost use Rattle.rg_text.specs.Limits.{most_bytes};
 ghost use Rattle.rg_lts.specs.WellFormed.{IsWellFormed};
@@ -29,8 +29,8 @@ pub(crate) fn verdict_answer<H: Shelf>(
     shelf: &mut H,
 ) -> Result<Answer, Stop>
     ensures files { H.files shelf.new ≡ H.files shelf.old }
-    ensures asked { H.asked shelf.new ≡ asked_more (H.asked shelf.old) (name.now ∷ []) }
-    ensures reads { ReadsMore H.finds H.hands (name.now ∷ []) shelf.old shelf.new }
+    ensures asked { H.asked shelf.new ≡ asked_more (H.asked shelf.old) (Some name.now) }
+    ensures reads { ReadsMore H.finds H.hands (Some name.now) shelf.old shelf.new }
     ensures ok { IfOk result (λ a. CheckEnds (H.files shelf.old) class name.now lts.now (end_of a)) }
     ensures never_falls { H.faults shelf.old ≤ H.faults shelf.new }
     ensures fault { IsErrOf result stop.ReadFault → HasRisen (H.faults shelf.old) (H.faults shelf.new) }

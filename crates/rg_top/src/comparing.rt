@@ -1,5 +1,5 @@
 //! The answer to a request for a comparison.
-ghost use Rattle.std.specs.Prelude.{◌≡◌, ℕ, ◌∷◌, [], ◌≤◌, IfOk, IfSome, IfNone, IsErrOf};
+ghost use Rattle.std.specs.Prelude.{◌≡◌, ℕ, ◌≤◌, Some, IfOk, IfSome, IfNone, IsErrOf};
 ghost use Rattle.rg_ports.specs.Count.{HasRisen};
 ghost use Rattle.rg_lts.specs.WellFormed.{IsWellFormed};
 ghost use Rattle.rg_iso.specs.Compared.{IsJudged, told_of};
@@ -27,8 +27,8 @@ pub(crate) fn comparison_answer<H: Shelf>(
     shelf: &mut H,
 ) -> Result<Answer, Stop>
     ensures files { H.files shelf.new ≡ H.files shelf.old }
-    ensures asked { H.asked shelf.new ≡ asked_more (H.asked shelf.old) (name.now ∷ []) }
-    ensures reads { ReadsMore H.finds H.hands (name.now ∷ []) shelf.old shelf.new }
+    ensures asked { H.asked shelf.new ≡ asked_more (H.asked shelf.old) (Some name.now) }
+    ensures reads { ReadsMore H.finds H.hands (Some name.now) shelf.old shelf.new }
     ensures ok { IfOk result (λ a. IsomorphicEnds (H.files shelf.old) name.now form lts.now (end_of a)) }
     ensures never_falls { H.faults shelf.old ≤ H.faults shelf.new }
     ensures fault { IsErrOf result stop.ReadFault → HasRisen (H.faults shelf.old) (H.faults shelf.new) }

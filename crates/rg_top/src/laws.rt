@@ -33,7 +33,7 @@ use rg_outcome::outcome_is_one;
 use rg_product::factoring_is_one;
 use rg_report::one_examination;
 use rg_split::{splitting_is_one, splitting_says};
-use rg_theory::{class_is_told, one_least_fork};
+use rg_theory::one_least_fork;
 use rg_verify::one_verdict;
 
 /// Law: `verify` accepts what `synthesize` writes with status 1, for the same system, in any file.
@@ -158,7 +158,6 @@ pub fn answers_are_one()
     splitting_says();
     one_comparison();
     one_examination();
-    class_is_told();
     rg_apt::spelled_is_well_formed();
     rg_genet::spelled_is_well_formed();
     rg_words::spelled_is_well_formed();

@@ -16,7 +16,6 @@ mod run_whole;
 mod splitting;
 mod status;
 mod synthesizing;
-mod task;
 mod testing;
 mod verifying;
 

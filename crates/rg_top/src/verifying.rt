@@ -1,5 +1,5 @@
 //! The answer to a request for a judgement.
-ghost use Rattle.std.specs.Prelude.{◌≡◌, ℕ, ◌∷◌, [], ◌≤◌, length, IfOk, IsErrOf};
+ghost use Rattle.std.specs.Prelude.{◌≡◌, ℕ, ◌≤◌, Some, length, IfOk, IsErrOf};
 ghost use Rattle.rg_ports.specs.Count.{HasRisen};
 ghost use Rattle.rg_lts.specs.WellFormed.{IsWellFormed};
 ghost use Rattle.rg_cert_data.specs.Certificates.{claim_of, IsCertificateOf};
@@ -28,8 +28,8 @@ pub(crate) fn judgement_answer<H: Shelf>(
     shelf: &mut H,
 ) -> Result<Answer, Stop>
     ensures files { H.files shelf.new ≡ H.files shelf.old }
-    ensures asked { H.asked shelf.new ≡ asked_more (H.asked shelf.old) (cert.now ∷ []) }
-    ensures reads { ReadsMore H.finds H.hands (cert.now ∷ []) shelf.old shelf.new }
+    ensures asked { H.asked shelf.new ≡ asked_more (H.asked shelf.old) (Some cert.now) }
+    ensures reads { ReadsMore H.finds H.hands (Some cert.now) shelf.old shelf.new }
     ensures ok { IfOk result (λ a. VerifyEnds (H.files shelf.old) cert.now lts.now (end_of a)) }
     ensures never_falls { H.faults shelf.old ≤ H.faults shelf.new }
     ensures fault { IsErrOf result stop.ReadFault → HasRisen (H.faults shelf.old) (H.faults shelf.new) }

@@ -1,9 +1,10 @@
 use Rattle.std.proofs.Common.{Err, IfOk, ap, sym, subst}
+use Rattle.rg_commands.specs.Requests.{named_work}
 use Rattle.rg_messages.specs.declared.fault.Fault.{Fault}
 use Rattle.rg_top.specs.End.{refuses_file}
 use Rattle.rg_top.specs.Second.{first_fault}
 use Rattle.rg_top.specs.Ends.{EndsOn, FileEnds, no_system, on_system}
-use Rattle.rg_top.specs.Requests.{end_of, work_of}
+use Rattle.rg_top.specs.Requests.{end_of}
 use Rattle.rg_top.specs.Run.{first_alone}
 use Rattle.rg_top.specs.declared.answer.Answer.{Answer}
 use Rattle.rg_top.proofs.Asking.{asks_first, asks_all, reads_all}
@@ -12,18 +13,18 @@ use Rattle.rg_top.proofs.answer.file_answer.Goals as goal
 
 pub returns-in-Ok-clause-asked : goal.returns-in-Ok-clause-asked
 returns-in-Ok-clause-asked g c =
-    asks_all (g.H.Shelf.files c.args.shelf.now) (work_of c.args.work) c.args.file.now c.args.form c.in-Ok.lts (g.H.Shelf.asked c.args.shelf.now) (g.H.Shelf.asked c.read_system.new.shelf)
+    asks_all (g.H.Shelf.files c.args.shelf.now) (named_work c.args.work) c.args.file.now c.args.form c.in-Ok.lts (g.H.Shelf.asked c.args.shelf.now) (g.H.Shelf.asked c.read_system.new.shelf)
     (g.H.Shelf.asked c.system_answer.new.shelf) c.in-Ok.ensures.ok c.read_system.ensures.asked c.system_answer.ensures.asked
 
 pub returns-in-Ok-clause-reads : goal.returns-in-Ok-clause-reads
 returns-in-Ok-clause-reads g c =
-    reads_all g.H.Shelf.finds g.H.Shelf.hands (g.H.Shelf.files c.args.shelf.now) (work_of c.args.work) c.args.file.now c.args.form c.args.shelf.now c.read_system.new.shelf
+    reads_all g.H.Shelf.finds g.H.Shelf.hands (g.H.Shelf.files c.args.shelf.now) (named_work c.args.work) c.args.file.now c.args.form c.args.shelf.now c.read_system.new.shelf
     c.system_answer.new.shelf c.in-Ok.lts c.in-Ok.ensures.whole c.in-Ok.ensures.ok c.system_answer.ensures.reads
 
 pub returns-in-Ok-clause-ok : goal.returns-in-Ok-clause-ok
 returns-in-Ok-clause-ok g c =
     let files = g.H.Shelf.files c.args.shelf.now in
-    let work = work_of c.args.work in
+    let work = named_work c.args.work in
     let lts = c.in-Ok.lts in
     if_ok (λ (a : Answer). EndsOn files work lts (end_of a)) (λ (a : Answer). FileEnds files work c.args.file.now c.args.form (end_of a))
     (λ a x. on_system lts (end_of a) c.in-Ok.ensures.ok c.system_answer.ensures.formed x) c.system_answer.result
@@ -31,7 +32,7 @@ returns-in-Ok-clause-ok g c =
 
 pub returns-in-Err-Refused-clause-asked : goal.returns-in-Err-Refused-clause-asked
 returns-in-Err-Refused-clause-asked g c =
-    asks_first (g.H.Shelf.files c.args.shelf.now) (work_of c.args.work) c.args.file.now c.args.form
+    asks_first (g.H.Shelf.files c.args.shelf.now) (named_work c.args.work) c.args.file.now c.args.form
     (g.H.Shelf.asked c.args.shelf.now) (g.H.Shelf.asked c.read_system.new.shelf) c.read_system.ensures.asked
 
 pub returns-in-Err-Refused-clause-reads : goal.returns-in-Err-Refused-clause-reads
@@ -42,12 +43,12 @@ returns-in-Err-Refused-clause-reads g c =
 pub returns-in-Err-Refused-clause-ok : goal.returns-in-Err-Refused-clause-ok
 returns-in-Err-Refused-clause-ok g c =
     let fault = c.in-Err-Refused.fault in
-    subst (λ (f : Fault). FileEnds (g.H.Shelf.files c.args.shelf.now) (work_of c.args.work) c.args.file.now c.args.form (refuses_file (first_fault f))) (sym c.in-Err-Refused.fault-is)
+    subst (λ (f : Fault). FileEnds (g.H.Shelf.files c.args.shelf.now) (named_work c.args.work) c.args.file.now c.args.form (refuses_file (first_fault f))) (sym c.in-Err-Refused.fault-is)
     (no_system fault (c.in-Err-Refused.ensures.refused fault (ap Err c.in-Err-Refused.field-0-is)))
 
 pub returns-in-Err-Failed-clause-asked : goal.returns-in-Err-Failed-clause-asked
 returns-in-Err-Failed-clause-asked g c =
-    asks_first (g.H.Shelf.files c.args.shelf.now) (work_of c.args.work) c.args.file.now c.args.form
+    asks_first (g.H.Shelf.files c.args.shelf.now) (named_work c.args.work) c.args.file.now c.args.form
     (g.H.Shelf.asked c.args.shelf.now) (g.H.Shelf.asked c.read_system.new.shelf) c.read_system.ensures.asked
 
 pub returns-in-Err-Failed-clause-reads : goal.returns-in-Err-Failed-clause-reads
@@ -57,7 +58,7 @@ returns-in-Err-Failed-clause-reads g c =
 
 pub returns-in-Err-NoMemory-clause-asked : goal.returns-in-Err-NoMemory-clause-asked
 returns-in-Err-NoMemory-clause-asked g c =
-    asks_first (g.H.Shelf.files c.args.shelf.now) (work_of c.args.work) c.args.file.now c.args.form
+    asks_first (g.H.Shelf.files c.args.shelf.now) (named_work c.args.work) c.args.file.now c.args.form
     (g.H.Shelf.asked c.args.shelf.now) (g.H.Shelf.asked c.read_system.new.shelf) c.read_system.ensures.asked
 
 pub returns-in-Err-NoMemory-clause-reads : goal.returns-in-Err-NoMemory-clause-reads

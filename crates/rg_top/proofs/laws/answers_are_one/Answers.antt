@@ -45,7 +45,7 @@ returns c = all_one (record {
   examination = c.one_examination.ensures.once;
 }) (record {
   words = c.words_say_one_thing.ensures.some;
-  class = c.class_is_told.ensures.in_range;
+  bounds = c.words_say_one_thing.ensures.bounds;
   reading = record {
     apt = c.one_answer.ensures.some;
     apt_formed = c.spelled_is_well_formed.ensures.formed;
