@@ -6,7 +6,7 @@ ghost use Rattle.rg_revised.specs.Walk.{IsWalkOf};
 ghost use Rattle.rg_cycles.specs.Vectors.{vectors_by, AreVectors};
 
 use crate::chord_entry::ChordEntry;
-use crate::widened::widened;
+use crate::widen::widen;
 use rg_linear::norm;
 use rg_revised::{RevisedWalk, Taken};
 use std::alloc::{AllocError, Global};
@@ -22,7 +22,7 @@ fn greatest_norm<N: ChordEntry>(
 {
     let mut greatest = 0u64;
     for &index in kept {
-        let row = widened(alloc, &vectors[index as usize])?;
+        let row = widen(alloc, &vectors[index as usize])?;
         greatest = greatest.max(norm(&row, 0));
     }
     Ok(greatest)
@@ -49,7 +49,7 @@ pub(crate) fn walk_columns<N: ChordEntry>(
         return Ok(false);
     }
     for i in 0..kept.len() {
-        let row = widened(alloc, &vectors[kept[i] as usize])?;
+        let row = widen(alloc, &vectors[kept[i] as usize])?;
         let taken = walk.take(&row, i as u32);
         if let Taken::Large = taken {
             return Ok(false);

@@ -17,7 +17,7 @@ mod stop;
 mod substitution;
 mod walk;
 mod whole;
-mod widened;
+mod widen;
 
 pub use basis::Basis;
 pub use chord_entry::ChordEntry;

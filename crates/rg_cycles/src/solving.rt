@@ -19,7 +19,7 @@ use crate::distinct::first_indices;
 use crate::relations::Relations;
 use crate::stop::Stop;
 use crate::walk::walk;
-use crate::widened::widened;
+use crate::widen::widen;
 use rg_dictionary::RelationTable;
 use rg_revised::RevisedWalk;
 use std::alloc::{AllocError, Global};
@@ -83,14 +83,14 @@ fn full_basis<N: ChordEntry>(
     ensures basis { IfOk result (λ b. IsCycleBasis labels (vectors_by N.numbers vectors.now) (cycle_of b)) }
     ensures wide { (w : CycleWide) → IsErrOf result (stop.Wide w) → PassesAt labels (vectors_by N.numbers vectors.now) (shown_term w) }
 {
-    let mut dictionary = filled(alloc, labels, vectors, &kept)?;
+    let mut dictionary = fill(alloc, labels, vectors, &kept)?;
     walk(alloc, &mut dictionary)?;
     let basis = Basis::read(alloc, Relations::OfAll(&dictionary), kept)?;
     Ok(basis)
 }
 
 // The dictionary of the rows that these vectors are, over so many columns.
-fn filled<N: ChordEntry>(
+fn fill<N: ChordEntry>(
     alloc: Global,
     labels: u32,
     vectors: &[Vec<N>],
@@ -104,7 +104,7 @@ fn filled<N: ChordEntry>(
 {
     let mut dictionary = RelationTable::with_columns(alloc, labels, kept.len() as u32)?;
     for &index in kept {
-        let row = widened(alloc, &vectors[index as usize])?;
+        let row = widen(alloc, &vectors[index as usize])?;
         dictionary.push_row(&row, 0);
     }
     Ok(dictionary)

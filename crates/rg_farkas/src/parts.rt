@@ -7,7 +7,7 @@ use rg_fraction::reduce;
 use std::alloc::{AllocError, Global};
 
 // The numbers of both lists, divided by their greatest common divisor.
-pub(crate) fn divided(
+pub(crate) fn divide_numbers(
     alloc: Global,
     numbers: &[i128],
     more: &[i128],

@@ -18,7 +18,7 @@ use rg_theory::Arc;
 use std::alloc::{AllocError, Global};
 
 // The rows of the shares and the arcs of the chords, with these numbers in order.
-pub(crate) fn numbered(
+pub(crate) fn number_rows(
     alloc: Global,
     named: &[(RowName, Fraction)],
     chords: &[Arc],

@@ -100,11 +100,11 @@ pub lifted_made : (lts : System) (class : Class) (problem : Problem) (moved : Li
 lifted_made lts class problem moved by is e r h =
     subst (λ b. either b (each (λ m. add m (whole (pos (missing (unwrap_or class.marking 1) (unsigned_abs (top_at moved lts.initial)))))) moved) (gives moved) r) (sym e) (subst (λ l. each (λ m. add m l) moved r) is h)
 
-pub lifted_length : (lts : System) (class : Class) (problem : Problem) (moved lifted : List Ratio) → Lifted lts class problem moved (Ok lifted) → length lifted ≡ length moved
-lifted_length lts class problem moved lifted h = go (is_lifted class problem) h
+pub lifted_length : (lts : System) (class : Class) (problem : Problem) (moved lift : List Ratio) → Lifted lts class problem moved (Ok lift) → length lift ≡ length moved
+lifted_length lts class problem moved lift h = go (is_lifted class problem) h
   where
-    go : (b : Bool) → either b (each (λ m. add m (whole (pos (missing (unwrap_or class.marking 1) (unsigned_abs (top_at moved lts.initial)))))) moved) (gives moved) (Ok lifted) → length lifted ≡ length moved
-    go true e = each_length (λ m. add m (whole (pos (missing (unwrap_or class.marking 1) (unsigned_abs (top_at moved lts.initial)))))) moved lifted e
+    go : (b : Bool) → either b (each (λ m. add m (whole (pos (missing (unwrap_or class.marking 1) (unsigned_abs (top_at moved lts.initial)))))) moved) (gives moved) (Ok lift) → length lift ≡ length moved
+    go true e = each_length (λ m. add m (whole (pos (missing (unwrap_or class.marking 1) (unsigned_abs (top_at moved lts.initial)))))) moved lift e
     go false e = ap length e
 
 module _ (lts : System) (class : Class) (problem : Problem) (numbers : List Ratio) where

@@ -83,7 +83,7 @@ fn found_numbers(
         class,
         ..
     } = setting;
-    let (start, values) = parted(class, point);
+    let (start, values) = start_and_values(class, point);
     let used = used_labels(alloc, lts)?;
     let columns = columns_with(alloc, lts, basis, &used, values)?;
     let mut numbers = effects(alloc, lts, basis, &used, &columns)?;
@@ -92,7 +92,7 @@ fn found_numbers(
 }
 
 // Start, and the values of the free labels.
-fn parted(class: Class, point: &[Fraction]) -> (Fraction, &[Fraction])
+fn start_and_values(class: Class, point: &[Fraction]) -> (Fraction, &[Fraction])
     requires { IsTrue (has_start class) → 0 < length point.now }
     ensures start { ratio_of result.0 ≡ point_start class point.now }
     ensures values { result.1.now ≡ drop (first_column class) point.now }

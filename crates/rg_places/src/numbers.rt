@@ -10,7 +10,7 @@ ghost use Rattle.rg_fraction.specs.declared.fold_stop.FoldStop.TheVariants as st
 ghost use Rattle.rg_places.specs.PointValues.{ratios_of};
 ghost use Rattle.rg_places.specs.Steps.{IsAlongTree};
 
-use crate::whole::widened;
+use crate::whole::widen;
 use rg_fraction::{FoldStop, Fraction};
 use rg_lts::{Arc, Lts};
 use rg_theory::{Class, Problem};
@@ -52,7 +52,7 @@ pub(crate) fn shifted(
     ensures { Comes (shift_fold lts.now class problem (ratios_of numbers.items)) (λ shifted. ratios_of shifted.items) result }
 {
     let moved = moved(alloc, class, numbers)?;
-    lifted(alloc, lts, class, problem, moved)
+    lift(alloc, lts, class, problem, moved)
 }
 
 // In a class that isn't bounded, and is plain or not pure, the numbers less the least of them, and in others the
@@ -69,7 +69,7 @@ fn moved(alloc: Global, class: Class, numbers: Vec<Fraction>) -> Result<Vec<Frac
 
 // In a problem of two states of a plain class without bound the numbers and what is missing at the start, which is to
 // be a multiple of the class's marking, and in others the numbers.
-fn lifted(
+fn lift(
     alloc: Global,
     lts: &Lts,
     class: Class,
@@ -77,7 +77,7 @@ fn lifted(
     numbers: Vec<Fraction>,
 ) -> Result<Vec<Fraction>, FoldStop>
     requires { length numbers.items ≡ states lts.now }
-    ensures { Comes (either (is_lifted class problem) (each (λ m. add m (whole (pos (missing (unwrap_or class.marking 1) (unsigned_abs (top_at (ratios_of numbers.items) lts.now.initial)))))) (ratios_of numbers.items)) (gives (ratios_of numbers.items))) (λ lifted. ratios_of lifted.items) result }
+    ensures { Comes (either (is_lifted class problem) (each (λ m. add m (whole (pos (missing (unwrap_or class.marking 1) (unsigned_abs (top_at (ratios_of numbers.items) lts.now.initial)))))) (ratios_of numbers.items)) (gives (ratios_of numbers.items))) (λ lift. ratios_of lift.items) result }
 {
     if !is_lifted(class, problem) {
         return Ok(numbers);
@@ -101,7 +101,7 @@ fn is_lifted(class: Class, problem: Problem) -> bool
 fn whole_number(n: u8) -> Fraction
     ensures { ratio_of result ≡ whole (pos n) }
 {
-    Fraction::new(widened(n), 1)
+    Fraction::new(widen(n), 1)
 }
 
 // How many more make m a multiple of n; 0 where n is 0.

@@ -36,7 +36,7 @@ fn times_marking(
     ensures { Comes (either (is_some class.marking) (each (λ r. mul r (whole (pos (unwrap_or class.marking 1)))) (ratios_of numbers.items)) (gives (ratios_of numbers.items))) (λ found. ratios_of found.items) result }
 {
     match class.marking {
-        Some(n) => products(alloc, &numbers, widened(n)),
+        Some(n) => products(alloc, &numbers, widen(n)),
         None => Ok(numbers),
     }
 }
@@ -49,7 +49,7 @@ fn has_whole_points(class: Class) -> bool
 }
 
 // The number.
-pub(crate) fn widened(n: u8) -> i128
+pub(crate) fn widen(n: u8) -> i128
     ensures value { result ≡ pos n }
     ensures in_range { InRange result }
 {

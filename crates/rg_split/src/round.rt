@@ -48,7 +48,7 @@ pub(crate) fn first_labelling(alloc: Global, lts: &Lts) -> Result<Labelling, NoM
     let names = label_names(alloc, lts)?;
     let labels = labels_of(alloc, lts.arcs())?;
     let system = with_labels(alloc, lts, &names, &labels)?;
-    let old = counted(alloc, lts.labels())?;
+    let old = numbers_below(alloc, lts.labels())?;
     Ok(Labelling { system, old })
 }
 
@@ -64,7 +64,7 @@ fn labels_of(alloc: Global, arcs: &[Arc]) -> Result<Vec<u32>, NoMemory>
 }
 
 // The numbers below this one.
-fn counted(alloc: Global, count: u32) -> Result<Vec<u32>, NoMemory>
+fn numbers_below(alloc: Global, count: u32) -> Result<Vec<u32>, NoMemory>
     ensures { IfOk result (λ v. v.items ≡ range_with_len 0 count) }
 {
     let mut numbers = Vec::new(alloc);

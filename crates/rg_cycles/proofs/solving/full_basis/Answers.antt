@@ -8,8 +8,8 @@ use Rattle.rg_cycles.proofs.Related.{solved_by}
 use Rattle.rg_cycles.proofs.Equations.{error_is}
 use Rattle.rg_cycles.proofs.solving.full_basis.Goals as goal
 
-pub filled-requires-clause-kept : goal.filled-requires-clause-kept
-filled-requires-clause-kept g c =
+pub fill-requires-clause-kept : goal.fill-requires-clause-kept
+fill-requires-clause-kept g c =
     let vectors = vectors_by g.N.ChordEntry.numbers c.args.vectors.now in
     rw c.deref.ensures.value (λ index has. (let h = kept_below vectors c.args.kept.items c.requires.keeps index has in simp length-map at h))
 

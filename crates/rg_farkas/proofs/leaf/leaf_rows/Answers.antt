@@ -57,8 +57,8 @@ returns-in_err-scaled-clause-comes c =
     (subst (λ l. scaled_fold l (Err w)) (fractions_are c.args.named.now c.deref-3.result.now c.in_ok-shares.shares.items c.in_ok-fractions.fractions.items
     c.deref-4.result.now c.deref-3.ensures.value c.in_ok-fractions.ensures c.deref-4.ensures.value) (rw is at c.in_err-scaled.ensures.comes))))
 
-pub numbered-requires : goal.numbered-requires
-numbered-requires c =
+pub number_rows-requires : goal.number_rows-requires
+number_rows-requires c =
     let s = shown_case c.args.c in
     numbered_length c.args.named.now s.lts s.tree s.basis c.deref-2.result.now c.in_ok-used.used.items c.in_ok-shares.shares.items c.deref-3.result.now c.in_ok-fractions.fractions.items
     c.deref-4.result.now c.in_ok-scaled.scaled.numbers.items c.deref-7.result.now c.in_ok-chords.chords.items c.deref-6.result.now

@@ -19,7 +19,7 @@ returns-in_err-numbers-clause-comes c =
     let start = point_start s.class c.args.point.now in
     let values = point_value s.lts s.basis s.class c.args.point.now in
     let same : c.from_residual-in_err-numbers.result ≡ Err c.in_err-numbers.field-0.0 = search rules in
-    let value = value_is s.lts s.basis s.class c.args.point.now c.in_ok-columns.columns.items c.in_ok-columns.ensures.columns (c.in_ok-columns.ensures.values ∙ c.parted.ensures.values) in
+    let value = value_is s.lts s.basis s.class c.args.point.now c.in_ok-columns.columns.items c.in_ok-columns.ensures.columns (c.in_ok-columns.ensures.values ∙ c.start_and_values.ensures.values) in
     rw same (comes_unless (found_fold s.lts s.basis s.class start values) (λ (v : Vec Fraction Global). ratios_of v.items) c.in_err-numbers.field-0.0
     (λ w is. effects_fail s.lts s.basis s.class start values w
     (subst (λ v. each (effect_fold s.lts s.basis v) (all_numbers (labels s.lts)) (Err w)) value (rw (is, c.deref-3.ensures.value) at c.in_err-numbers.ensures))))
@@ -30,9 +30,9 @@ returns-clause-comes c =
     let start = point_start s.class c.args.point.now in
     let values = point_value s.lts s.basis s.class c.args.point.now in
     let effects = ratios_of c.in_ok-numbers.numbers.items in
-    let value = value_is s.lts s.basis s.class c.args.point.now c.in_ok-columns.columns.items c.in_ok-columns.ensures.columns (c.in_ok-columns.ensures.values ∙ c.parted.ensures.values) in
+    let value = value_is s.lts s.basis s.class c.args.point.now c.in_ok-columns.columns.items c.in_ok-columns.ensures.columns (c.in_ok-columns.ensures.values ∙ c.start_and_values.ensures.values) in
     let made = rw c.deref-3.ensures.value at c.in_ok-numbers.ensures in
-    let numbers = ap ratios_of c.in_ok-push.ensures.items ∙ map-append ratio_of c.in_ok-numbers.numbers.items _ ∙ ap (λ r. effects ++ r ∷ []) c.parted.ensures.start in
+    let numbers = ap ratios_of c.in_ok-push.ensures.items ∙ map-append ratio_of c.in_ok-numbers.numbers.items _ ∙ ap (λ r. effects ++ r ∷ []) c.start_and_values.ensures.start in
     comes_by (made_whole s.class (ratios_of c.push.new.self.items)) (found_fold s.lts s.basis s.class start values) (λ (v : Vec Fraction Global). ratios_of v.items)
     c.made_whole.result c.made_whole.ensures
     (λ r h. effects_make s.lts s.basis s.class start values effects

@@ -14,10 +14,10 @@ returns-in_err-moved c =
     rw same (comes_unless (shift_fold c.args.lts.now c.args.class c.args.problem (ratios_of c.args.numbers.items)) (λ (v : Vec Fraction Global). ratios_of v.items) c.in_err-moved.field-0.0
     (λ w is. moved_fails c.args.lts.now c.args.class c.args.problem (ratios_of c.args.numbers.items) w (rw is at c.in_err-moved.ensures)))
 
-pub lifted-requires : goal.lifted-requires
-lifted-requires c =
+pub lift-requires : goal.lift-requires
+lift-requires c =
     sym (length-map c.in_ok-moved.moved.items ratio_of) ∙ moved_length c.args.class (ratios_of c.args.numbers.items) (ratios_of c.in_ok-moved.moved.items) c.in_ok-moved.ensures ∙ length-map c.args.numbers.items ratio_of ∙ c.requires
 
 pub returns : goal.returns
 returns c =
-    comes_by _ _ (λ (v : Vec Fraction Global). ratios_of v.items) c.lifted.result c.lifted.ensures (shift_made c.args.lts.now c.args.class c.args.problem (ratios_of c.args.numbers.items) (ratios_of c.in_ok-moved.moved.items) c.in_ok-moved.ensures)
+    comes_by _ _ (λ (v : Vec Fraction Global). ratios_of v.items) c.lift.result c.lift.ensures (shift_made c.args.lts.now c.args.class c.args.problem (ratios_of c.args.numbers.items) (ratios_of c.in_ok-moved.moved.items) c.in_ok-moved.ensures)

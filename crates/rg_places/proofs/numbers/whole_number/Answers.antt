@@ -6,4 +6,4 @@ use Rattle.rg_case_folds.proofs.Folding.{whole_is}
 use Rattle.rg_places.proofs.numbers.whole_number.Goals as goal
 
 pub returns : goal.returns
-returns c = whole_is c.new.result (pos c.args.n) (subst (λ z. IsValue c.new.result z (pos 1)) (back c.widened.result c.widened.ensures.in_range ∙ c.widened.ensures.value) c.new.ensures)
+returns c = whole_is c.new.result (pos c.args.n) (subst (λ z. IsValue c.new.result z (pos 1)) (back c.widen.result c.widen.ensures.in_range ∙ c.widen.ensures.value) c.new.ensures)

@@ -12,10 +12,10 @@ use Rattle.rg_places.proofs.whole.times_marking.Goals as goal
 pub returns-in-Some : goal.returns-in-Some
 returns-in-Some c =
     let numbers = c.args.numbers.items in
-    let z = c.widened.result in
+    let z = c.widen.result in
     comes_by (each (λ f. mul f (whole (cast_signed w128 (cast_unsigned w128 z)))) (map ratio_of c.deref.result.now)) (TimesMarking c.args.class (ratios_of numbers)) (λ (v : Vec Fraction Global). ratios_of v.items) c.products.result c.products.ensures
     (λ r h. times_made c.args.class (ratios_of numbers) c.in-Some.n c.in-Some.is r
-    (subst (λ y. each (λ f. mul f (whole y)) (ratios_of numbers) r) (back z c.widened.ensures.in_range ∙ c.widened.ensures.value)
+    (subst (λ y. each (λ f. mul f (whole y)) (ratios_of numbers) r) (back z c.widen.ensures.in_range ∙ c.widen.ensures.value)
     (subst (λ (l : List Fraction). each (λ f. mul f (whole (cast_signed w128 (cast_unsigned w128 z)))) (map ratio_of l) r) c.deref.ensures.value h)))
 
 pub returns-in-None : goal.returns-in-None

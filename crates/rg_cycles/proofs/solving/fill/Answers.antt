@@ -5,7 +5,7 @@ use Rattle.rg_dictionary.specs.Contents.{IsDictionary}
 use Rattle.rg_cycles.specs.Vectors.{vectors_by}
 use Rattle.rg_cycles.proofs.Firsts.{vector_is}
 use Rattle.rg_cycles.proofs.Filling.{row_added, vector_length, vector_in_range}
-use Rattle.rg_cycles.proofs.solving.filled.Goals as goal
+use Rattle.rg_cycles.proofs.solving.fill.Goals as goal
 
 pub bounds-vectors-index : goal.bounds-vectors-index
 bounds-vectors-index g c = c.requires.kept (slice_index c.args.kept.now c.loop-index.index-index) (Contains-get_or c.args.kept.now c.loop-index.index-index 0 c.loop-index-test.true)

@@ -5,7 +5,7 @@ use crate::chord_entry::ChordEntry;
 use std::alloc::{AllocError, Global};
 
 // The numbers of a vector, as those of a row.
-pub(crate) fn widened<N: ChordEntry>(alloc: Global, vector: &[N]) -> Result<Vec<i128>, AllocError>
+pub(crate) fn widen<N: ChordEntry>(alloc: Global, vector: &[N]) -> Result<Vec<i128>, AllocError>
     ensures { IfOk result (λ v. v.items ≡ N.numbers vector.now) }
 {
     let mut numbers = Vec::new(alloc);

@@ -9,7 +9,7 @@ use Rattle.rg_places.proofs.FractionSteps.{top_there}
 use Rattle.rg_fraction.specs.declared.fraction.Fraction.{Fraction}
 use Rattle.rg_case_folds.proofs.Comes.{comes_by}
 use Rattle.rg_places.proofs.PlaceSteps.{lifted_kept, lifted_made}
-use Rattle.rg_places.proofs.numbers.lifted.Goals as goal
+use Rattle.rg_places.proofs.numbers.lift.Goals as goal
 
 pub returns-then-not-is_lifted : goal.returns-then-not-is_lifted
 returns-then-not-is_lifted c = lifted_kept c.args.lts.now c.args.class c.args.problem (ratios_of c.args.numbers.items) (sym c.is_lifted.ensures ∙ c.if-not-is_lifted.true)

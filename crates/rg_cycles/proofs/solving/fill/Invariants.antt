@@ -3,7 +3,7 @@ use Rattle.rg_linear.specs.Dictionary.{numbers_from}
 use Rattle.rg_linear.specs.Cycle.{vector_system}
 use Rattle.rg_dictionary.specs.Contents.{IsDictionary}
 use Rattle.rg_cycles.specs.Vectors.{vectors_by}
-use Rattle.rg_cycles.proofs.solving.filled.Given as goal
+use Rattle.rg_cycles.proofs.solving.fill.Given as goal
 
 abbrev pub invariant-loop-index : goal.invariant-loop-index
 invariant-loop-index g l = record {
