@@ -163,3 +163,22 @@ written_back written before n same is =
     ap (λ rest. take n (written ++ rest)) (drop_all (length written) before (omega arith))
     ∙ ap (take n) (append-nil written)
     ∙ take_all n written (omega arith)
+
+-- ---- numbers that are 0
+
+pub zero_step : (count number sum : ℤ) → number ≡ pos 0 → InRange sum → IsWholeStep count number sum sum
+zero_step count number sum none in_range = subst (λ n. IsWholeStep count n sum sum) (sym none) (record {
+  is = kept sum count;
+  sum_in_range = in_range;
+  product_in_range = small count;
+  next_in_range = in_range;
+})
+  where
+    kept : (sum count : ℤ) → sum ≡ sum +ℤ (count *ℤ pos 0)
+    kept sum count = omega (arith, ints)
+
+    small : (count : ℤ) → InRange (count *ℤ pos 0)
+    small count = subst InRange (sym (none_of count)) (omega arith)
+      where
+        none_of : (count : ℤ) → count *ℤ pos 0 ≡ pos 0
+        none_of count = omega (arith, ints)

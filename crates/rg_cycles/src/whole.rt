@@ -120,6 +120,9 @@ fn with_product(sum: i64, number: i128, count: i64) -> Option<i64>
     requires { InRange number }
     ensures { IfSome result (λ next. IsWholeStep count number sum next) }
 {
+    if number == 0 {
+        return Some(sum);
+    }
     let Ok(number) = i64::try_from(number) else {
         return None;
     };

@@ -5,7 +5,7 @@ use Rattle.std.proofs.lemmas.List.{get_or-set_same, get_or-set_other, get_or_pas
 use Rattle.std.proofs.lemmas.List.Sums.{sum_by-set}
 use Rattle.std.proofs.lemmas.List.Folds.{sum_by-replicate}
 use Rattle.std.proofs.lemmas.Option.{none-some, same_Some, slice_get-get_or, slice_get_within, get_or_from_slice_get, slice_get-map}
-use Rattle.rg_theory.specs.System.{System, states, labels, HasArc, Leads, IsAllReachable}
+use Rattle.rg_theory.specs.System.{System, states, labels, HasArc, Leads}
 use Rattle.rg_theory.proofs.Arcs.{arc_in_range}
 use Rattle.rg_iso.specs.Isomorphic.{HaveSameLabels, HaveOneName, Gives, IsIsomorphismTo}
 use Rattle.rg_iso.specs.Words.{Meets, at_first, then}
@@ -153,7 +153,7 @@ module _ (a b : System) (c : AreComparable a b) (same : HaveSameLabels a b) (p :
       go : IsMatched a b p w.followed.ways i t → (u : ℕ) × (q' : ℕ) × HaveOneName a b t u × HasArc b q u q' × IsPair s' q'
       go (neither u name none none') = absurd (none s' x')
       go (both u j r o name z z' in_j is way) =
-          let e : r ≡ s' = c.first_fork_free.one_target (pair_at p.order i).0 t r s' z x' in
+          let e : r ≡ s' = c.first_flawless.fork_free.one_target (pair_at p.order i).0 t r s' z x' in
           (u, o, name, subst (λ (m : Pair). HasArc b m.1 u o) at z', (j, in_j, is ∙ (λ k. (e k, o))))
 
   -- and one of the second by one of the first
@@ -167,7 +167,7 @@ module _ (a b : System) (c : AreComparable a b) (same : HaveSameLabels a b) (p :
       go (neither v name' none none') = absurd (none' q' (subst (λ m. HasArc b (pair_at p.order i).1 m q') (one_namesake a b t u v c.second.label_names name name') y'))
       go (both v j r o name' z z' in_j is way) =
           let v_is = one_namesake a b t v u c.second.label_names name' name in
-          let e : o ≡ q' = c.second_fork_free.one_target (pair_at p.order i).1 u o q' (subst (λ m. HasArc b (pair_at p.order i).1 m o) v_is z') y' in
+          let e : o ≡ q' = c.second_flawless.fork_free.one_target (pair_at p.order i).1 u o q' (subst (λ m. HasArc b (pair_at p.order i).1 m o) v_is z') y' in
           (r, subst (λ (m : Pair). HasArc a m.0 t r) at z, (j, in_j, is ∙ (λ k. (r, e k))))
 
   all_first : (ts : List ℕ) (s q r : ℕ) → IsPair s q → Leads a s ts r → (o : ℕ) × IsPair r o
@@ -186,9 +186,9 @@ module _ (a b : System) (c : AreComparable a b) (same : HaveSameLabels a b) (p :
       ap (λ (r : Pair). slice_index_or p.partners r.0 None) (sym at) ∙ h.partner i in_i ∙ ap (λ (r : Pair). Some r.1) at
 
   -- each state has a partner
-  pub each_has : IsAllReachable a → (s : ℕ) → s < length p.partners → (q : ℕ) × (slice_index_or p.partners s None ≡ Some q)
-  each_has all s lt =
-      let (ts, path) = all.each s (let e = h.partners_long in omega (arith, lt, e)) in
+  pub each_has : (s : ℕ) → s < length p.partners → (q : ℕ) × (slice_index_or p.partners s None ≡ Some q)
+  each_has s lt =
+      let (ts, path) = c.first_flawless.reachable.each s (let e = h.partners_long in omega (arith, lt, e)) in
       let (q, pair) = all_first ts a.initial b.initial s root_pair path in
       (q, partner_of s q pair)
 
@@ -231,8 +231,8 @@ module _ (a b : System) (c : AreComparable a b) (same : HaveSameLabels a b) (p :
     second_of : (s q o : ℕ) → Gives m s q → Gives m s o → q ≡ o
     second_of s q o g g' = same_Some q o (sym g ∙ g')
 
-    pub isomorphism : IsAllReachable b → IsIsomorphismTo a b m
-    isomorphism all = record {
+    pub isomorphism : IsIsomorphismTo a b m
+    isomorphism = record {
       one_each = long ∙ h.partners_long;
       onto = λ q. (onto q, every q);
       different = different;
@@ -245,7 +245,7 @@ module _ (a b : System) (c : AreComparable a b) (same : HaveSameLabels a b) (p :
 
         every : (q : ℕ) → q < states b → Contains m q
         every q lt =
-            let (us, path) = all.each q lt in
+            let (us, path) = c.second_flawless.reachable.each q lt in
             let (s, pair) = all_second us a.initial b.initial q root_pair path in
             let gives = pair_gives s q pair in
             (s, slice_get_within m s q gives, get_or_from_slice_get m s q q gives)

@@ -42,7 +42,7 @@ module _ (a b : System) (c : AreComparable a b) where
   pub one_target : (s q t u v s' r q' p : ℕ) → HaveOneName a b t u → HaveOneName a b t v → HasArc a s t s' → HasArc a s t r → HasArc b q u q' → HasArc b q v p → (s' ≡ r) × (q' ≡ p)
   one_target s q t u v s' r q' p name name' x x' y y' =
       let same = one_namesake a b t u v c.second.label_names name name' in
-      (c.first_fork_free.one_target s t s' r x x', c.second_fork_free.one_target q u q' p y (subst (λ n. HasArc b q n p) (sym same) y'))
+      (c.first_flawless.fork_free.one_target s t s' r x x', c.second_flawless.fork_free.one_target q u q' p y (subst (λ n. HasArc b q n p) (sym same) y'))
 
   pub one_meeting : (w : List ℕ) (s q r p : ℕ) → Meets a b w s q → Meets a b w r p → (s ≡ r) × (q ≡ p)
   one_meeting _ _ _ _ _ at_first at_first = (refl, refl)

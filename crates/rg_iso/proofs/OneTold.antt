@@ -2,7 +2,7 @@
 use Rattle.std.proofs.Common.{◌≡◌, ◌⊎◌, ℕ, ◌<◌, List, Contains, Some, slice_get, inl, inr, sym, ap, subst}
 use Rattle.std.proofs.lemmas.Bool.{cases_order}
 use Rattle.std.proofs.lemmas.Option.{slice_get_within, get_or_from_slice_get}
-use Rattle.rg_theory.specs.System.{System, HasArc, IsAllReachable}
+use Rattle.rg_theory.specs.System.{System, HasArc}
 use Rattle.rg_iso.specs.Isomorphic.{AreIsomorphic}
 use Rattle.rg_iso.specs.Words.{IsMetBefore, Difference, Difference.step, Difference.target, DiffersBy, first_alone, second_alone, targets, IsFirstDifference}
 use Rattle.rg_iso.specs.Compared.{AreComparable, IsFirstAlone, HasLabelsOf, Told, Told.map as as_map, Told.label as as_label, Told.differs as as_difference}
@@ -79,20 +79,20 @@ module _ (a b : System) (c : AreComparable a b) where
   map_proves _ (by_difference d labels first) is = absurd is
 
 -- and it is one
-pub one_told : (a b : System) → AreComparable a b → IsAllReachable a → (x y : Told) → Compares a b x → Compares a b y → x ≡ y
-one_told a b c all _ _ (by_map m labels i) (by_map n labels' j) = ap as_map (one_isomorphism a b c labels all m n i j)
-one_told a b c all _ _ (by_map m labels i) (by_first u y) = absurd (not_alone a b u (λ name has. (labels.same name).0 has) y)
-one_told a b c all _ _ (by_map m labels i) (by_second u has y) = absurd (not_alone b a u (λ name there. (labels.same name).1 there) y)
-one_told a b c all _ _ (by_map m labels i) (by_difference e labels' y) = absurd (difference_refutes a b c y.word e y.differs (record { labels = labels; map = m; isomorphism = i }))
-one_told a b c all _ _ (by_first t x) (by_map n labels' j) = absurd (not_alone a b t (λ name has. (labels'.same name).0 has) x)
-one_told a b c all _ _ (by_first t x) (by_first u y) = ap (as_label 1) (one_alone a b t u x y)
-one_told a b c all _ _ (by_first t x) (by_second u has y) = absurd (not_alone a b t has x)
-one_told a b c all _ _ (by_first t x) (by_difference e labels' y) = absurd (not_alone a b t (λ name has. (labels'.same name).0 has) x)
-one_told a b c all _ _ (by_second t has x) (by_map n labels' j) = absurd (not_alone b a t (λ name there. (labels'.same name).1 there) x)
-one_told a b c all _ _ (by_second t has x) (by_first u y) = absurd (not_alone a b u has y)
-one_told a b c all _ _ (by_second t has x) (by_second u has' y) = ap (as_label 2) (one_alone b a t u x y)
-one_told a b c all _ _ (by_second t has x) (by_difference e labels' y) = absurd (not_alone b a t (λ name there. (labels'.same name).1 there) x)
-one_told a b c all _ _ (by_difference d labels x) (by_map n labels' j) = absurd (difference_refutes a b c x.word d x.differs (record { labels = labels'; map = n; isomorphism = j }))
-one_told a b c all _ _ (by_difference d labels x) (by_first u y) = absurd (not_alone a b u (λ name has. (labels.same name).0 has) y)
-one_told a b c all _ _ (by_difference d labels x) (by_second u has y) = absurd (not_alone b a u (λ name there. (labels.same name).1 there) y)
-one_told a b c all _ _ (by_difference d labels x) (by_difference e labels' y) = ap as_difference (one_difference a b c d e x y)
+pub one_told : (a b : System) → AreComparable a b → (x y : Told) → Compares a b x → Compares a b y → x ≡ y
+one_told a b c _ _ (by_map m labels i) (by_map n labels' j) = ap as_map (one_isomorphism a b c labels m n i j)
+one_told a b c _ _ (by_map m labels i) (by_first u y) = absurd (not_alone a b u (λ name has. (labels.same name).0 has) y)
+one_told a b c _ _ (by_map m labels i) (by_second u has y) = absurd (not_alone b a u (λ name there. (labels.same name).1 there) y)
+one_told a b c _ _ (by_map m labels i) (by_difference e labels' y) = absurd (difference_refutes a b c y.word e y.differs (record { labels = labels; map = m; isomorphism = i }))
+one_told a b c _ _ (by_first t x) (by_map n labels' j) = absurd (not_alone a b t (λ name has. (labels'.same name).0 has) x)
+one_told a b c _ _ (by_first t x) (by_first u y) = ap (as_label 1) (one_alone a b t u x y)
+one_told a b c _ _ (by_first t x) (by_second u has y) = absurd (not_alone a b t has x)
+one_told a b c _ _ (by_first t x) (by_difference e labels' y) = absurd (not_alone a b t (λ name has. (labels'.same name).0 has) x)
+one_told a b c _ _ (by_second t has x) (by_map n labels' j) = absurd (not_alone b a t (λ name there. (labels'.same name).1 there) x)
+one_told a b c _ _ (by_second t has x) (by_first u y) = absurd (not_alone a b u has y)
+one_told a b c _ _ (by_second t has x) (by_second u has' y) = ap (as_label 2) (one_alone b a t u x y)
+one_told a b c _ _ (by_second t has x) (by_difference e labels' y) = absurd (not_alone b a t (λ name there. (labels'.same name).1 there) x)
+one_told a b c _ _ (by_difference d labels x) (by_map n labels' j) = absurd (difference_refutes a b c x.word d x.differs (record { labels = labels'; map = n; isomorphism = j }))
+one_told a b c _ _ (by_difference d labels x) (by_first u y) = absurd (not_alone a b u (λ name has. (labels.same name).0 has) y)
+one_told a b c _ _ (by_difference d labels x) (by_second u has y) = absurd (not_alone b a u (λ name there. (labels.same name).1 there) y)
+one_told a b c _ _ (by_difference d labels x) (by_difference e labels' y) = ap as_difference (one_difference a b c d e x y)

@@ -2,7 +2,7 @@
 use Rattle.std.proofs.Common.{◌≡◌, ℕ, ◌<◌, List, [], ◌∷◌, length, get_or, Some, slice_get, inl, inr, sym, ap, subst, ◌∙◌, arith}
 use Rattle.std.proofs.lemmas.Option.{same_Some, slice_get_within, get_or_from_slice_get, slice_get-get_or}
 use Rattle.std.proofs.lemmas.List.{ext_get_or}
-use Rattle.rg_theory.specs.System.{System, states, labels, Leads, IsReachable, IsAllReachable}
+use Rattle.rg_theory.specs.System.{System, states, labels, Leads, IsReachable}
 use Rattle.rg_theory.proofs.Arcs.{arc_in_range}
 use Rattle.rg_theory.proofs.Lists.{slice_get_some}
 use Rattle.rg_iso.specs.Isomorphic.{HaveSameLabels, HaveOneName, Gives, IsIsomorphismTo, AreIsomorphic}
@@ -39,7 +39,7 @@ module _ (a b : System) (c : AreComparable a b) (m : List ℕ) (iso : IsIsomorph
       let here = keeps ts s q met in
       let (p, gives) = given s' (arc_in_range a c.first.in_range s t s' x).2 in
       let led = (iso.arcs s s' q p t u here gives name).0 x in
-      subst (Gives m s') (c.second_fork_free.one_target q u p q' led y) gives
+      subst (Gives m s') (c.second_flawless.fork_free.one_target q u p q' led y) gives
 
   -- two states of the first don't have one of the second
   one_giver : (s r q : ℕ) → Gives m s q → Gives m r q → s ≡ r
@@ -75,13 +75,13 @@ module _ (a b : System) (c : AreComparable a b) (m : List ℕ) (iso : IsIsomorph
     pub met_with : (r : ℕ) → IsReachable a r → (v : List ℕ) × (p : ℕ) × Meets a b v r p
     met_with r (ts, path) = reached ts [] a.initial b.initial r at_first path
 
--- two isomorphisms are one, where all states can be reached
-pub one_isomorphism : (a b : System) → AreComparable a b → HaveSameLabels a b → IsAllReachable a → (m n : List ℕ) → IsIsomorphismTo a b m → IsIsomorphismTo a b n → m ≡ n
-one_isomorphism a b c same all m n i j = ext_get_or 0 m n (i.one_each ∙ sym j.one_each) at
+-- two isomorphisms are one
+pub one_isomorphism : (a b : System) → AreComparable a b → HaveSameLabels a b → (m n : List ℕ) → IsIsomorphismTo a b m → IsIsomorphismTo a b n → m ≡ n
+one_isomorphism a b c same m n i j = ext_get_or 0 m n (i.one_each ∙ sym j.one_each) at
   where
     at : (s : ℕ) → s < length m → get_or m s 0 ≡ get_or n s 0
     at s lt =
-        let (v, p, met) = met_with a b c m i same s (all.each s (let e = i.one_each in omega (arith, lt, e))) in
+        let (v, p, met) = met_with a b c m i same s (c.first_flawless.reachable.each s (let e = i.one_each in omega (arith, lt, e))) in
         get_or_from_slice_get m s p 0 (keeps a b c m i v s p met) ∙ sym (get_or_from_slice_get n s p 0 (keeps a b c n j v s p met))
 
 -- a label that one system alone has leaves no isomorphism

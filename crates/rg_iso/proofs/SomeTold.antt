@@ -3,7 +3,7 @@ use Rattle.std.proofs.Common.{◌≡◌, ◌⊎◌, inl, inr, ℕ, zero, suc, �
 use Rattle.std.proofs.Common.{[], ◌∷◌, length, map, Option, None, Some, slice_get, slice_index_or, Contains, refl, sym, ap, subst, ◌∙◌, arith}
 use Rattle.std.proofs.lemmas.Bool.{cases_lt, cases_eq}
 use Rattle.std.proofs.lemmas.Option.{same_Some, none-some, slice_get-get_or, get_or_from_slice_get}
-use Rattle.rg_theory.specs.System.{System, states, labels, HasArc, IsAllReachable}
+use Rattle.rg_theory.specs.System.{System, states, labels, HasArc}
 use Rattle.rg_theory.proofs.Arcs.{find_arc}
 use Rattle.rg_theory.proofs.Lists.{slice_get_some}
 use Rattle.rg_decided.proofs.Deciding.{Decided, holds, there_or_not, same_list, find_number}
@@ -131,19 +131,19 @@ module _ (a b : System) (c : AreComparable a b) (same : HaveSameLabels a b) wher
       let (m, e) = given xs (λ s lt. each (suc s) (omega arith)) in
       (q ∷ m, λ i. sym is i ∷ e i)
 
-  some_walk : IsAllReachable a → IsAllReachable b → (told : Told) × Compares a b told
-  some_walk reached reached' = by (walk (states a) (first_pairs a b c) 0 (omega arith) (first_followed a b c))
+  some_walk : (told : Told) × Compares a b told
+  some_walk = by (walk (states a) (first_pairs a b c) 0 (omega arith) (first_followed a b c))
     where
       by : Whole ⊎ Differ → (told : Told) × Compares a b told
       by (inr (d, first)) = (as_difference d, by_difference d same first)
       by (inl (p, n, w)) =
-          let (m, is) = given p.partners (each_has a b c same p n w reached) in
-          (as_map m, by_map m same (isomorphism a b c same p n w m is reached'))
+          let (m, is) = given p.partners (each_has a b c same p n w) in
+          (as_map m, by_map m same (isomorphism a b c same p n w m is))
 
-pub some_told : (a b : System) → AreComparable a b → IsAllReachable a → IsAllReachable b → (told : Told) × Compares a b told
-some_told a b c reached reached' = by (first_alone_or_none a b) (first_alone_or_none b a)
+pub some_told : (a b : System) → AreComparable a b → (told : Told) × Compares a b told
+some_told a b c = by (first_alone_or_none a b) (first_alone_or_none b a)
   where
     by : ((t : ℕ) × IsFirstAlone a b t) ⊎ HasLabelsOf a b → ((t : ℕ) × IsFirstAlone b a t) ⊎ HasLabelsOf b a → (told : Told) × Compares a b told
     by (inl (t, alone)) _ = (as_label 1 t, by_first t alone)
     by (inr has) (inl (t, alone)) = (as_label 2 t, by_second t has alone)
-    by (inr has) (inr has') = some_walk a b c (record { same = λ name. (has name, has' name) }) reached reached'
+    by (inr has) (inr has') = some_walk a b c (record { same = λ name. (has name, has' name) })

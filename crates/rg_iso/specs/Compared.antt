@@ -1,6 +1,7 @@
 -- The result of comparing two systems.
 use Rattle.std.specs.Prelude.{◌≡◌, ℕ, ◌<◌, List, Contains, Some, slice_get}
-use Rattle.rg_theory.specs.System.{System, IsForkFree}
+use Rattle.rg_theory.specs.System.{System}
+use Rattle.rg_checks.specs.Flaws.{IsFlawless}
 pub use Rattle.rg_checks.specs.Flaws.{IsFlawless as IsJudged}
 use Rattle.rg_lts.specs.WellFormed.{IsWellFormed}
 use Rattle.rg_iso.specs.Isomorphic.{HaveSameLabels, IsIsomorphismTo}
@@ -8,12 +9,12 @@ use Rattle.rg_iso.specs.Words.{Difference, Difference.step as by_step, Differenc
 use Rattle.rg_iso.specs.declared.same.Same.{Same}
 use Rattle.rg_iso.specs.declared.same.Same.TheVariants.{Map, Label, Step, Target}
 
--- what is known of two systems in memory without a fork
+-- what is known of two flawless systems in memory
 pub record AreComparable (a b : System) : Type 0 where
   pub first : IsWellFormed a
   pub second : IsWellFormed b
-  pub first_fork_free : IsForkFree a
-  pub second_fork_free : IsForkFree b
+  pub first_flawless : IsFlawless a
+  pub second_flawless : IsFlawless b
 
 -- label t of the one system is the first whose name the other hasn't
 pub record IsFirstAlone (a b : System) (t : ℕ) : Type 0 where

@@ -1,13 +1,13 @@
 //! Comparing two systems.
 ghost use Rattle.std.specs.Prelude.{◌≡◌, ◌↔◌, ◌<◌, ◌+◌, ℕ, length, slice_index, IfOk, IfSome, IfNone, OnOk};
-ghost use Rattle.rg_theory.specs.System.{labels, IsAllReachable};
+ghost use Rattle.rg_theory.specs.System.{labels};
 ghost use Rattle.rg_checks.specs.Flaws.{IsFlawless};
 ghost use Rattle.rg_iso.specs.Isomorphic.{HaveSameLabels, HaveOneName, AreIsomorphic};
 ghost use Rattle.rg_iso.specs.Compared.{AreComparable, told_of, Compares, IsTold, IsMap};
 ghost use Rattle.rg_iso.specs.Pairing.{pairs_in, IsFollowedTo};
 
 use crate::labels::{first_alone, namesakes};
-use crate::pairing::{Pairing, become_pair, first_pair, mapped};
+use crate::pairing::{Pairing, become_pair, first_pair, map_of};
 use crate::same::Same;
 use rg_lts::Lts;
 use rg_memory::NoMemory;
@@ -38,8 +38,6 @@ pub fn compare(alloc: Global, a: &Lts, b: &Lts) -> Result<Same, NoMemory>
 // The same of systems with the same label names, of which the first one's have these numbers in the second.
 fn walk(alloc: Global, a: &Lts, b: &Lts, numbers: &[u32]) -> Result<Same, NoMemory>
     requires comparable { AreComparable a.now b.now }
-    requires first { IsAllReachable a.now }
-    requires second { IsAllReachable b.now }
     requires labels { HaveSameLabels a.now b.now }
     requires long { length numbers.now ≡ labels a.now }
     requires each { (t : ℕ) → t < labels a.now → HaveOneName a.now b.now t (slice_index numbers.now t) }
@@ -53,7 +51,7 @@ fn walk(alloc: Global, a: &Lts, b: &Lts, numbers: &[u32]) -> Result<Same, NoMemo
         }
         index += 1;
     }
-    Ok(Same::Map(mapped(alloc, &pairing.partners)?))
+    Ok(Same::Map(map_of(alloc, &pairing.partners)?))
 }
 
 // The first difference at a pair; or all labels lead on from it to pairs.

@@ -1,6 +1,6 @@
 //! Pairs of systems with the result of their comparison, each worked by hand.
 use crate::samples::STILL;
-use rg_checks::{first_fork, first_unreachable};
+use rg_checks::first_flaw;
 use rg_iso::{Same, compare};
 use rg_samples::{ABA, CHOICE, DEAD, LOOP, LOOP_AND_STEP, THERE_AND_BACK, system};
 use std::alloc::Global;
@@ -20,19 +20,14 @@ const BOTH: &str = ".type LTS .states x[initial] .labels b a .arcs x a x x b x";
 
 const MERGE: &str = ".type LTS .states t0[initial] t1 .labels a b .arcs t0 a t1 t0 b t1";
 
-// The result of comparing the systems of two texts, where both are judged.
+// The result of comparing the systems of two texts, where both are flawless.
 fn told(alloc: Global, first: &str, second: &str) -> Option<Same> {
     let a = system(alloc, first)?;
     let b = system(alloc, second)?;
-    if let (Ok(None), None, Ok(None), None) = (
-        first_unreachable(alloc, &a),
-        first_fork(&a),
-        first_unreachable(alloc, &b),
-        first_fork(&b),
-    ) {
-        return compare(alloc, &a, &b).ok();
+    match (first_flaw(alloc, &a), first_flaw(alloc, &b)) {
+        (Ok(None), Ok(None)) => compare(alloc, &a, &b).ok(),
+        _ => None,
     }
-    None
 }
 
 // Whether the systems are isomorphic by this map.

@@ -1,10 +1,12 @@
-//! Tests of single calls: whether two systems are isomorphic, the counterexamples of properties, and the report on a system.
+//! Tests of single calls: whether two systems are isomorphic, the flaws of a system, the counterexamples of properties, and the report on it.
 #![tactic(auto)]
 
 #[cfg(test)]
 mod comparisons;
 #[cfg(test)]
 mod counterexamples;
+#[cfg(test)]
+mod flaws;
 #[cfg(test)]
 mod reports;
 #[cfg(test)]

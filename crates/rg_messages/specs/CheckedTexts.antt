@@ -1,11 +1,14 @@
 -- The lines that `check` writes to out.
 use Rattle.std.specs.Prelude.{ℕ, ◌<◌, List, ◌++◌, codes, decimal}
 use Rattle.rg_theory.specs.System.{System, states, labels}
+use Rattle.rg_checks.specs.declared.flaw.Flaw.TheVariants as flaw
+use Rattle.rg_checks.specs.Flaws.{IsFlawInRange, fork_of}
 use Rattle.rg_net.specs.declared.class_break.ClassBreak.{ClassBreak}
 use Rattle.rg_net.specs.declared.class_break.ClassBreak.TheVariants.{NotPure, NotPlain, Over, Branching, NotMultiple}
 use Rattle.rg_net_verdict.specs.declared.verdict.NetNo.{NetNo}
 use Rattle.rg_net_verdict.specs.declared.verdict.NetNo.TheVariants.{Unreachable, Fork, NotEnabled, SameMarking, Enabled, WrongStep, Class}
 use Rattle.rg_cert.specs.Text.{state_name, label_name}
+use Rattle.rg_messages.specs.FlawTexts.{step_text, flaw_words}
 
 -- the net solves the system and is of the class
 abbrev pub yes_line : List ℕ
@@ -21,17 +24,13 @@ HasBreakNames lts (NotMultiple p) = Unit {0}
 
 -- the states and labels of a difference are the system's
 abbrev pub HasNames : System → NetNo → Type 0
-HasNames lts (Unreachable s) = s < states lts
-HasNames lts (Fork s t s₁ s₂) = (s < states lts) × (t < labels lts) × (s₁ < states lts) × (s₂ < states lts)
+HasNames lts (Unreachable s) = IsFlawInRange lts (flaw.Unreachable s)
+HasNames lts (Fork s t s₁ s₂) = IsFlawInRange lts (flaw.Fork (fork_of s t s₁ s₂))
 HasNames lts (NotEnabled s t) = (s < states lts) × (t < labels lts)
 HasNames lts (SameMarking s s') = (s < states lts) × (s' < states lts)
 HasNames lts (Enabled s t) = (s < states lts) × (t < labels lts)
 HasNames lts (WrongStep s t) = (s < states lts) × (t < labels lts)
 HasNames lts (Class b) = HasBreakNames lts b
-
--- a state and a label
-abbrev pub step_text : System → ℕ → ℕ → List ℕ
-step_text lts s t = state_name lts s ++ codes " " ++ label_name lts t
 
 -- a place, by its number, and a label
 abbrev pub weight_text : System → ℕ → ℕ → List ℕ
@@ -47,8 +46,8 @@ break_text lts (NotMultiple p) = codes "not multiple place " ++ decimal p
 
 -- the first difference
 abbrev pub no_text : System → NetNo → List ℕ
-no_text lts (Unreachable s) = codes "unreachable " ++ state_name lts s
-no_text lts (Fork s t s₁ s₂) = codes "fork " ++ step_text lts s t ++ codes " " ++ state_name lts s₁ ++ codes " " ++ state_name lts s₂
+no_text lts (Unreachable s) = flaw_words lts (flaw.Unreachable s)
+no_text lts (Fork s t s₁ s₂) = flaw_words lts (flaw.Fork (fork_of s t s₁ s₂))
 no_text lts (NotEnabled s t) = codes "not enabled " ++ step_text lts s t
 no_text lts (SameMarking s s') = codes "same marking " ++ state_name lts s ++ codes " " ++ state_name lts s'
 no_text lts (Enabled s t) = codes "enabled " ++ step_text lts s t

@@ -5,7 +5,8 @@ use Rattle.rg_theory.specs.System.{System, states, labels}
 use Rattle.rg_cert.specs.Text.{state_name, label_name}
 use Rattle.rg_iso.specs.Words.{Difference, Difference.step as by_step, Difference.target as by_target}
 use Rattle.rg_iso.specs.Compared.{Told, Told.map as as_map, Told.label as as_label, Told.differs as as_difference}
-use Rattle.rg_messages.specs.CheckedTexts.{yes_line, step_text}
+use Rattle.rg_messages.specs.CheckedTexts.{yes_line}
+use Rattle.rg_messages.specs.FlawTexts.{step_text}
 
 -- the name of state s of the one system and that of state q of the other
 abbrev pub pair_line : System → System → ℕ → ℕ → List ℕ
@@ -33,14 +34,6 @@ abbrev pub told_text : System → System → Told → List ℕ
 told_text a b (as_map map) = map_text a b map
 told_text a b (as_label file t) = codes "no: label file " ++ decimal file ++ codes " " ++ label_name (numbered a b file) t ++ codes "\n"
 told_text a b (as_difference d) = codes "no: " ++ difference_text a b d ++ codes "\n"
-
--- the system of the file with this number isn't judged: a state can't be reached, or a label leads from a state to two
-abbrev pub unreachable_line : ℕ → System → ℕ → List ℕ
-unreachable_line file lts s = codes "no: file " ++ decimal file ++ codes ": " ++ codes "unreachable " ++ state_name lts s ++ codes "\n"
-
-abbrev pub fork_line : ℕ → System → ℕ → ℕ → ℕ → ℕ → List ℕ
-fork_line file lts s t s₁ s₂ =
-    codes "no: file " ++ decimal file ++ codes ": " ++ codes "fork " ++ step_text lts s t ++ codes " " ++ state_name lts s₁ ++ codes " " ++ state_name lts s₂ ++ codes "\n"
 
 -- the map has one state of the second system for each of the first
 abbrev pub HasPairNames : System → System → List ℕ → Type 0

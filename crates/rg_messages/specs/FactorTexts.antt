@@ -2,18 +2,9 @@
 use Rattle.std.specs.Prelude.{ℕ, ◌+◌, List, [], ◌∷◌, ◌++◌, length, codes, decimal}
 use Rattle.std.specs.List.{flat_map, range_with_len}
 use Rattle.rg_theory.specs.System.{System, states}
-use Rattle.rg_net_verdict.specs.declared.verdict.NetNo.TheVariants.{Unreachable, Fork}
 use Rattle.rg_product.specs.declared.Broken.{Broken}
 use Rattle.rg_product.specs.Product.{Factor, tuple_of}
 use Rattle.rg_cert.specs.Text.{state_name, label_name}
-use Rattle.rg_messages.specs.CheckedTexts.{no_line}
-
--- a state that can't be reached, and a fork; `check` has the same lines
-abbrev pub unreachable_line : System → ℕ → List ℕ
-unreachable_line lts s = no_line lts (Unreachable s)
-
-abbrev pub fork_line : System → ℕ → ℕ → ℕ → ℕ → List ℕ
-fork_line lts s t s₁ s₂ = no_line lts (Fork s t s₁ s₂)
 
 -- each of the names after a space
 abbrev pub names_text : List (List ℕ) → List ℕ

@@ -5,6 +5,7 @@ pub mod JudgedTexts
 pub mod CheckedTexts
 pub mod ComparedTexts
 pub mod FactorTexts
+pub mod FlawTexts
 pub mod SplitTexts
 pub mod LostTexts
 pub mod TrialTexts

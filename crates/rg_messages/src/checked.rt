@@ -1,10 +1,12 @@
 //! The lines of `check`.
 ghost use Rattle.std.specs.Prelude.{◌≡◌, ◌<◌, ◌++◌, IfOk, OnOk, codes, decimal};
-ghost use Rattle.rg_theory.specs.System.{states, labels};
-ghost use Rattle.rg_cert.specs.Text.{state_name, label_name};
-ghost use Rattle.rg_messages.specs.CheckedTexts.{yes_line, no_text, no_line, step_text, weight_text, break_text, HasNames, HasBreakNames};
+ghost use Rattle.rg_theory.specs.System.{labels};
+ghost use Rattle.rg_cert.specs.Text.{label_name};
+ghost use Rattle.rg_messages.specs.CheckedTexts.{yes_line, no_text, no_line, weight_text, break_text, HasNames, HasBreakNames};
 
-use crate::pieces::{push_label, push_number, push_state};
+use crate::flaw::push_flaw;
+use crate::pieces::{push_label, push_number, push_state, push_states, push_step};
+use rg_checks::{Flaw, Fork};
 use rg_lts::Lts;
 use rg_net::ClassBreak;
 use rg_net_verdict::NetNo;
@@ -35,10 +37,15 @@ fn push_no(text: &mut Vec<u8>, lts: &Lts, found: NetNo) -> Result<(), AllocError
     ensures { OnOk result (text.new.items ≡ text.old.items ++ no_text lts.now found) }
 {
     match found {
-        NetNo::Unreachable(s) => push_state(text, b"unreachable ", lts, s),
-        NetNo::Fork(s, t, first, second) => {
-            push_step(text, b"fork ", lts, s, t)?;
-            push_states(text, b" ", lts, first, second)
+        NetNo::Unreachable(s) => push_flaw(text, lts, Flaw::Unreachable(s)),
+        NetNo::Fork(from, label, to, other) => {
+            let fork = Fork {
+                from,
+                label,
+                to,
+                other,
+            };
+            push_flaw(text, lts, Flaw::Fork(fork))
         }
         NetNo::NotEnabled(s, t) => push_step(text, b"not enabled ", lts, s, t),
         NetNo::SameMarking(s, r) => push_states(text, b"same marking ", lts, s, r),
@@ -46,38 +53,6 @@ fn push_no(text: &mut Vec<u8>, lts: &Lts, found: NetNo) -> Result<(), AllocError
         NetNo::WrongStep(s, t) => push_step(text, b"wrong step ", lts, s, t),
         NetNo::Class(broken) => push_break(text, lts, broken),
     }
-}
-
-// Adds words, a state and a label.
-pub(crate) fn push_step(
-    text: &mut Vec<u8>,
-    words: &[u8],
-    lts: &Lts,
-    s: u32,
-    t: u32,
-) -> Result<(), AllocError>
-    requires state { s < states lts.now }
-    requires label { t < labels lts.now }
-    ensures { OnOk result (text.new.items ≡ text.old.items ++ (words.now ++ step_text lts.now s t)) }
-{
-    push_state(text, words, lts, s)?;
-    push_label(text, b" ", lts, t)
-}
-
-// Adds words and two states.
-pub(crate) fn push_states(
-    text: &mut Vec<u8>,
-    words: &[u8],
-    lts: &Lts,
-    s: u32,
-    r: u32,
-) -> Result<(), AllocError>
-    requires first { s < states lts.now }
-    requires second { r < states lts.now }
-    ensures { OnOk result (text.new.items ≡ text.old.items ++ (words.now ++ state_name lts.now s ++ codes " " ++ state_name lts.now r)) }
-{
-    push_state(text, words, lts, s)?;
-    push_state(text, b" ", lts, r)
 }
 
 // Adds a break of the class.

@@ -3,49 +3,13 @@ ghost use Rattle.std.specs.Prelude.{◌≡◌, ◌<◌, ◌++◌, ◌∷◌, [],
 ghost use Rattle.rg_theory.specs.System.{System, states, labels, IsInRange};
 ghost use Rattle.rg_cert.specs.Text.{label_name};
 ghost use Rattle.rg_iso.specs.Compared.{Told, Compares, told_of};
-ghost use Rattle.rg_messages.specs.CheckedTexts.{step_text};
-ghost use Rattle.rg_messages.specs.ComparedTexts.{numbered as numbered_of, pair_line, map_text as text_of_map, told_text, unreachable_line, fork_line, HasPairNames, HasToldNames};
+ghost use Rattle.rg_messages.specs.FlawTexts.{step_text};
+ghost use Rattle.rg_messages.specs.ComparedTexts.{numbered as numbered_of, pair_line, map_text as text_of_map, told_text, HasPairNames, HasToldNames};
 
-use crate::checked::{push_states, push_step};
-use crate::pieces::{push_label, push_number, push_state};
+use crate::pieces::{push_label, push_number, push_state, push_step};
 use rg_iso::Same;
 use rg_lts::Lts;
 use std::alloc::{AllocError, Global};
-
-/// The line that says that the system of the file with this number isn't judged, since state `s` can't be reached.
-pub fn unreachable_text(alloc: Global, file: u8, lts: &Lts, s: u32) -> Result<Vec<u8>, AllocError>
-    requires { s < states lts.now }
-    ensures { IfOk result (λ text. text.items ≡ unreachable_line file lts.now s) }
-{
-    let mut text = Vec::new(alloc);
-    push_number(&mut text, b"no: file ", u64::from(file))?;
-    push_state(&mut text, b": unreachable ", lts, s)?;
-    text.push(b'\n')?;
-    Ok(text)
-}
-
-/// The line that says that the system of the file with this number isn't judged, since a label leads from a state to two: the state,
-/// the label and the two states.
-pub fn fork_text(
-    alloc: Global,
-    file: u8,
-    lts: &Lts,
-    fork: (u32, u32, u32, u32),
-) -> Result<Vec<u8>, AllocError>
-    requires from { fork.0 < states lts.now }
-    requires label { fork.1 < labels lts.now }
-    requires first { fork.2 < states lts.now }
-    requires second { fork.3 < states lts.now }
-    ensures { IfOk result (λ text. text.items ≡ fork_line file lts.now fork.0 fork.1 fork.2 fork.3) }
-{
-    let (s, t, first, second) = fork;
-    let mut text = Vec::new(alloc);
-    push_number(&mut text, b"no: file ", u64::from(file))?;
-    push_step(&mut text, b": fork ", lts, s, t)?;
-    push_states(&mut text, b" ", lts, first, second)?;
-    text.push(b'\n')?;
-    Ok(text)
-}
 
 /// Returns the text of a comparison of two systems: `yes` and a line for each state of the first with its state of
 /// the second, or the first difference.

@@ -32,4 +32,4 @@ not_passes lts net tree w fine same is bounded x =
 pub yes_comes : (lts : System) (net : Net) (class : Class) (v : Told) → IsInRange lts → net.labels ≡ labels lts → Solves net lts → InClass net class → IsBounded net greatest → IsVerdict lts net class v → v ≡ Ok Yes
 yes_comes lts net class (Ok Yes) fine same sol inside bounded verdict = refl
 yes_comes lts net class (Ok (No n)) fine same sol inside bounded verdict = absurd (no_is_sound lts net class n fine same verdict sol inside)
-yes_comes lts net class (Err w) fine same sol inside bounded (reach, one, tree, is, passes) = absurd (not_passes lts net tree w fine same is bounded passes)
+yes_comes lts net class (Err w) fine same sol inside bounded (flawless, tree, is, passes) = absurd (not_passes lts net tree w fine same is bounded passes)

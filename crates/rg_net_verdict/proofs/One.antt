@@ -5,12 +5,16 @@ use Rattle.std.proofs.lemmas.Bool.{cases_lt}
 use Rattle.std.proofs.lemmas.Option.{slice_get_within, same_Some}
 use Rattle.rg_theory.specs.declared.Arc.{Arc}
 use Rattle.rg_theory.specs.declared.Class.{Class}
-use Rattle.rg_theory.specs.System.{System, states, labels, HasArc, IsInRange, IsAllReachable, IsForkFree, IsLeastUnreachable, IsLeastFork}
+use Rattle.rg_theory.specs.System.{System, states, labels, HasArc, IsInRange, IsForkFree}
 use Rattle.rg_theory.specs.Net.{Place, Net, Marking, pre_weight, post_weight, tokens, IsEnabled, Fires, FiresAll, start_marking}
 use Rattle.rg_theory.specs.Tree.{IsTree, way_to}
 use Rattle.rg_theory.proofs.Arcs.{arc_in_range}
 use Rattle.rg_theory.proofs.Firing.{fires_once}
 use Rattle.rg_theory.proofs.Trees.{same_tree}
+use Rattle.rg_checks.specs.declared.flaw.Flaw.{Flaw}
+use Rattle.rg_checks.specs.declared.flaw.Flaw.TheVariants as flaw
+use Rattle.rg_checks.specs.Flaws.{IsFlawless, IsFirstFlaw, fork_of}
+use Rattle.rg_checks.proofs.FirstFlaws.{not_flawless}
 use Rattle.rg_integers.specs.declared.term.Wide.{Wide}
 use Rattle.std.proofs.lemmas.List.FromFn.{length-map-range_with_len, get_or-map-range_with_len}
 use Rattle.rg_net.specs.Firing.{left_on, StaysInRange}
@@ -22,7 +26,7 @@ use Rattle.rg_net_verdict.specs.declared.verdict.CheckWide.{CheckWide}
 use Rattle.rg_net_verdict.specs.declared.verdict.NetVerdict.TheVariants.{Yes, No}
 use Rattle.rg_net_verdict.specs.declared.verdict.NetNo.TheVariants.{Unreachable, Fork, NotEnabled, SameMarking, Enabled, WrongStep, Class as OfClass}
 use Rattle.rg_net_verdict.specs.Markings.{IsMarkingOf, IsTreeArc, FireBefore}
-use Rattle.rg_net_verdict.specs.Verdict.{Told, IsStuckInTree, PassesInTree, AreTold, AreFirstSame, HaveMarkings, AllDiffer, IsRightAt, stops, steps, AreRightBefore, list_of, Tells, IsVerdict}
+use Rattle.rg_net_verdict.specs.Verdict.{Told, IsStuckInTree, PassesInTree, AreTold, AreFirstSame, HaveMarkings, AllDiffer, IsRightAt, stops, steps, AreRightBefore, list_of, no_of, Tells, IsVerdict}
 
 -- labels lead from a marking to one marking
 pub runs_once : (net : Net) (m : Marking) (ts : List ℕ) (a b : Marking) → FiresAll net m ts a → FiresAll net m ts b → a ≡ b
@@ -357,51 +361,32 @@ module _ (lts : System) (net : Net) (tree : List Arc) (class : Class) (fine : Is
   one_stage v w (is_fine h e y right z) (breaking k b f y' right' z') = absurd (no_break net (list_of lts h) class b z (subst (λ l. IsBreak net l class b) (sym (same_list lts h k (same_at h k y.have y'.have))) z'.breaks))
   one_stage v w (is_fine h e y right z) (is_fine k f y' right' z') = e ∙ sym f
 
--- an unreachable state, a fork, or neither
+-- the first flaw, or what is told of a flawless system
 data Top (lts : System) (net : Net) (class : Class) (v : Told) : Type 0 where
-  lacks : (s : ℕ) → v ≡ Ok (No (Unreachable s)) → IsLeastUnreachable lts s → Top lts net class v
-  forks : (s t s₁ s₂ : ℕ) → v ≡ Ok (No (Fork s t s₁ s₂)) → IsAllReachable lts → IsLeastFork lts s t s₁ s₂ → Top lts net class v
-  neither : (tree : List Arc) → IsAllReachable lts → IsForkFree lts → IsTree lts tree → Stage lts net tree class v → Top lts net class v
+  flawed : (f : Flaw) → v ≡ Ok (No (no_of f)) → IsFirstFlaw lts f → Top lts net class v
+  flawless : (tree : List Arc) → IsFlawless lts → IsTree lts tree → Stage lts net tree class v → Top lts net class v
 
 top_of : (lts : System) (net : Net) (class : Class) → IsInRange lts → (v : Told) → IsVerdict lts net class v → Top lts net class v
-top_of lts net class fine (Ok (No (Unreachable s))) least = lacks s refl least
-top_of lts net class fine (Ok (No (Fork s t s₁ s₂))) (reach, least) = forks s t s₁ s₂ refl reach least
-top_of lts net class fine (Ok Yes) (reach, one, tree, is, tells) = neither tree reach one is (stage_of lts net tree class fine one (Ok Yes) tells)
-top_of lts net class fine (Ok (No (NotEnabled s t))) (reach, one, tree, is, tells) = neither tree reach one is (stage_of lts net tree class fine one (Ok (No (NotEnabled s t))) tells)
-top_of lts net class fine (Ok (No (SameMarking s s'))) (reach, one, tree, is, tells) = neither tree reach one is (stage_of lts net tree class fine one (Ok (No (SameMarking s s'))) tells)
-top_of lts net class fine (Ok (No (Enabled s t))) (reach, one, tree, is, tells) = neither tree reach one is (stage_of lts net tree class fine one (Ok (No (Enabled s t))) tells)
-top_of lts net class fine (Ok (No (WrongStep s t))) (reach, one, tree, is, tells) = neither tree reach one is (stage_of lts net tree class fine one (Ok (No (WrongStep s t))) tells)
-top_of lts net class fine (Ok (No (OfClass b))) (reach, one, tree, is, tells) = neither tree reach one is (stage_of lts net tree class fine one (Ok (No (OfClass b))) tells)
-top_of lts net class fine (Err w) (reach, one, tree, is, tells) = neither tree reach one is (stage_of lts net tree class fine one (Err w) tells)
+top_of lts net class fine (Ok (No (Unreachable s))) first = flawed (flaw.Unreachable s) refl first
+top_of lts net class fine (Ok (No (Fork s t s₁ s₂))) first = flawed (flaw.Fork (fork_of s t s₁ s₂)) refl first
+top_of lts net class fine (Ok Yes) (known, tree, is, tells) = flawless tree known is (stage_of lts net tree class fine known.fork_free (Ok Yes) tells)
+top_of lts net class fine (Ok (No (NotEnabled s t))) (known, tree, is, tells) = flawless tree known is (stage_of lts net tree class fine known.fork_free (Ok (No (NotEnabled s t))) tells)
+top_of lts net class fine (Ok (No (SameMarking s s'))) (known, tree, is, tells) = flawless tree known is (stage_of lts net tree class fine known.fork_free (Ok (No (SameMarking s s'))) tells)
+top_of lts net class fine (Ok (No (Enabled s t))) (known, tree, is, tells) = flawless tree known is (stage_of lts net tree class fine known.fork_free (Ok (No (Enabled s t))) tells)
+top_of lts net class fine (Ok (No (WrongStep s t))) (known, tree, is, tells) = flawless tree known is (stage_of lts net tree class fine known.fork_free (Ok (No (WrongStep s t))) tells)
+top_of lts net class fine (Ok (No (OfClass b))) (known, tree, is, tells) = flawless tree known is (stage_of lts net tree class fine known.fork_free (Ok (No (OfClass b))) tells)
+top_of lts net class fine (Err w) (known, tree, is, tells) = flawless tree known is (stage_of lts net tree class fine known.fork_free (Err w) tells)
 
-least_once : (lts : System) (s r : ℕ) → IsLeastUnreachable lts s → IsLeastUnreachable lts r → s ≡ r
-least_once lts s r a b = by (trichotomy s r)
-  where
-    by : (s < r) ⊎ ((r < s) ⊎ (s ≡ r)) → s ≡ r
-    by (inl less) = absurd (a.unreachable (b.least s less))
-    by (inr (inl less)) = absurd (b.unreachable (a.least r less))
-    by (inr (inr e)) = e
+-- first flaws are one
+abbrev pub OneFlaw : Type 0
+OneFlaw = (lts : System) (f g : Flaw) → IsFirstFlaw lts f → IsFirstFlaw lts g → f ≡ g
 
-no_fork : (lts : System) (s t s₁ s₂ : ℕ) → IsForkFree lts → IsLeastFork lts s t s₁ s₂ → ⊥
-no_fork lts s t s₁ s₂ one least = least.fork.2 (one.one_target s t s₁ s₂ least.fork.0 least.fork.1)
+one_top : OneFlaw → (lts : System) (net : Net) (class : Class) → IsInRange lts → (v w : Told) → Top lts net class v → Top lts net class w → v ≡ w
+one_top law lts net class fine v w (flawed f e x) (flawed g e' y) = e ∙ ap (λ h. Ok (No (no_of h))) (law lts f g x y) ∙ sym e'
+one_top law lts net class fine v w (flawed f e x) (flawless tree known is y) = absurd (not_flawless lts f x known)
+one_top law lts net class fine v w (flawless tree known is x) (flawed g e' y) = absurd (not_flawless lts g y known)
+one_top law lts net class fine v w (flawless tree known is x) (flawless tree' known' is' y) =
+    one_stage lts net tree class fine known.fork_free v w x (subst (λ l. Stage lts net l class w) (sym (same_tree lts (lts.initial ∷ []) tree tree' is is')) y)
 
--- least forks are one
-abbrev pub OneFork : Type 0
-OneFork = (lts : System) (s t a b s' t' a' b' : ℕ) → IsLeastFork lts s t a b → IsLeastFork lts s' t' a' b' → (s ≡ s') × (t ≡ t') × (a ≡ a') × (b ≡ b')
-
-one_top : OneFork → (lts : System) (net : Net) (class : Class) → IsInRange lts → (v w : Told) → Top lts net class v → Top lts net class w → v ≡ w
-one_top law lts net class fine v w (lacks s e x) (lacks r f y) = e ∙ ap (λ i. Ok (No (Unreachable i))) (least_once lts s r x y) ∙ sym f
-one_top law lts net class fine v w (lacks s e x) (forks r t r₁ r₂ f reach y) = absurd (x.unreachable (reach.each s x.state))
-one_top law lts net class fine v w (lacks s e x) (neither tree reach one is y) = absurd (x.unreachable (reach.each s x.state))
-one_top law lts net class fine v w (forks s t s₁ s₂ e reach x) (lacks r f y) = absurd (y.unreachable (reach.each r y.state))
-one_top law lts net class fine v w (forks s t s₁ s₂ e reach x) (forks r u r₁ r₂ f reach' y) =
-    let (p, q, m, n) = law lts s t s₁ s₂ r u r₁ r₂ x y in
-    e ∙ ap (λ i. Ok (No (Fork i t s₁ s₂))) p ∙ ap (λ i. Ok (No (Fork r i s₁ s₂))) q ∙ ap (λ i. Ok (No (Fork r u i s₂))) m ∙ ap (λ i. Ok (No (Fork r u r₁ i))) n ∙ sym f
-one_top law lts net class fine v w (forks s t s₁ s₂ e reach x) (neither tree reach' one is y) = absurd (no_fork lts s t s₁ s₂ one x)
-one_top law lts net class fine v w (neither tree reach one is x) (lacks r f y) = absurd (y.unreachable (reach.each r y.state))
-one_top law lts net class fine v w (neither tree reach one is x) (forks r u r₁ r₂ f reach' y) = absurd (no_fork lts r u r₁ r₂ one y)
-one_top law lts net class fine v w (neither tree reach one is x) (neither tree' reach' one' is' y) =
-    one_stage lts net tree class fine one v w x (subst (λ l. Stage lts net l class w) (sym (same_tree lts (lts.initial ∷ []) tree tree' is is')) y)
-
-pub one_verdict : OneFork → (lts : System) (net : Net) (class : Class) (v w : Told) → IsInRange lts → IsVerdict lts net class v → IsVerdict lts net class w → v ≡ w
+pub one_verdict : OneFlaw → (lts : System) (net : Net) (class : Class) (v w : Told) → IsInRange lts → IsVerdict lts net class v → IsVerdict lts net class w → v ≡ w
 one_verdict law lts net class v w fine x y = one_top law lts net class fine v w (top_of lts net class fine v x) (top_of lts net class fine w y)

@@ -114,8 +114,8 @@ module _ (lts : System) (net : Net) (tree : List Arc) (fine : IsInRange lts) (sa
     label : a.label < net.labels
     label = subst (λ n. a.label < n) (sym same) (arc_in_range lts fine a.from a.label a.to grown.0.has).1
 
-    fired : (m after : Marking) → IsMarkingOf net tree a.from m → Fires net m a.label after → StaysInRange net m a.label → SoFar (suc i)
-    fired m after source fires stays = record {
+    fire_along : (m after : Marking) → IsMarkingOf net tree a.from m → Fires net m a.label after → StaysInRange net m a.label → SoFar (suc i)
+    fire_along m after source fires stays = record {
       met = f.met ++ a.to ∷ [];
       grows = grown.1;
       initial = Contains-append_left f.met (a.to ∷ []) lts.initial f.initial;
@@ -149,7 +149,7 @@ module _ (lts : System) (net : Net) (tree : List Arc) (fine : IsInRange lts) (sa
           },
           record { i = i; a = a; m = m; here = record { at = at; source = source }; state = refl; enabled = on; before = f.fire; passed = passed; shown = refl },
         ))
-        by m source (inl on) (inl stays) = let (after, fires) = fires_enabled net m a.label label on in inl (fired m after source fires stays)
+        by m source (inl on) (inl stays) = let (after, fires) = fires_enabled net m a.label label on in inl (fire_along m after source fires stays)
 
   from_arc : (left i : ℕ) → i + left ≡ length tree → SoFar i → SoFar (length tree) ⊎ Halts
   from_arc zero i all f = let end : i ≡ length tree = omega arith in inl (subst SoFar end f)

@@ -3,23 +3,24 @@ use Rattle.std.proofs.Common.{◌≡◌, ◌≢◌, ◌⊎◌, inl, inr, ℕ, �
 use Rattle.std.proofs.lemmas.Bool.{cases_lt, cases_eq}
 use Rattle.rg_theory.specs.declared.Arc.{Arc}
 use Rattle.rg_theory.specs.declared.Class.{Class}
-use Rattle.rg_theory.specs.System.{System, states, labels, HasArc, IsInRange, IsAllReachable, IsLeastUnreachable, IsForkFree, IsLeastFork}
+use Rattle.rg_theory.specs.System.{System, states, labels, HasArc, IsInRange, IsAllReachable}
 use Rattle.rg_theory.specs.Net.{Place, Net, Marking, pre_weight, post_weight, tokens, IsEnabled, Fires}
 use Rattle.rg_theory.specs.Tree.{IsTree}
 use Rattle.rg_theory.proofs.Arcs.{find_arc}
 use Rattle.rg_theory.proofs.Lists.{each_or_some}
 use Rattle.rg_decided.proofs.Deciding.{Decided, same_list, each_or_first, find_pair, PairBefore}
 use Rattle.rg_decided.proofs.Growing.{some_tree}
-use Rattle.rg_decided.proofs.Reaching.{all_reached_or_not}
-use Rattle.rg_decided.proofs.Forking.{some_fork}
+use Rattle.rg_checks.specs.declared.flaw.Flaw.{Flaw}
+use Rattle.rg_checks.specs.Flaws.{IsFlawless, IsFirstFlaw}
+use Rattle.rg_checks.proofs.FirstFlaws.{some_flaw}
 use Rattle.rg_net.specs.declared.class_break.ClassBreak.{ClassBreak}
 use Rattle.rg_net.specs.ClassBreaks.{AreInClass, IsFirstBreak}
 use Rattle.rg_net_verdict.specs.declared.verdict.NetVerdict.TheVariants.{Yes, No}
 use Rattle.rg_net_verdict.specs.declared.verdict.NetNo.{NetNo}
-use Rattle.rg_net_verdict.specs.declared.verdict.NetNo.TheVariants.{Unreachable, Fork, NotEnabled, SameMarking, Enabled, WrongStep, Class as OfClass}
-use Rattle.rg_net_verdict.specs.Verdict.{Told, HaveMarkings, AreFirstSame, AllDiffer, IsRightAt, stops, steps, AreRightBefore, AreTold, list_of, Tells, IsVerdict}
+use Rattle.rg_net_verdict.specs.declared.verdict.NetNo.TheVariants.{NotEnabled, SameMarking, Enabled, WrongStep, Class as OfClass}
+use Rattle.rg_net_verdict.specs.Verdict.{Told, HaveMarkings, AreFirstSame, AllDiffer, IsRightAt, stops, steps, AreRightBefore, AreTold, list_of, no_of, Tells, IsVerdict}
 use Rattle.rg_net_verdict.specs.Wrong.{IsWrongAt, IsFirstWrong}
-use Rattle.rg_net_verdict.proofs.Telling.{tells_same, tells_wrong, verdict_no}
+use Rattle.rg_net_verdict.proofs.Telling.{tells_same, tells_wrong, verdict_flaw, verdict_no}
 use Rattle.rg_net_verdict.proofs.BreakOrNone.{class_or_break}
 use Rattle.rg_net_verdict.proofs.SomeMarkings.{enabled_or_not, Halts, marked_or_halts}
 
@@ -144,15 +145,13 @@ module _ (lts : System) (net : Net) (tree : List Arc) (class : Class) (fine : Is
       by (inr (inr (w, passes))) = (Err w, passes)
 
 pub some_verdict : (lts : System) (net : Net) (class : Class) → IsInRange lts → net.labels ≡ labels lts → (v : Told) × IsVerdict lts net class v
-some_verdict lts net class fine same = let (tree, is) = some_tree lts fine in by tree is (all_reached_or_not lts fine) (some_fork lts fine)
+some_verdict lts net class fine same = let (tree, is) = some_tree lts fine in by tree is (some_flaw lts fine)
   where
-    judged : (tree : List Arc) → IsTree lts tree → IsAllReachable lts → IsForkFree lts → (v : Told) × Tells lts net tree class v → (v : Told) × IsVerdict lts net class v
-    judged tree is reach one (Ok Yes, tells) = (Ok Yes, (reach, one, tree, is, tells))
-    judged tree is reach one (Ok (No n), tells) = (Ok (No n), verdict_no lts net tree class n reach one is tells)
-    judged tree is reach one (Err w, tells) = (Err w, (reach, one, tree, is, tells))
+    judged : (tree : List Arc) → IsTree lts tree → IsFlawless lts → (v : Told) × Tells lts net tree class v → (v : Told) × IsVerdict lts net class v
+    judged tree is flawless (Ok Yes, tells) = (Ok Yes, (flawless, tree, is, tells))
+    judged tree is flawless (Ok (No n), tells) = (Ok (No n), verdict_no lts net tree class n flawless is tells)
+    judged tree is flawless (Err w, tells) = (Err w, (flawless, tree, is, tells))
 
-    by : (tree : List Arc) → IsTree lts tree → IsAllReachable lts ⊎ ((s : ℕ) × IsLeastUnreachable lts s) → IsForkFree lts ⊎ ((s t s₁ s₂ : ℕ) × IsLeastFork lts s t s₁ s₂)
-        → (v : Told) × IsVerdict lts net class v
-    by tree is (inr (s, least)) _ = (Ok (No (Unreachable s)), least)
-    by tree is (inl reach) (inr (s, t, s₁, s₂, least)) = (Ok (No (Fork s t s₁ s₂)), (reach, least))
-    by tree is (inl reach) (inl one) = judged tree is reach one (some_told lts net tree class fine same is reach)
+    by : (tree : List Arc) → IsTree lts tree → ((f : Flaw) × IsFirstFlaw lts f) ⊎ IsFlawless lts → (v : Told) × IsVerdict lts net class v
+    by tree is (inl (f, first)) = (Ok (No (no_of f)), verdict_flaw lts net class f first)
+    by tree is (inr flawless) = judged tree is flawless (some_told lts net tree class fine same is flawless.reachable)

@@ -17,6 +17,9 @@ use Rattle.rg_theory.proofs.Lists.{slice_get_some}
 use Rattle.rg_theory.proofs.Trees.{tree_arcs, way_leads, way_of_initial}
 use Rattle.rg_theory.proofs.Solution.{solution_of, solved_all_reachable, solved_no_fork, solved_marking}
 use Rattle.rg_theory.proofs.Judge.{solved_by_steps, not_enabled_refutes, same_marking_refutes, enabled_refutes, wrong_step_refutes}
+use Rattle.rg_checks.specs.declared.flaw.Flaw.TheVariants as flaw
+use Rattle.rg_checks.specs.Flaws.{IsFlawless, fork_of}
+use Rattle.rg_checks.proofs.FirstFlaws.{not_flawless}
 use Rattle.rg_net.specs.declared.class_break.ClassBreak.{ClassBreak}
 use Rattle.rg_net.specs.declared.class_break.ClassBreak.TheVariants.{NotPure, NotPlain, Over, Branching, NotMultiple}
 use Rattle.rg_net.specs.ClassBreaks.{AreInClass, IsBreak}
@@ -105,29 +108,33 @@ module _ (lts : System) (net : Net) (tree : List Arc) (is : IsTree lts tree) (re
     break_refutes class (Branching i t t') (is, p, at', less, lt, takes, takes') inside = absurd (let e = (inside.weights i p at').nonbranching is t t' (omega arith) lt takes takes' in omega arith)
 
 pub yes_is_sound : (lts : System) (net : Net) (class : Class) → IsInRange lts → net.labels ≡ labels lts → IsVerdict lts net class (Ok Yes) → Solves net lts × InClass net class
-yes_is_sound lts net class fine same (reach, one, tree, is, (h, told, right, inside)) =
-    let sol : Solves net lts = told_solves lts net tree is reach fine same h told.have one told.differ right in
-    (sol, told_in_class lts net tree is reach fine same h told.have class sol inside)
+yes_is_sound lts net class fine same (flawless, tree, is, (h, told, right, inside)) =
+    let sol : Solves net lts = told_solves lts net tree is flawless.reachable fine same h told.have flawless.fork_free told.differ right in
+    (sol, told_in_class lts net tree is flawless.reachable fine same h told.have class sol inside)
+
+solved_flawless : (lts : System) (net : Net) → IsInRange lts → Solves net lts → IsFlawless lts
+solved_flawless lts net fine sol = record { reachable = solved_all_reachable lts net fine sol; fork_free = solved_no_fork lts net fine sol }
 
 pub no_is_sound : (lts : System) (net : Net) (class : Class) (n : NetNo) → IsInRange lts → net.labels ≡ labels lts → IsVerdict lts net class (Ok (No n)) → Solves net lts → ¬ InClass net class
-no_is_sound lts net class (Unreachable s) fine same least sol inside = least.unreachable ((solved_all_reachable lts net fine sol).each s least.state)
-no_is_sound lts net class (Fork s t s₁ s₂) fine same (reach, least) sol inside = least.fork.2 ((solved_no_fork lts net fine sol).one_target s t s₁ s₂ least.fork.0 least.fork.1)
-no_is_sound lts net class (NotEnabled s t) fine same (reach, one, tree, is, inl stuck) sol inside =
+no_is_sound lts net class (Unreachable s) fine same first sol inside = not_flawless lts (flaw.Unreachable s) first (solved_flawless lts net fine sol)
+no_is_sound lts net class (Fork s t s₁ s₂) fine same first sol inside = not_flawless lts (flaw.Fork (fork_of s t s₁ s₂)) first (solved_flawless lts net fine sol)
+no_is_sound lts net class (NotEnabled s t) fine same (flawless, tree, is, inl stuck) sol inside =
     let has = tree_arcs lts (lts.initial ∷ []) tree stuck.a is (stuck.i, slice_get_within tree stuck.i stuck.a stuck.here.at, get_or_from_slice_get tree stuck.i stuck.a stuck.a stuck.here.at) in
     let range = arc_in_range lts fine stuck.a.from stuck.a.label stuck.a.to has in
-    not_enabled_refutes lts net stuck.a.from stuck.a.label stuck.a.to stuck.m fine (leads lts net tree is reach stuck.a.from stuck.m range.0 stuck.here.source) has stuck.stuck sol
-no_is_sound lts net class (NotEnabled s t) fine same (reach, one, tree, is, inr (h, told, right, lt, (s', has), not)) sol inside =
-    not_enabled_refutes lts net s t s' (h s) fine (at lts net tree is reach fine same h told.have s lt) has not sol
-no_is_sound lts net class (SameMarking s s') fine same (reach, one, tree, is, (h, have, first)) sol inside =
+    not_enabled_refutes lts net stuck.a.from stuck.a.label stuck.a.to stuck.m fine (leads lts net tree is flawless.reachable stuck.a.from stuck.m range.0 stuck.here.source) has stuck.stuck sol
+no_is_sound lts net class (NotEnabled s t) fine same (flawless, tree, is, inr (h, told, right, lt, (s', has), not)) sol inside =
+    not_enabled_refutes lts net s t s' (h s) fine (at lts net tree is flawless.reachable fine same h told.have s lt) has not sol
+no_is_sound lts net class (SameMarking s s') fine same (flawless, tree, is, (h, have, first)) sol inside =
     same_marking_refutes lts net s s' (h s) fine (let less = first.order in let lt' = first.within in omega arith) first.within (let less = first.order in omega arith)
-    (at lts net tree is reach fine same h have s (let less = first.order in let lt' = first.within in omega arith))
-    (subst (LeadsToMarking net lts s') (sym first.same) (at lts net tree is reach fine same h have s' first.within)) sol
-no_is_sound lts net class (Enabled s t) fine same (reach, one, tree, is, (h, told, right, lt, lt', none, on)) sol inside =
-    enabled_refutes lts net s t (h s) fine lt lt' (at lts net tree is reach fine same h told.have s lt) none on sol
-no_is_sound lts net class (WrongStep s t) fine same (reach, one, tree, is, (h, told, right, lt, on, (s', has, wrong))) sol inside =
+    (at lts net tree is flawless.reachable fine same h have s (let less = first.order in let lt' = first.within in omega arith))
+    (subst (LeadsToMarking net lts s') (sym first.same) (at lts net tree is flawless.reachable fine same h have s' first.within)) sol
+no_is_sound lts net class (Enabled s t) fine same (flawless, tree, is, (h, told, right, lt, lt', none, on)) sol inside =
+    enabled_refutes lts net s t (h s) fine lt lt' (at lts net tree is flawless.reachable fine same h told.have s lt) none on sol
+no_is_sound lts net class (WrongStep s t) fine same (flawless, tree, is, (h, told, right, lt, on, (s', has, wrong))) sol inside =
     let range = arc_in_range lts fine s t s' has in
     let (after, fires) = fires_enabled net (h s) t (subst (λ n. t < n) (sym same) range.1) on in
-    wrong_step_refutes lts net s t s' (h s) after (h s') fine (at lts net tree is reach fine same h told.have s lt) has fires (at lts net tree is reach fine same h told.have s' range.2)
+    wrong_step_refutes lts net s t s' (h s) after (h s') fine (at lts net tree is flawless.reachable fine same h told.have s lt) has fires
+    (at lts net tree is flawless.reachable fine same h told.have s' range.2)
     (λ e. wrong (subst (λ m. Fires net (h s) t m) e fires)) sol
-no_is_sound lts net class (OfClass b) fine same (reach, one, tree, is, (h, told, right, first)) sol inside =
-    break_refutes lts net tree is reach fine same h told.have class b first.breaks inside
+no_is_sound lts net class (OfClass b) fine same (flawless, tree, is, (h, told, right, first)) sol inside =
+    break_refutes lts net tree is flawless.reachable fine same h told.have class b first.breaks inside

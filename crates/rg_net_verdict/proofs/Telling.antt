@@ -5,18 +5,21 @@ use Rattle.std.proofs.lemmas.Option.{slice_get_within}
 use Rattle.rg_integers.specs.Range.{greatest}
 use Rattle.rg_theory.specs.declared.Arc.{Arc}
 use Rattle.rg_theory.specs.declared.Class.{Class}
-use Rattle.rg_theory.specs.System.{System, states, labels, IsInRange, IsAllReachable, IsForkFree}
+use Rattle.rg_theory.specs.System.{System, states, labels, IsInRange}
 use Rattle.rg_theory.specs.Net.{Net, Marking}
 use Rattle.rg_theory.specs.Solves.{marking_of}
 use Rattle.rg_theory.specs.Class.{IsBounded}
 use Rattle.rg_theory.specs.Tree.{IsTree}
+use Rattle.rg_checks.specs.declared.flaw.Flaw.{Flaw}
+use Rattle.rg_checks.specs.declared.flaw.Flaw.TheVariants as flaw
+use Rattle.rg_checks.specs.Flaws.{IsFlawless, IsFirstFlaw}
 use Rattle.rg_net.specs.declared.class_break.ClassBreak.{ClassBreak}
 use Rattle.rg_net.specs.ClassBreaks.{AreInClass, IsFirstBreak}
 use Rattle.rg_net_verdict.specs.declared.verdict.NetVerdict.TheVariants.{Yes, No}
 use Rattle.rg_net_verdict.specs.declared.verdict.NetNo.{NetNo}
 use Rattle.rg_net_verdict.specs.declared.verdict.NetNo.TheVariants.{Unreachable, Fork, NotEnabled, SameMarking, Enabled, WrongStep, Class as OfClass}
 use Rattle.rg_net_verdict.specs.Rows.{AreRows}
-use Rattle.rg_net_verdict.specs.Verdict.{IsVerdict, Tells, AreTold, HaveMarkings, AreFirstSame, AllDiffer, AreRightBefore, list_of}
+use Rattle.rg_net_verdict.specs.Verdict.{IsVerdict, no_of, Tells, AreTold, HaveMarkings, AreFirstSame, AllDiffer, AreRightBefore, list_of}
 use Rattle.rg_net_verdict.specs.Wrong.{IsFirstWrong}
 use Rattle.rg_net_verdict.proofs.Sound.{told_solves, told_bounded}
 
@@ -55,19 +58,26 @@ module _ (lts : System) (net : Net) (tree : List Arc) (class : Class) where
     pub tells_yes : AreInClass net ms class → Tells lts net tree class (Ok Yes)
     tells_yes inside = (marking_of ms, told, right, subst (λ l. AreInClass net l class) (sym (list_is lts ms are.one_each)) inside)
 
-    pub bounded_yes : IsTree lts tree → IsAllReachable lts → IsForkFree lts → IsInRange lts → net.labels ≡ labels lts → IsBounded net greatest
-    bounded_yes is reach one fine same =
-        told_bounded lts net tree is reach fine same (marking_of ms) have greatest (told_solves lts net tree is reach fine same (marking_of ms) have one differ right)
+    pub bounded_yes : IsTree lts tree → IsFlawless lts → IsInRange lts → net.labels ≡ labels lts → IsBounded net greatest
+    bounded_yes is flawless fine same =
+        told_bounded lts net tree is flawless.reachable fine same (marking_of ms) have greatest
+        (told_solves lts net tree is flawless.reachable fine same (marking_of ms) have flawless.fork_free differ right)
         (λ s i p lt at. (let long = are.places s [] (let all = are.one_each in omega arith) in
         let below = slice_get_within net.places i p at in
         are.in_range s [] (let all = are.one_each in omega arith) i 0 (omega arith)))
 
--- past the first two tests
-pub verdict_no : (lts : System) (net : Net) (tree : List Arc) (class : Class) (n : NetNo) → IsAllReachable lts → IsForkFree lts → IsTree lts tree → Tells lts net tree class (Ok (No n)) → IsVerdict lts net class (Ok (No n))
-verdict_no lts net tree class (Unreachable s) reach one is tells = absurd tells
-verdict_no lts net tree class (Fork s t s₁ s₂) reach one is tells = absurd tells
-verdict_no lts net tree class (NotEnabled s t) reach one is tells = (reach, one, tree, is, tells)
-verdict_no lts net tree class (SameMarking s s') reach one is tells = (reach, one, tree, is, tells)
-verdict_no lts net tree class (Enabled s t) reach one is tells = (reach, one, tree, is, tells)
-verdict_no lts net tree class (WrongStep s t) reach one is tells = (reach, one, tree, is, tells)
-verdict_no lts net tree class (OfClass b) reach one is tells = (reach, one, tree, is, tells)
+-- a flaw of the system
+pub verdict_flaw : (lts : System) (net : Net) (class : Class) (f : Flaw) → IsFirstFlaw lts f → IsVerdict lts net class (Ok (No (no_of f)))
+verdict_flaw lts net class (flaw.Unreachable s) first = first
+verdict_flaw lts net class (flaw.Fork f) first = first
+
+-- of a flawless system
+pub verdict_no : (lts : System) (net : Net) (tree : List Arc) (class : Class) (n : NetNo) → IsFlawless lts → IsTree lts tree → Tells lts net tree class (Ok (No n))
+    → IsVerdict lts net class (Ok (No n))
+verdict_no lts net tree class (Unreachable s) flawless is tells = absurd tells
+verdict_no lts net tree class (Fork s t s₁ s₂) flawless is tells = absurd tells
+verdict_no lts net tree class (NotEnabled s t) flawless is tells = (flawless, tree, is, tells)
+verdict_no lts net tree class (SameMarking s s') flawless is tells = (flawless, tree, is, tells)
+verdict_no lts net tree class (Enabled s t) flawless is tells = (flawless, tree, is, tells)
+verdict_no lts net tree class (WrongStep s t) flawless is tells = (flawless, tree, is, tells)
+verdict_no lts net tree class (OfClass b) flawless is tells = (flawless, tree, is, tells)

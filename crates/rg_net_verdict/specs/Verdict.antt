@@ -5,14 +5,18 @@ use Rattle.std.specs.declared.result.Result.TheVariants.{Ok, Err}
 use Rattle.std.specs.List.{range_with_len}
 use Rattle.rg_theory.specs.declared.Arc.{Arc}
 use Rattle.rg_theory.specs.declared.Class.{Class}
-use Rattle.rg_theory.specs.System.{System, states, labels, HasArc, IsLeastUnreachable, IsAllReachable, IsForkFree, IsLeastFork}
+use Rattle.rg_theory.specs.System.{System, states, labels, HasArc}
 use Rattle.rg_theory.specs.Net.{Net, Marking, pre_weight, post_weight, tokens, IsEnabled, Fires}
 use Rattle.rg_theory.specs.Tree.{IsTree}
+use Rattle.rg_checks.specs.declared.flaw.Flaw.{Flaw}
+use Rattle.rg_checks.specs.declared.flaw.Flaw.TheVariants as flaw
+use Rattle.rg_checks.specs.Flaws.{IsFlawless, IsFirstFlaw, fork_of}
 use Rattle.rg_net.specs.Firing.{IsFirstPassed}
 use Rattle.rg_net.specs.ClassBreaks.{AreInClass, IsFirstBreak}
 use Rattle.rg_net_verdict.specs.declared.verdict.CheckWide.{CheckWide}
 use Rattle.rg_net_verdict.specs.declared.verdict.NetVerdict.{NetVerdict}
 use Rattle.rg_net_verdict.specs.declared.verdict.NetVerdict.TheVariants.{Yes, No}
+use Rattle.rg_net_verdict.specs.declared.verdict.NetNo.{NetNo}
 use Rattle.rg_net_verdict.specs.declared.verdict.NetNo.TheVariants.{Unreachable, Fork, NotEnabled, SameMarking, Enabled, WrongStep, Class as OfClass}
 use Rattle.rg_net_verdict.specs.Markings.{IsMarkingOf, IsTreeArc, FireBefore}
 
@@ -76,7 +80,12 @@ pub record AreTold (lts : System) (net : Net) (tree : List Arc) (h : ℕ → Mar
 abbrev pub Told : Type 0
 Told = Result NetVerdict CheckWide
 
--- what each verdict says, where every state can be reached and there is no fork
+-- the difference that a flaw of the system is
+abbrev pub no_of : Flaw → NetNo
+no_of (flaw.Unreachable s) = Unreachable s
+no_of (flaw.Fork f) = Fork f.from f.label f.to f.other
+
+-- what each verdict says of a flawless system
 abbrev pub Tells : System → Net → List Arc → Class → Told → Type 0
 Tells lts net tree class (Ok Yes) = (h : ℕ → Marking) × AreTold lts net tree h × AreRightBefore lts net h (states lts) 0 × AreInClass net (list_of lts h) class
 Tells lts net tree class (Ok (No (Unreachable s))) = ⊥
@@ -90,8 +99,8 @@ Tells lts net tree class (Ok (No (WrongStep s t))) = (h : ℕ → Marking) × Ar
 Tells lts net tree class (Ok (No (OfClass b))) = (h : ℕ → Marking) × AreTold lts net tree h × AreRightBefore lts net h (states lts) 0 × IsFirstBreak net (list_of lts h) class b
 Tells lts net tree class (Err w) = PassesInTree net tree w
 
--- the verdict
+-- the verdict: the first flaw, or what the tests say of a flawless system
 abbrev pub IsVerdict : System → Net → Class → Told → Type 0
-IsVerdict lts net class (Ok (No (Unreachable s))) = IsLeastUnreachable lts s
-IsVerdict lts net class (Ok (No (Fork s t s₁ s₂))) = IsAllReachable lts × IsLeastFork lts s t s₁ s₂
-IsVerdict lts net class v = IsAllReachable lts × IsForkFree lts × (tree : List Arc) × IsTree lts tree × Tells lts net tree class v
+IsVerdict lts net class (Ok (No (Unreachable s))) = IsFirstFlaw lts (flaw.Unreachable s)
+IsVerdict lts net class (Ok (No (Fork s t s₁ s₂))) = IsFirstFlaw lts (flaw.Fork (fork_of s t s₁ s₂))
+IsVerdict lts net class v = IsFlawless lts × (tree : List Arc) × IsTree lts tree × Tells lts net tree class v

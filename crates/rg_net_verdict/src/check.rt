@@ -11,14 +11,14 @@ ghost use Rattle.rg_net_verdict.specs.declared.verdict.CheckStop.TheVariants as 
 ghost use Rattle.rg_net_verdict.specs.declared.verdict.CheckWide.{CheckWide};
 ghost use Rattle.rg_net_verdict.specs.declared.verdict.NetNo.{NetNo};
 ghost use Rattle.rg_net_verdict.specs.declared.verdict.NetVerdict.TheVariants as verdict;
-ghost use Rattle.rg_net_verdict.specs.Verdict.{IsVerdict, Tells};
+ghost use Rattle.rg_net_verdict.specs.Verdict.{IsVerdict, no_of, Tells};
 
 use crate::flow::flows_of;
 use crate::rows::rows_along;
 use crate::same::first_same;
 use crate::verdict::{CheckStop, NetNo, NetVerdict};
 use crate::wrong::{Marked, first_wrong};
-use rg_checks::first_fork;
+use rg_checks::{Flaw, NoMemory, first_flaw};
 use rg_lts::Lts;
 use rg_net::{Class, Net, in_class};
 use rg_spanning::{GrowStop, Tree};
@@ -55,15 +55,42 @@ pub fn check_net(alloc: Global, lts: &Lts, net: &Net, class: Class) -> Result<Ne
     ensures wide { (w : CheckWide) → IsErrOf result (stop.Wide w) → IsVerdict lts.now net.now class (Err w) }
     ensures in_range { IfOk result (λ v. v ≡ verdict.Yes → IsBounded net.now greatest) }
 {
+    match first_flaw(alloc, lts) {
+        Ok(None) => flawless_verdict(alloc, lts, net, class),
+        Ok(Some(flaw)) => Ok(NetVerdict::No(no_of(flaw))),
+        Err(NoMemory) => Err(CheckStop::NoMemory),
+    }
+}
+
+// The difference that a flaw of the system is.
+fn no_of(flaw: Flaw) -> NetNo
+    ensures { result ≡ no_of flaw }
+{
+    match flaw {
+        Flaw::Unreachable(s) => NetNo::Unreachable(s),
+        Flaw::Fork(fork) => NetNo::Fork(fork.from, fork.label, fork.to, fork.other),
+    }
+}
+
+// The same of a flawless system.
+fn flawless_verdict(
+    alloc: Global,
+    lts: &Lts,
+    net: &Net,
+    class: Class,
+) -> Result<NetVerdict, CheckStop>
+    requires labels { net.now.labels ≡ labels lts.now }
+    requires flawless { IsFlawless lts.now }
+    ensures verdict { IfOk result (λ v. IsVerdict lts.now net.now class (Ok v)) }
+    ensures wide { (w : CheckWide) → IsErrOf result (stop.Wide w) → IsVerdict lts.now net.now class (Err w) }
+    ensures in_range { IfOk result (λ v. v ≡ verdict.Yes → IsBounded net.now greatest) }
+{
     lts.is_well_formed();
     let tree = match Tree::grow(alloc, lts) {
         Ok(tree) => tree,
-        Err(GrowStop::Unreachable(s)) => return Ok(NetVerdict::No(NetNo::Unreachable(s))),
         Err(GrowStop::NoMemory) => return Err(CheckStop::NoMemory),
+        Err(GrowStop::Unreachable(_)) => unreachable!(),
     };
-    if let Some((s, t, first, second)) = first_fork(lts) {
-        return Ok(NetVerdict::No(NetNo::Fork(s, t, first, second)));
-    }
     match judge(alloc, lts, &tree, net, class) {
         Ok(()) => Ok(NetVerdict::Yes),
         Err(Halt::No(no)) => Ok(NetVerdict::No(no)),

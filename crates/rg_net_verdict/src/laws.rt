@@ -10,7 +10,7 @@ ghost use Rattle.rg_net_verdict.specs.declared.verdict.NetNo.{NetNo};
 ghost use Rattle.rg_net_verdict.specs.declared.verdict.NetVerdict.TheVariants as verdict;
 ghost use Rattle.rg_net_verdict.specs.Verdict.{Told, IsVerdict};
 
-use rg_theory::one_least_fork;
+use rg_checks::one_first_flaw;
 
 /// Yes says that the net solves the system and is of the class, and each no that one of the two is false.
 pub fn verdict_is_sound()
@@ -24,7 +24,7 @@ pub fn verdict_is_one()
     ensures once { (lts : System) (net : Net) (class : Class) (v w : Told) → IsInRange lts → IsVerdict lts net class v → IsVerdict lts net class w → v ≡ w }
     ensures some { (lts : System) (net : Net) (class : Class) → IsInRange lts → net.labels ≡ labels lts → (v : Told) × IsVerdict lts net class v }
 {
-    one_least_fork();
+    one_first_flaw();
 }
 
 /// A net that solves the system, is of the class and has no reachable marking out of range gets yes, and no other

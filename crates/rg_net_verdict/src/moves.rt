@@ -23,7 +23,7 @@ pub(crate) fn allows(flow: &[Flow], row: &[u128]) -> bool
 }
 
 // The row after the firing.
-pub(crate) fn moved(alloc: Global, flow: &[Flow], row: &[u128]) -> Result<Vec<u128>, FireStop>
+pub(crate) fn row_after(alloc: Global, flow: &[Flow], row: &[u128]) -> Result<Vec<u128>, FireStop>
     requires listed { AreListed flow.now (length row.now) }
     requires tokens { HasTokens flow.now row.now }
     requires in_range { All (λ n. n ≤ greatest) row.now }

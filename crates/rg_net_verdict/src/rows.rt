@@ -19,7 +19,7 @@ ghost use Rattle.rg_net_verdict.specs.Flows.{AreFlows, IsFlow};
 
 use crate::check::Halt;
 use crate::flow::Flow;
-use crate::moves::{allows, moved};
+use crate::moves::{allows, row_after};
 use crate::verdict::{CheckStop, CheckWide, NetNo};
 use rg_integers::Wide;
 use rg_lts::Lts;
@@ -44,21 +44,21 @@ pub(crate) fn rows_along(
     ensures no { (class : Class) (n : NetNo) → IsErrOf result (halt.No n) → Tells lts.now net.now tree.now class (Ok (verdict.No n)) }
     ensures wide { (class : Class) (w : CheckWide) → IsErrOf result (halt.Stop (stop.Wide w)) → Tells lts.now net.now tree.now class (Err w) }
 {
-    let mut rows = begun(alloc, lts, net)?;
+    let mut rows = begin_rows(alloc, lts, net)?;
     for a in tree {
         let source = &rows[a.from as usize];
         let flow = &flows[a.label as usize];
         if !allows(flow, source) {
             return Err(Halt::No(NetNo::NotEnabled(a.from, a.label)));
         }
-        let target = fired(alloc, net, flow, source, a)?;
+        let target = fire_along(alloc, net, flow, source, a)?;
         rows[a.to as usize] = target;
     }
     Ok(rows)
 }
 
 // A row for each state, empty but that of the initial state, which has the start of each place.
-fn begun(alloc: Global, lts: &Lts, net: &Net) -> Result<Vec<Vec<u128>>, AllocError>
+fn begin_rows(alloc: Global, lts: &Lts, net: &Net) -> Result<Vec<Vec<u128>>, AllocError>
     ensures long { IfOk result (λ rows. length rows.items ≡ states lts.now) }
     ensures start { IfOk result (λ rows. marking_of (shown_markings rows.items) lts.now.initial ≡ start_marking net.now) }
     ensures net { IfOk result (λ _. IsNetInRange net.now) }
@@ -88,7 +88,7 @@ fn starts(alloc: Global, places: &[Place]) -> Result<Vec<u128>, AllocError>
 }
 
 // The row after the firing along an arc that is enabled.
-fn fired(
+fn fire_along(
     alloc: Global,
     net: &Net,
     flow: &[Flow],
@@ -105,7 +105,7 @@ fn fired(
     ensures passes { (w : CheckWide) → IsErrOf result (halt.Stop (stop.Wide w)) → IsShownPassed net.now source.now a.now w }
     ensures no { (n : NetNo) → result ≢ Err (halt.No n) }
 {
-    match moved(alloc, flow, source) {
+    match row_after(alloc, flow, source) {
         Ok(row) => Ok(row),
         Err(FireStop::NoMemory) => Err(Halt::Stop(CheckStop::NoMemory)),
         Err(FireStop::Passes(place)) => {

@@ -1,10 +1,11 @@
 -- One thing is found of a system.
 use Rattle.std.proofs.Common.{◌≡◌, ◌⊎◌, inl, inr, ℕ, ◌<◌, Option, None, Some, IfSome, IfNone, refl, sym, ap}
 use Rattle.std.proofs.lemmas.Bool.{cases_order}
-use Rattle.rg_theory.specs.System.{System, IsAllReachable, IsLeastUnreachable, IsForkFree, IsLeastFork}
+use Rattle.rg_theory.specs.System.{System, IsAllReachable, IsLeastUnreachable, IsForkFree}
 use Rattle.rg_checks.specs.Flaws.{IsFirstFork}
 use Rattle.rg_checks.specs.Persistent.{IsPersistent, IsLostBefore, IsLeastLost}
 use Rattle.rg_checks.specs.Reversible.{IsReversible, IsLeastStranded}
+use Rattle.rg_checks.proofs.FirstFlaws.{OneFork, one_unreachable, not_reachable, one_fork, not_fork_free}
 use Rattle.rg_checks.proofs.Losing.{lost_not_persistent}
 use Rattle.rg_report.specs.Examined.{Examination, IsExamined}
 
@@ -14,18 +15,6 @@ one_option P Q one apart None None h k h' k' = refl
 one_option P Q one apart None (Some y) h k h' k' = absurd (apart y h' k)
 one_option P Q one apart (Some x) None h k h' k' = absurd (apart x h k')
 one_option P Q one apart (Some x) (Some y) h k h' k' = ap Some (one x y h h')
-
--- a system has one least fork
-abbrev pub OneFork : Type 0
-OneFork = (lts : System) (s t p q s' t' p' q' : ℕ) → IsLeastFork lts s t p q → IsLeastFork lts s' t' p' q' → (s ≡ s') × (t ≡ t') × (p ≡ p') × (q ≡ q')
-
-one_unreachable : (lts : System) (s r : ℕ) → IsLeastUnreachable lts s → IsLeastUnreachable lts r → s ≡ r
-one_unreachable lts s r h k = by (cases_order s r)
-  where
-    by : (s ≡ r) ⊎ ((s < r) ⊎ (r < s)) → s ≡ r
-    by (inl e) = e
-    by (inr (inl l)) = absurd (h.unreachable (k.least s l))
-    by (inr (inr l)) = absurd (k.unreachable (h.least r l))
 
 one_stranded : (lts : System) (s r : ℕ) → IsLeastStranded lts s → IsLeastStranded lts r → s ≡ r
 one_stranded lts s r h k = by (cases_order s r)
@@ -61,14 +50,12 @@ one_found one lts e f x y = λ i. record { unreachable = same_unreachable i; for
   where
     same_unreachable : e.unreachable ≡ f.unreachable
     same_unreachable =
-        one_option (IsLeastUnreachable lts) (IsAllReachable lts) (one_unreachable lts) (λ s h all. h.unreachable (all.each s h.state))
+        one_option (IsLeastUnreachable lts) (IsAllReachable lts) (one_unreachable lts) (not_reachable lts)
         e.unreachable f.unreachable x.unreachable x.reachable y.unreachable y.reachable
 
     same_fork : e.fork ≡ f.fork
     same_fork =
-        one_option (IsFirstFork lts) (IsForkFree lts)
-        (λ k l h h'. (let (a, b, c, d) = one lts k.from k.label k.to k.other l.from l.label l.to l.other h h' in λ i. record { from = a i; label = b i; to = c i; other = d i }))
-        (λ k h free. h.fork.2 (free.one_target k.from k.label k.to k.other h.fork.0 h.fork.1)) e.fork f.fork x.fork x.deterministic y.fork y.deterministic
+        one_option (IsFirstFork lts) (IsForkFree lts) (one_fork one lts) (not_fork_free lts) e.fork f.fork x.fork x.deterministic y.fork y.deterministic
 
     same_lost : e.lost ≡ f.lost
     same_lost =

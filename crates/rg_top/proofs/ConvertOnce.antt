@@ -1,7 +1,7 @@
 -- `convert` ends in one way for a system and a form.
 use Rattle.std.proofs.Common.{◌≡◌, ◌⊎◌, inl, inr, ℕ, ◌<◌, Bool, true, false, List, refl, sym, ap, ◌∙◌, arith}
 use Rattle.std.proofs.lemmas.Bool.{cases_order}
-use Rattle.rg_theory.specs.System.{System, states}
+use Rattle.rg_theory.specs.System.{System}
 use Rattle.rg_genet.specs.Loss.{has_label, is_on_arc, IsLabelKept, IsStateKept, IsFirstDead, IsFirstLost}
 use Rattle.rg_commands.specs.declared.forms.Target.{Target}
 use Rattle.rg_commands.specs.declared.forms.Target.TheVariants.{Apt, Graph}

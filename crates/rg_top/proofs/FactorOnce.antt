@@ -2,7 +2,10 @@
 use Rattle.std.proofs.Common.{◌≡◌, ◌⊎◌, inl, inr, ℕ, ◌<◌, List, [], ◌∷◌, ◌++◌, Option, None, Some, slice_get, zero, suc, refl, sym, ap, ap₂, subst, ◌∙◌}
 use Rattle.std.specs.List.{AllZip}
 use Rattle.std.proofs.lemmas.Bool.{cases_order}
-use Rattle.rg_theory.specs.System.{System, labels, IsInRange, IsAllReachable, IsForkFree, IsLeastUnreachable, IsLeastFork}
+use Rattle.rg_theory.specs.System.{System, labels, IsInRange, IsAllReachable, IsForkFree}
+use Rattle.rg_checks.specs.declared.flaw.Flaw.{Flaw}
+use Rattle.rg_checks.specs.Flaws.{IsFirstFlaw}
+use Rattle.rg_checks.proofs.FirstFlaws.{not_flawless}
 use Rattle.rg_theory.specs.Net.{Net}
 use Rattle.rg_theory.specs.declared.Class.{Class}
 use Rattle.rg_net.specs.NetText.{net_text}
@@ -14,55 +17,37 @@ use Rattle.rg_synth.specs.Answer.{IsOpen}
 use Rattle.rg_product.specs.Product.{Factor, IsFactorAt}
 use Rattle.rg_product.specs.Factoring.{Factoring, factors, one_block, fewer, IsFactoring}
 use Rattle.rg_product.specs.Beside.{net_beside}
-use Rattle.rg_messages.specs.FactorTexts.{unreachable_line, fork_line, one_block_text, sizes_line, factors_text, unsolvable_factor_line}
+use Rattle.rg_messages.specs.FlawTexts.{flaw_line}
+use Rattle.rg_messages.specs.FactorTexts.{one_block_text, sizes_line, factors_text, unsolvable_factor_line}
 use Rattle.rg_factor_nets.specs.Answer.{IsBehindNets, HasNet, IsNetOf}
 use Rattle.rg_top.specs.End.{End, says_yes, says_no, shows_term, HasStatus}
-use Rattle.rg_top.specs.Factor.{HasFactors, FactorEnds, a_state, a_fork, no_blocks, no_product, all_factors, a_net, a_certificate, a_term}
-use Rattle.rg_top.specs.Factor.{FactorIsDue, for_a_state, for_a_fork, for_one_block, for_sizes, for_factors, for_nets, for_a_reason, for_a_term}
+use Rattle.rg_top.specs.Factor.{HasFactors, FactorEnds, a_flaw, no_blocks, no_product, all_factors, a_net, a_certificate, a_term}
+use Rattle.rg_top.specs.Factor.{FactorIsDue, for_a_flaw, for_one_block, for_sizes, for_factors, for_nets, for_a_reason, for_a_term}
 use Rattle.rg_top.specs.Terms.{Term.of_factor as of_factor_term}
 use Rattle.rg_top.specs.declared.status.Status.{Status}
 use Rattle.rg_top.proofs.SynthesizeOnce.{OneOut}
 use Rattle.rg_top.proofs.Told.{TellsOne, IsEndOf, IsStatusOf, one_end, due_end}
 
--- a system has one least fork and, where it is open, one factoring; a system and a class have one answer
+-- a system has one first flaw or, where it is open, one factoring; a system and a class have one answer
 pub record OneFactoring : Type 0 where
-  pub one_fork : (lts : System) (s t p q s' t' p' q' : ℕ) → IsLeastFork lts s t p q → IsLeastFork lts s' t' p' q' → (s ≡ s') × (t ≡ t') × (p ≡ p') × (q ≡ q')
+  pub one_flaw : (lts : System) (f g : Flaw) → IsFirstFlaw lts f → IsFirstFlaw lts g → f ≡ g
   pub one_factoring : (lts : System) (a b : Factoring) → IsInRange lts → IsAllReachable lts → IsForkFree lts → IsFactoring lts a → IsFactoring lts b → a ≡ b
   pub out : OneOut
 
 -- ---- what decides before nets are asked for
 
 data Decision : Type 0 where
-  of_state : ℕ → Decision
-  of_fork : ℕ → ℕ → ℕ → ℕ → Decision
+  of_flaw : Flaw → Decision
   of_factoring : Factoring → Decision
 
 abbrev Decides : System → Decision → Type 0
-Decides lts (of_state s) = IsLeastUnreachable lts s
-Decides lts (of_fork s t p q) = IsAllReachable lts × IsLeastFork lts s t p q
+Decides lts (of_flaw f) = IsFirstFlaw lts f
 Decides lts (of_factoring r) = IsOpen lts × IsFactoring lts r
 
-one_unreachable : (lts : System) (s r : ℕ) → IsLeastUnreachable lts s → IsLeastUnreachable lts r → s ≡ r
-one_unreachable lts s r h k = by (cases_order s r)
-  where
-    by : (s ≡ r) ⊎ ((s < r) ⊎ (r < s)) → s ≡ r
-    by (inl e) = e
-    by (inr (inl l)) = absurd (h.unreachable (k.least s l))
-    by (inr (inr l)) = absurd (k.unreachable (h.least r l))
-
 one_decision : OneFactoring → (lts : System) (a b : Decision) → IsInRange lts → Decides lts a → Decides lts b → a ≡ b
-one_decision one lts (of_state s) (of_state r) within h k = ap of_state (one_unreachable lts s r h k)
-one_decision one lts (of_state s) (of_fork s' t p q) within h (all, k) = absurd (h.unreachable (all.each s h.state))
-one_decision one lts (of_state s) (of_factoring r) within h (is_open, k) = absurd (h.unreachable (is_open.reachable.each s h.state))
-one_decision one lts (of_fork s t p q) (of_state r) within (all, h) k = absurd (k.unreachable (all.each r k.state))
-one_decision one lts (of_fork s t p q) (of_fork s' t' p' q') within (all, h) (all', k) =
-    let (e, f, g, i) = one.one_fork lts s t p q s' t' p' q' h k in
-    λ n. of_fork (e n) (f n) (g n) (i n)
-one_decision one lts (of_fork s t p q) (of_factoring r) within (all, h) (is_open, k) =
-    absurd (h.fork.2 (is_open.fork_free.one_target s t p q h.fork.0 h.fork.1))
-one_decision one lts (of_factoring r) (of_state s) within (is_open, h) k = absurd (k.unreachable (is_open.reachable.each s k.state))
-one_decision one lts (of_factoring r) (of_fork s t p q) within (is_open, h) (all, k) =
-    absurd (k.fork.2 (is_open.fork_free.one_target s t p q k.fork.0 k.fork.1))
+one_decision one lts (of_flaw f) (of_flaw g) within h k = ap of_flaw (one.one_flaw lts f g h k)
+one_decision one lts (of_flaw f) (of_factoring r) within h (is_open, k) = absurd (not_flawless lts f h is_open)
+one_decision one lts (of_factoring r) (of_flaw f) within (is_open, h) k = absurd (not_flawless lts f k is_open)
 one_decision one lts (of_factoring r) (of_factoring r') within (is_open, h) (is_open', k) =
     ap of_factoring (one.one_factoring lts r r' within is_open.reachable is_open.fork_free h k)
 
@@ -180,8 +165,7 @@ one_told one lts (Some class) within (over fs tuples found) (over fs' tuples' fo
 -- ---- its end
 
 abbrev decision_end : System → Decision → End
-decision_end lts (of_state s) = says_no (unreachable_line lts s)
-decision_end lts (of_fork s t p q) = says_no (fork_line lts s t p q)
+decision_end lts (of_flaw f) = says_no (flaw_line lts f)
 decision_end lts (of_factoring (one_block squares)) = says_no (one_block_text lts squares)
 decision_end lts (of_factoring (fewer sizes)) = says_no (sizes_line lts sizes)
 decision_end lts (of_factoring (factors fs tuples)) = says_yes (factors_text lts fs tuples)
@@ -208,8 +192,7 @@ are_answers class (f ∷ fs) [] each = absurd each
 are_answers class (f ∷ fs) (net ∷ nets) ((out, right), rest) = ((out, right.solves.transitions), are_answers class fs nets rest)
 
 told : (lts : System) (class : Option Class) (e : End) → FactorEnds lts class e → IsEndOf (Tells lts class) (end_of lts class) e
-told lts class _ (a_state _ q is) = (plainly (of_state q), (is, tt), refl)
-told lts class _ (a_fork _ q t p r all is) = (plainly (of_fork q t p r), ((all, is), tt), refl)
+told lts class _ (a_flaw _ f is) = (plainly (of_flaw f), (is, tt), refl)
 told lts class _ (no_blocks _ squares is_open is none) = (plainly (of_factoring (one_block squares)), ((is_open, is), tt), refl)
 told lts class _ (no_product _ sizes is_open is) = (plainly (of_factoring (fewer sizes)), ((is_open, is), tt), refl)
 told lts _ _ (all_factors fs tuples are) = (plainly (of_factoring (factors fs tuples)), ((are.is_open, are.factoring), tt), refl)
@@ -223,8 +206,7 @@ told lts _ _ (a_certificate class text is) = (
 told lts _ _ (a_term class i w is) = (over is.fs is.tuples (no_net i is.f (of_term w)), ((is.are.is_open, is.are.factoring), (is.first, is.shown.answer, tt)), refl)
 
 due : (lts : System) (class : Option Class) (s : Status) → FactorIsDue lts class s → IsStatusOf (Tells lts class) (end_of lts class) s
-due lts class _ (for_a_state q is) = (plainly (of_state q), (is, tt), refl)
-due lts class _ (for_a_fork q t p r all is) = (plainly (of_fork q t p r), ((all, is), tt), refl)
+due lts class _ (for_a_flaw f is) = (plainly (of_flaw f), (is, tt), refl)
 due lts class _ (for_one_block squares is_open is) = (plainly (of_factoring (one_block squares)), ((is_open, is), tt), refl)
 due lts class _ (for_sizes sizes is_open is) = (plainly (of_factoring (fewer sizes)), ((is_open, is), tt), refl)
 due lts _ _ (for_factors fs (tuples, is_open, is)) = (plainly (of_factoring (factors fs tuples)), ((is_open, is), tt), refl)

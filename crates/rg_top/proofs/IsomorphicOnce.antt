@@ -1,81 +1,62 @@
 -- `isomorphic` ends in one way for a system, a form and a file.
-use Rattle.std.proofs.Common.{◌≡◌, ◌⊎◌, ◌↔◌, inl, inr, ℕ, ◌<◌, List, Some, refl, ap, subst}
-use Rattle.std.proofs.lemmas.Bool.{cases_order}
+use Rattle.std.proofs.Common.{◌≡◌, ◌⊎◌, ◌↔◌, inl, inr, ℕ, List, Some, refl, ap, subst}
 use Rattle.rg_ports.specs.Shelf.{Files}
-use Rattle.rg_theory.specs.System.{System, IsLeastUnreachable, IsLeastFork}
+use Rattle.rg_theory.specs.System.{System}
+use Rattle.rg_checks.specs.declared.flaw.Flaw.{Flaw}
+use Rattle.rg_checks.specs.Flaws.{IsFlawless, IsFirstFlaw}
+use Rattle.rg_checks.proofs.FirstFlaws.{not_flawless}
 use Rattle.rg_lts.specs.WellFormed.{IsWellFormed}
 use Rattle.rg_iso.specs.Isomorphic.{AreIsomorphic}
-use Rattle.rg_iso.specs.Compared.{IsJudged, Told, Told.map as as_map, Told.label as as_label, Told.differs as as_difference, Compares, IsMap}
+use Rattle.rg_iso.specs.Compared.{Told, Told.map as as_map, Told.label as as_label, Told.differs as as_difference, Compares, IsMap}
 use Rattle.rg_commands.specs.declared.forms.Form.{Form}
-use Rattle.rg_messages.specs.ComparedTexts.{told_text, unreachable_line, fork_line}
+use Rattle.rg_messages.specs.FlawTexts.{file_flaw_line}
+use Rattle.rg_messages.specs.ComparedTexts.{told_text}
 use Rattle.rg_messages.specs.declared.fault.Fault.{Fault}
 use Rattle.rg_top.specs.End.{End, says_no, refuses_file, HasStatus}
 use Rattle.rg_top.specs.Second.{second_fault}
-use Rattle.rg_top.specs.Isomorphic.{IsUnjudged, unreachable, fork, told_end, PairEnds, first_unjudged, second_unjudged, compared, IsomorphicEnds, unread, read}
+use Rattle.rg_top.specs.Isomorphic.{told_end, PairEnds, first_flawed, second_flawed, compared, IsomorphicEnds, unread, read}
 use Rattle.rg_top.specs.Isomorphic.{IsomorphicIsDue, by_no_system, by_same, by_other}
 use Rattle.rg_top.specs.declared.status.Status.{Status}
 use Rattle.rg_top.specs.declared.status.Status.TheVariants.{Done, No, File}
 use Rattle.rg_top.proofs.OneFile.{OneReading, one_no_system, system_or_none, one_system}
 use Rattle.rg_top.proofs.Told.{TellsOne, IsEndOf, one_end}
 
--- a system has one least fork, and two systems have one result
+-- a system has one first flaw, and two flawless systems have one result
 pub record OneComparison : Type 0 where
-  pub one_fork : (lts : System) (s t p q s' t' p' q' : ℕ) → IsLeastFork lts s t p q → IsLeastFork lts s' t' p' q' → (s ≡ s') × (t ≡ t') × (p ≡ p') × (q ≡ q')
-  pub one_told : (a b : System) (x y : Told) → IsWellFormed a → IsWellFormed b → IsJudged a → IsJudged b → Compares a b x → Compares a b y → x ≡ y
-
--- ---- why a system isn't judged
-
-unjudged : (file : ℕ) (lts : System) (out : List ℕ) → IsUnjudged file lts out → IsJudged lts → ⊥
-unjudged file lts _ (unreachable s least) judged = least.unreachable (judged.reachable.each s least.state)
-unjudged file lts _ (fork s t p q all least) judged = least.fork.2 (judged.fork_free.one_target s t p q least.fork.0 least.fork.1)
-
-one_unreachable : (lts : System) (s r : ℕ) → IsLeastUnreachable lts s → IsLeastUnreachable lts r → s ≡ r
-one_unreachable lts s r h k = by (cases_order s r)
-  where
-    by : (s ≡ r) ⊎ ((s < r) ⊎ (r < s)) → s ≡ r
-    by (inl e) = e
-    by (inr (inl l)) = absurd (h.unreachable (k.least s l))
-    by (inr (inr l)) = absurd (k.unreachable (h.least r l))
-
-one_reason : OneComparison → (file : ℕ) (lts : System) (x y : List ℕ) → IsUnjudged file lts x → IsUnjudged file lts y → x ≡ y
-one_reason one file lts _ _ (unreachable s h) (unreachable r k) = ap (unreachable_line file lts) (one_unreachable lts s r h k)
-one_reason one file lts _ _ (unreachable s h) (fork s' t' p' q' all k) = absurd (h.unreachable (all.each s h.state))
-one_reason one file lts _ _ (fork s t p q all h) (unreachable r k) = absurd (k.unreachable (all.each r k.state))
-one_reason one file lts _ _ (fork s t p q all h) (fork s' t' p' q' all' k) =
-    let (e, f, g, i) = one.one_fork lts s t p q s' t' p' q' h k in
-    λ n. fork_line file lts (e n) (f n) (g n) (i n)
+  pub one_flaw : (lts : System) (f g : Flaw) → IsFirstFlaw lts f → IsFirstFlaw lts g → f ≡ g
+  pub one_told : (a b : System) (x y : Told) → IsWellFormed a → IsWellFormed b → IsFlawless a → IsFlawless b → Compares a b x → Compares a b y → x ≡ y
 
 -- ---- two systems
 
 data Pair : Type 0 where
-  first : List ℕ → Pair
-  second : List ℕ → Pair
+  first : Flaw → Pair
+  second : Flaw → Pair
   both : Told → Pair
 
 abbrev Tells : System → System → Pair → Type 0
-Tells a b (first out) = IsUnjudged 1 a out
-Tells a b (second out) = IsJudged a × IsUnjudged 2 b out
-Tells a b (both told) = IsJudged a × IsJudged b × Compares a b told
+Tells a b (first flaw) = IsFirstFlaw a flaw
+Tells a b (second flaw) = IsFlawless a × IsFirstFlaw b flaw
+Tells a b (both told) = IsFlawless a × IsFlawless b × Compares a b told
 
 abbrev end_of : System → System → Pair → End
-end_of a b (first out) = says_no out
-end_of a b (second out) = says_no out
+end_of a b (first flaw) = says_no (file_flaw_line 1 a flaw)
+end_of a b (second flaw) = says_no (file_flaw_line 2 b flaw)
 end_of a b (both told) = told_end told (told_text a b told)
 
 one_pair : OneComparison → (a b : System) → IsWellFormed a → IsWellFormed b → TellsOne (Tells a b)
-one_pair one a b f g (first x) (first y) h k = ap first (one_reason one 1 a x y h k)
-one_pair one a b f g (first x) (second y) h (j, k) = absurd (unjudged 1 a x h j)
-one_pair one a b f g (first x) (both u) h (j, j', k) = absurd (unjudged 1 a x h j)
-one_pair one a b f g (second x) (first y) (j, h) k = absurd (unjudged 1 a y k j)
-one_pair one a b f g (second x) (second y) (j, h) (j', k) = ap second (one_reason one 2 b x y h k)
-one_pair one a b f g (second x) (both u) (j, h) (i, i', k) = absurd (unjudged 2 b x h i')
-one_pair one a b f g (both t) (first y) (j, j', h) k = absurd (unjudged 1 a y k j)
-one_pair one a b f g (both t) (second y) (j, j', h) (i, k) = absurd (unjudged 2 b y k j')
+one_pair one a b f g (first x) (first y) h k = ap first (one.one_flaw a x y h k)
+one_pair one a b f g (first x) (second y) h (j, k) = absurd (not_flawless a x h j)
+one_pair one a b f g (first x) (both u) h (j, j', k) = absurd (not_flawless a x h j)
+one_pair one a b f g (second x) (first y) (j, h) k = absurd (not_flawless a y k j)
+one_pair one a b f g (second x) (second y) (j, h) (j', k) = ap second (one.one_flaw b x y h k)
+one_pair one a b f g (second x) (both u) (j, h) (i, i', k) = absurd (not_flawless b x h i')
+one_pair one a b f g (both t) (first y) (j, j', h) k = absurd (not_flawless a y k j)
+one_pair one a b f g (both t) (second y) (j, j', h) (i, k) = absurd (not_flawless b y k j')
 one_pair one a b f g (both t) (both u) (j, j', h) (i, i', k) = ap both (one.one_told a b t u f g j j' h k)
 
 pair : (a b : System) (e : End) → PairEnds a b e → IsEndOf (Tells a b) (end_of a b) e
-pair a b _ (first_unjudged out h) = (first out, h, refl)
-pair a b _ (second_unjudged out j h) = (second out, (j, h), refl)
+pair a b _ (first_flawed flaw h) = (first flaw, h, refl)
+pair a b _ (second_flawed flaw j h) = (second flaw, (j, h), refl)
 pair a b _ (compared told j j' h iso) = (both told, (j, j', h), refl)
 
 -- a map is the yes, and a difference the no
@@ -89,14 +70,14 @@ other_says_no (as_map map) text not = absurd (not tt)
 other_says_no (as_label file t) text not = refl
 other_says_no (as_difference d) text not = refl
 
-same_due : (a b : System) (e : End) → PairEnds a b e → IsJudged a → IsJudged b → AreIsomorphic a b → HasStatus e Done
-same_due a b _ (first_unjudged out h) j j' i = absurd (unjudged 1 a out h j)
-same_due a b _ (second_unjudged out _ h) j j' i = absurd (unjudged 2 b out h j')
+same_due : (a b : System) (e : End) → PairEnds a b e → IsFlawless a → IsFlawless b → AreIsomorphic a b → HasStatus e Done
+same_due a b _ (first_flawed flaw h) j j' i = absurd (not_flawless a flaw h j)
+same_due a b _ (second_flawed flaw _ h) j j' i = absurd (not_flawless b flaw h j')
 same_due a b _ (compared told _ _ h iso) j j' i = map_says_yes told (told_text a b told) (iso.1 i)
 
-other_due : (a b : System) (e : End) → PairEnds a b e → (IsJudged a → ⊥) ⊎ ((IsJudged b → ⊥) ⊎ (AreIsomorphic a b → ⊥)) → HasStatus e No
-other_due a b _ (first_unjudged out h) why = refl
-other_due a b _ (second_unjudged out j h) why = refl
+other_due : (a b : System) (e : End) → PairEnds a b e → (IsFlawless a → ⊥) ⊎ ((IsFlawless b → ⊥) ⊎ (AreIsomorphic a b → ⊥)) → HasStatus e No
+other_due a b _ (first_flawed flaw h) why = refl
+other_due a b _ (second_flawed flaw j h) why = refl
 other_due a b _ (compared told j j' h iso) (inl not) = absurd (not j)
 other_due a b _ (compared told j j' h iso) (inr (inl not)) = absurd (not j')
 other_due a b _ (compared told j j' h iso) (inr (inr not)) = other_says_no told (told_text a b told) (λ is. not (iso.0 is))
@@ -111,10 +92,10 @@ isomorphic_due one files named form lts _ _ (unread f h) (by_other k) = absurd (
 isomorphic_due one files named form lts _ _ (read other e h formed p) (by_no_system g k) = absurd (system_or_none one files form named g other k h)
 isomorphic_due one files named form lts _ _ (read other e h formed p) (by_same k) =
     let same = one_system one files form named k.other other k.file h in
-    same_due lts other e p k.first (subst IsJudged same k.second) (subst (AreIsomorphic lts) same k.isomorphic)
+    same_due lts other e p k.first (subst IsFlawless same k.second) (subst (AreIsomorphic lts) same k.isomorphic)
 isomorphic_due one files named form lts _ _ (read other e h formed p) (by_other k) =
     let same = one_system one files form named k.other other k.file h in
-    other_due lts other e p (subst (λ x. (IsJudged lts → ⊥) ⊎ ((IsJudged x → ⊥) ⊎ (AreIsomorphic lts x → ⊥))) same k.why)
+    other_due lts other e p (subst (λ x. (IsFlawless lts → ⊥) ⊎ ((IsFlawless x → ⊥) ⊎ (AreIsomorphic lts x → ⊥))) same k.why)
 
 pub isomorphic_once : OneReading → OneComparison → (files : Files) (named : List ℕ) (form : Form) (lts : System) (e e' : End) → IsWellFormed lts
     → IsomorphicEnds (Some files) named form lts e → IsomorphicEnds (Some files) named form lts e' → e ≡ e'

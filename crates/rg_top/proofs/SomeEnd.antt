@@ -1,11 +1,10 @@
 -- All words and files determine a status, or a term out of range decides.
-use Rattle.std.proofs.Common.{◌⊎◌, inl, inr, ℕ, List, Some, Result, Ok, Err}
+use Rattle.std.proofs.Common.{◌⊎◌, inl, inr, ℕ, List, Some, Ok, Err}
 use Rattle.rg_ports.specs.Shelf.{Files}
 use Rattle.rg_theory.specs.System.{System}
 use Rattle.rg_lts.specs.WellFormed.{IsWellFormed}
 use Rattle.rg_case_folds.specs.Shown.{Shown}
 use Rattle.rg_commands.specs.declared.forms.Form.{Form}
-use Rattle.rg_commands.specs.declared.usage.Usage.{Usage}
 use Rattle.rg_commands.specs.declared.request.Request.{Request}
 use Rattle.rg_commands.specs.declared.request.Request.TheVariants.{OfSystem, Generate, SelfTest}
 use Rattle.rg_commands.specs.declared.request.Work.{Work}

@@ -2,7 +2,9 @@
 use Rattle.std.proofs.Common.{◌≡◌, ◌⊎◌, inl, inr, ℕ, ◌<◌, List, length, Option, None, Some, IfSome, slice_get, refl, sym, subst, ◌∙◌}
 use Rattle.std.proofs.lemmas.Option.{slice_get_within}
 use Rattle.rg_ports.specs.Shelf.{Files}
-use Rattle.rg_theory.specs.System.{System, IsInRange, IsAllReachable, IsForkFree, IsLeastUnreachable, IsLeastFork}
+use Rattle.rg_theory.specs.System.{System, IsInRange, IsAllReachable, IsForkFree}
+use Rattle.rg_checks.specs.declared.flaw.Flaw.{Flaw}
+use Rattle.rg_checks.specs.Flaws.{IsFlawless, IsFirstFlaw}
 use Rattle.rg_theory.specs.declared.Class.{Class}
 use Rattle.rg_theory.specs.ClassWords.{HasNumbersInRange}
 use Rattle.rg_decided.proofs.Deciding.{each_or_first}
@@ -15,17 +17,16 @@ use Rattle.rg_product.proofs.OneFactoring.{factors_in_range}
 use Rattle.rg_synth.specs.Answer.{IsOpen}
 use Rattle.rg_factor_nets.specs.Answer.{HasNet}
 use Rattle.rg_commands.specs.declared.request.Work.TheVariants as work
-use Rattle.rg_top.specs.Factor.{HasFactors, for_a_state, for_a_fork, for_one_block, for_sizes, for_factors, for_nets, for_a_reason}
+use Rattle.rg_top.specs.Factor.{HasFactors, for_a_flaw, for_one_block, for_sizes, for_factors, for_nets, for_a_reason}
 use Rattle.rg_top.specs.Due.{for_factors as term_for_factors}
 use Rattle.rg_top.specs.Terms.{of_factor}
 use Rattle.rg_top.specs.declared.status.Status.TheVariants.{Done, No}
 use Rattle.rg_top.proofs.Something.{SomethingOn}
 use Rattle.rg_top.proofs.SomeNets.{SomeOut}
 
--- whether a system in range is open is decided, and an open one has a factoring; a system in range and a class have an answer
+-- a system in range has a first flaw or is open, and an open one has a factoring; a system in range and a class have an answer
 pub record SomeFactoring : Type 0 where
-  pub reachable : (lts : System) → IsInRange lts → IsAllReachable lts ⊎ ((s : ℕ) × IsLeastUnreachable lts s)
-  pub fork_free : (lts : System) → IsInRange lts → IsForkFree lts ⊎ ((s t s₁ s₂ : ℕ) × IsLeastFork lts s t s₁ s₂)
+  pub flaw : (lts : System) → IsInRange lts → ((f : Flaw) × IsFirstFlaw lts f) ⊎ IsFlawless lts
   pub factoring : (lts : System) → IsInRange lts → IsAllReachable lts → IsForkFree lts → (f : Factoring) × IsFactoring lts f
   pub out : SomeOut
 
@@ -89,9 +90,8 @@ of_open some files (Some class) jobs lts numbers is_open (factors fs tuples, is)
     with_nets some files class jobs lts fs numbers (factors_inside lts fs tuples is) (tuples, is_open, is)
 
 pub some_factors : SomeFactoring → (files : Files) (class : Option Class) (jobs : ℕ) (lts : System) → IsInRange lts → IfSome class HasNumbersInRange → SomethingOn files (work.Factor class jobs) lts
-some_factors some files class jobs lts fine numbers = by (some.reachable lts fine) (some.fork_free lts fine)
+some_factors some files class jobs lts fine numbers = by (some.flaw lts fine)
   where
-    by : IsAllReachable lts ⊎ ((s : ℕ) × IsLeastUnreachable lts s) → IsForkFree lts ⊎ ((s t s₁ s₂ : ℕ) × IsLeastFork lts s t s₁ s₂) → SomethingOn files (work.Factor class jobs) lts
-    by (inr (s, is)) fork = inl (No, for_a_state s is)
-    by (inl all) (inr (s, t, p, q, is)) = inl (No, for_a_fork s t p q all is)
-    by (inl all) (inl one) = of_open some.out files class jobs lts numbers (record { reachable = all; fork_free = one }) (some.factoring lts fine all one)
+    by : ((f : Flaw) × IsFirstFlaw lts f) ⊎ IsFlawless lts → SomethingOn files (work.Factor class jobs) lts
+    by (inl (f, is)) = inl (No, for_a_flaw f is)
+    by (inr is_open) = of_open some.out files class jobs lts numbers is_open (some.factoring lts fine is_open.reachable is_open.fork_free)

@@ -18,10 +18,9 @@ use Rattle.rg_verify.specs.declared.verdict.Verdict.{Verdict}
 use Rattle.rg_verify.specs.declared.verdict.Verdict.TheVariants.{Accepted, Refused}
 use Rattle.rg_verify.specs.Judged.{Holds, Judges}
 use Rattle.rg_verify.proofs.OneVerdict.{refused_fails}
-use Rattle.rg_messages.specs.declared.fault.Fault.{Fault}
 use Rattle.rg_messages.specs.declared.fault.Fault.TheVariants.{Net as OfNet}
 use Rattle.rg_messages.specs.declared.wide.WideCause.TheVariants.{Check}
-use Rattle.rg_top.specs.Given.{IsFile, IsUnread}
+use Rattle.rg_top.specs.Given.{IsFile}
 use Rattle.rg_top.specs.Second.{second_fault}
 use Rattle.rg_top.specs.Verify.{VerifyIsDue, by_no_file, by_proof, by_no_proof}
 use Rattle.rg_top.specs.Check.{IsNetFile, CheckIsDue, by_no_net, by_yes, by_no, by_term}

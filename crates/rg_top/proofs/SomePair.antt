@@ -2,12 +2,15 @@
 use Rattle.std.proofs.Common.{◌≡◌, ◌⊎◌, inl, inr, ℕ, ◌<◌, ◌≤◌, leb, Bool, true, false, List, Some, refl}
 use Rattle.std.proofs.lemmas.Bool.Decides.{leb_tells}
 use Rattle.rg_ports.specs.Shelf.{Files}
-use Rattle.rg_theory.specs.System.{System, IsInRange, states, labels, IsAllReachable, IsLeastUnreachable, IsForkFree, IsLeastFork}
+use Rattle.rg_theory.specs.System.{System, IsInRange, states, labels}
+use Rattle.rg_checks.specs.declared.flaw.Flaw.{Flaw}
+use Rattle.rg_checks.specs.Flaws.{IsFlawless, IsFirstFlaw}
+use Rattle.rg_checks.proofs.FirstFlaws.{not_flawless}
 use Rattle.rg_decided.proofs.Deciding.{each_or_first}
 use Rattle.rg_lts.specs.WellFormed.{IsWellFormed}
 use Rattle.rg_genet.specs.Loss.{has_label, is_on_arc, IsLabelKept, IsFirstDead, IsFirstLost}
 use Rattle.rg_iso.specs.Isomorphic.{AreIsomorphic}
-use Rattle.rg_iso.specs.Compared.{IsJudged, Told, Told.map as as_map, Told.label as as_label, Told.differs as as_difference, Compares, Compares.same as by_map, IsMap}
+use Rattle.rg_iso.specs.Compared.{Told, Told.map as as_map, Told.label as as_label, Told.differs as as_difference, Compares, Compares.same as by_map, IsMap}
 use Rattle.rg_commands.specs.declared.forms.Form.{Form}
 use Rattle.rg_commands.specs.declared.forms.Target.{Target}
 use Rattle.rg_commands.specs.declared.forms.Target.TheVariants.{Apt, Graph}
@@ -60,23 +63,21 @@ convert_some lts Graph = by_labels (all_or_first (has_label lts) (labels lts))
 
 -- ---- two systems
 
--- whether all states can be reached and whether there is a fork is decided; two systems have a result, and a difference shows that
--- they aren't isomorphic
+-- a system in range has a first flaw or is flawless; two flawless systems have a result, and a difference shows that they aren't
+-- isomorphic
 pub record SomeComparison : Type 0 where
-  pub reachable : (lts : System) → IsInRange lts → IsAllReachable lts ⊎ ((s : ℕ) × IsLeastUnreachable lts s)
-  pub fork_free : (lts : System) → IsInRange lts → IsForkFree lts ⊎ ((s t s₁ s₂ : ℕ) × IsLeastFork lts s t s₁ s₂)
-  pub told : (a b : System) → IsWellFormed a → IsWellFormed b → IsJudged a → IsJudged b → (told : Told) × Compares a b told
-  pub refutes : (a b : System) (told : Told) → IsWellFormed a → IsWellFormed b → IsJudged a → IsJudged b → Compares a b told → ¬ IsMap told → ¬ AreIsomorphic a b
+  pub flaw : (lts : System) → IsInRange lts → ((f : Flaw) × IsFirstFlaw lts f) ⊎ IsFlawless lts
+  pub told : (a b : System) → IsWellFormed a → IsWellFormed b → IsFlawless a → IsFlawless b → (told : Told) × Compares a b told
+  pub refutes : (a b : System) (told : Told) → IsWellFormed a → IsWellFormed b → IsFlawless a → IsFlawless b → Compares a b told → ¬ IsMap told → ¬ AreIsomorphic a b
 
-judged_or_not : SomeComparison → (lts : System) → IsInRange lts → IsJudged lts ⊎ (¬ IsJudged lts)
-judged_or_not some lts in_range = by (some.reachable lts in_range) (some.fork_free lts in_range)
+flawless_or_not : SomeComparison → (lts : System) → IsInRange lts → IsFlawless lts ⊎ (¬ IsFlawless lts)
+flawless_or_not some lts in_range = by (some.flaw lts in_range)
   where
-    by : IsAllReachable lts ⊎ ((s : ℕ) × IsLeastUnreachable lts s) → IsForkFree lts ⊎ ((s t s₁ s₂ : ℕ) × IsLeastFork lts s t s₁ s₂) → IsJudged lts ⊎ (¬ IsJudged lts)
-    by (inl all) (inl free) = inl (record { reachable = all; fork_free = free })
-    by (inl all) (inr (s, t, p, q, least)) = inr (λ judged. least.fork.2 (judged.fork_free.one_target s t p q least.fork.0 least.fork.1))
-    by (inr (s, least)) free = inr (λ judged. least.unreachable (judged.reachable.each s least.state))
+    by : ((f : Flaw) × IsFirstFlaw lts f) ⊎ IsFlawless lts → IsFlawless lts ⊎ (¬ IsFlawless lts)
+    by (inl (f, is)) = inr (not_flawless lts f is)
+    by (inr flawless) = inl flawless
 
-isomorphic_or_not : SomeComparison → (a b : System) → IsWellFormed a → IsWellFormed b → IsJudged a → IsJudged b → AreIsomorphic a b ⊎ (¬ AreIsomorphic a b)
+isomorphic_or_not : SomeComparison → (a b : System) → IsWellFormed a → IsWellFormed b → IsFlawless a → IsFlawless b → AreIsomorphic a b ⊎ (¬ AreIsomorphic a b)
 isomorphic_or_not some a b f g j k = let (told, compared) = some.told a b f g j k in by told compared
   where
     by : (told : Told) → Compares a b told → AreIsomorphic a b ⊎ (¬ AreIsomorphic a b)
@@ -88,17 +89,17 @@ pub isomorphic_some : SomeReading → SomeComparison → (files : Files) (named 
     → (s : Status) × IsomorphicIsDue (Some files) named form lts s
 isomorphic_some reading some files named form lts formed = by (which_system reading files form named)
   where
-    both : (other : System) → IsSystemFile (Some files) form named other → IsJudged lts → IsJudged other → AreIsomorphic lts other ⊎ (¬ AreIsomorphic lts other)
+    both : (other : System) → IsSystemFile (Some files) form named other → IsFlawless lts → IsFlawless other → AreIsomorphic lts other ⊎ (¬ AreIsomorphic lts other)
         → (s : Status) × IsomorphicIsDue (Some files) named form lts s
     both other file j k (inl isomorphic) = (Done, by_same (record { other = other; file = file; first = j; second = k; isomorphic = isomorphic }))
     both other file j k (inr different) = (No, by_other (record { other = other; file = file; why = inr (inr different) }))
 
-    judged : (other : System) → IsSystemFile (Some files) form named other → IsWellFormed other → IsJudged lts ⊎ (¬ IsJudged lts) → IsJudged other ⊎ (¬ IsJudged other)
+    paired : (other : System) → IsSystemFile (Some files) form named other → IsWellFormed other → IsFlawless lts ⊎ (¬ IsFlawless lts) → IsFlawless other ⊎ (¬ IsFlawless other)
         → (s : Status) × IsomorphicIsDue (Some files) named form lts s
-    judged other file formed' (inl j) (inl k) = both other file j k (isomorphic_or_not some lts other formed formed' j k)
-    judged other file formed' (inl j) (inr k) = (No, by_other (record { other = other; file = file; why = inr (inl k) }))
-    judged other file formed' (inr j) k = (No, by_other (record { other = other; file = file; why = inl j }))
+    paired other file formed' (inl j) (inl k) = both other file j k (isomorphic_or_not some lts other formed formed' j k)
+    paired other file formed' (inl j) (inr k) = (No, by_other (record { other = other; file = file; why = inr (inl k) }))
+    paired other file formed' (inr j) k = (No, by_other (record { other = other; file = file; why = inl j }))
 
     by : WhichSystem files form named → (s : Status) × IsomorphicIsDue (Some files) named form lts s
     by (of_none fault h) = (File (second_fault fault), by_no_system fault h)
-    by (of_one other file formed') = judged other file formed' (judged_or_not some lts formed.in_range) (judged_or_not some other formed'.in_range)
+    by (of_one other file formed') = paired other file formed' (flawless_or_not some lts formed.in_range) (flawless_or_not some other formed'.in_range)

@@ -1,12 +1,13 @@
 -- `split` ends in one way for a system and what is asked.
 use Rattle.std.proofs.Common.{◌≡◌, ℕ, List, refl, ap, ◌∙◌}
 use Rattle.rg_theory.specs.System.{System, labels, IsLeastUnreachable}
+use Rattle.rg_checks.specs.declared.flaw.Flaw.TheVariants.{Unreachable}
 use Rattle.rg_theory.specs.Net.{Net, Place}
 use Rattle.rg_case_folds.specs.Shown.{Shown}
 use Rattle.rg_separate.specs.View.{shown_of}
 use Rattle.rg_split.specs.Rounds.{Labelling, labelling, Splitting, Splitting.done as done, Splitting.unreachable as unreachable, Splitting.full as full, Splitting.too_wide as passes, SplitsTo}
 use Rattle.rg_commands.specs.declared.splitting.SplitOutput.{SplitOutput}
-use Rattle.rg_messages.specs.FactorTexts.{unreachable_line}
+use Rattle.rg_messages.specs.FlawTexts.{flaw_line}
 use Rattle.rg_messages.specs.SplitTexts.{full_line}
 use Rattle.rg_top.specs.End.{End, says_yes, says_no, shows_term, HasStatus}
 use Rattle.rg_top.specs.Split.{labelled_net_text, solved_text, SplitEnds, a_net, a_system, a_state, no_room, a_term, SplitIsDue, for_a_net, for_a_state, for_room, for_a_term}
@@ -27,7 +28,7 @@ net_of now places = record { labels = labels now.system; places = places }
 
 abbrev end_of : System → SplitOutput → Splitting → End
 end_of lts output (done now places) = says_yes (solved_text lts now (net_of now places) output)
-end_of lts output (unreachable q) = says_no (unreachable_line lts q)
+end_of lts output (unreachable q) = says_no (flaw_line lts (Unreachable q))
 end_of lts output (full now reason) = says_no full_line
 end_of lts output (passes now w) = shows_term (of_split now.system w)
 

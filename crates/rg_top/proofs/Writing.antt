@@ -3,7 +3,7 @@ use Rattle.std.proofs.Common.{◌≡◌, ◌⊎◌, inl, inr, ℕ, List, sym, su
 use Rattle.rg_top.specs.End.{End, says_yes, says_no, refuses_words, refuses_file, shows_term, Output, to_out, to_err, output_of, HasStatus}
 use Rattle.rg_top.specs.Ends.{Answers}
 use Rattle.rg_top.specs.Requests.{IsWritten}
-use Rattle.rg_top.specs.Run.{Run, Takes, IsLeft, TakesOutput, BreaksOutput, Says, Ends, IsMishap}
+use Rattle.rg_top.specs.Run.{Run, IsLeft, TakesOutput, BreaksOutput, Says, Ends, IsMishap}
 use Rattle.rg_top.specs.declared.status.Status.{Status}
 use Rattle.rg_top.specs.declared.status.Status.TheVariants.{Done, No, Usage, File, TooWide, ReadFault, WriteFault, NoMemory}
 

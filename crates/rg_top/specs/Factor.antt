@@ -2,11 +2,13 @@
 use Rattle.std.specs.Prelude.{◌≡◌, ℕ, ◌<◌, ◌≤◌, List, ◌++◌, length, Option, None, Some}
 use Rattle.std.specs.List.{AllZip}
 use Rattle.rg_integers.specs.Range.{greatest}
-use Rattle.rg_theory.specs.System.{System, IsAllReachable, IsLeastUnreachable, IsLeastFork}
+use Rattle.rg_theory.specs.System.{System}
 use Rattle.rg_theory.specs.Net.{Place, Net}
 use Rattle.rg_theory.specs.Solves.{Solves}
 use Rattle.rg_theory.specs.declared.Class.{Class}
 use Rattle.rg_theory.specs.Class.{IsBounded, InClass, NoNet}
+use Rattle.rg_checks.specs.declared.flaw.Flaw.{Flaw}
+use Rattle.rg_checks.specs.Flaws.{IsFirstFlaw}
 use Rattle.rg_net.specs.NetText.{net_text}
 use Rattle.rg_net.specs.Range.{IsNetInRange}
 use Rattle.rg_netfile.specs.Contents.{most_places}
@@ -22,7 +24,8 @@ use Rattle.rg_factor_nets.specs.Answer.{HasNet, IsBehindNets, IsNetOf}
 use Rattle.rg_separate.specs.View.{shown_of}
 use Rattle.rg_cert_data.specs.declared.wide_at.WideAt.{WideAt}
 use Rattle.rg_synth.specs.Answer.{IsOpen, IsSolvingNet}
-use Rattle.rg_messages.specs.FactorTexts.{unreachable_line, fork_line, one_block_text, sizes_line, factors_text, unsolvable_factor_line}
+use Rattle.rg_messages.specs.FlawTexts.{flaw_line}
+use Rattle.rg_messages.specs.FactorTexts.{one_block_text, sizes_line, factors_text, unsolvable_factor_line}
 use Rattle.rg_messages.specs.declared.wide.WideCause.TheVariants as cause
 use Rattle.rg_top.specs.Synthesize.{IsCertificateText, IsShownFor}
 use Rattle.rg_top.specs.End.{End, says_yes, says_no, shows_term}
@@ -73,10 +76,9 @@ pub record IsFactorTerm (class : Class) (lts : System) (i : ℕ) (w : Shown) : T
   pub first : IsBehindNets class fs i f
   pub shown : IsShownFor class f.lts w
 
--- the end is that of the system: a state or a fork, one block of labels, parts that don't make it, or its factors; or that of the nets for them
+-- the end is that of the system: its first flaw, one block of labels, parts that don't make it, or its factors; or that of the nets for them
 pub data FactorEnds (lts : System) : Option Class → End → Type 0 where
-  a_state : (class : Option Class) (s : ℕ) → IsLeastUnreachable lts s → FactorEnds lts class (says_no (unreachable_line lts s))
-  a_fork : (class : Option Class) (s t s₁ s₂ : ℕ) → IsAllReachable lts → IsLeastFork lts s t s₁ s₂ → FactorEnds lts class (says_no (fork_line lts s t s₁ s₂))
+  a_flaw : (class : Option Class) (flaw : Flaw) → IsFirstFlaw lts flaw → FactorEnds lts class (says_no (flaw_line lts flaw))
   no_blocks : (class : Option Class) (squares : List Broken) → IsOpen lts → IsFactoring lts (one_block squares) → IsIndivisible lts
       → FactorEnds lts class (says_no (one_block_text lts squares))
   no_product : (class : Option Class) (sizes : List ℕ) → IsOpen lts → IsFactoring lts (fewer sizes) → FactorEnds lts class (says_no (sizes_line lts sizes))
@@ -89,11 +91,10 @@ pub data FactorEnds (lts : System) : Option Class → End → Type 0 where
 abbrev pub HasFactors : System → List Factor → Type 0
 HasFactors lts fs = (tuples : List (List ℕ)) × IsOpen lts × IsFactoring lts (factors fs tuples)
 
--- when each status is expected: as the system has an unreachable state, a fork, one block of labels, or parts that don't make it; or factors,
+-- when each status is expected: as the system has a flaw, one block of labels, or parts that don't make it; or factors,
 -- and where a class is asked, as the first one whose answer is no net says, or as each has a net
 pub data FactorIsDue (lts : System) : Option Class → Status → Type 0 where
-  for_a_state : {class : Option Class} (s : ℕ) → IsLeastUnreachable lts s → FactorIsDue lts class No
-  for_a_fork : {class : Option Class} (s t s₁ s₂ : ℕ) → IsAllReachable lts → IsLeastFork lts s t s₁ s₂ → FactorIsDue lts class No
+  for_a_flaw : {class : Option Class} (flaw : Flaw) → IsFirstFlaw lts flaw → FactorIsDue lts class No
   for_one_block : {class : Option Class} (squares : List Broken) → IsOpen lts → IsFactoring lts (one_block squares) → FactorIsDue lts class No
   for_sizes : {class : Option Class} (sizes : List ℕ) → IsOpen lts → IsFactoring lts (fewer sizes) → FactorIsDue lts class No
   for_factors : (fs : List Factor) → HasFactors lts fs → FactorIsDue lts None Done

@@ -1,7 +1,8 @@
 -- How `split FILE` ends where FILE spells a system.
-use Rattle.std.specs.Prelude.{◌≡◌, ℕ, List, []}
+use Rattle.std.specs.Prelude.{◌≡◌, ℕ, List}
 use Rattle.rg_theory.specs.System.{System, labels, IsLeastUnreachable}
 use Rattle.rg_theory.specs.Limits.{most_labels}
+use Rattle.rg_checks.specs.declared.flaw.Flaw.TheVariants.{Unreachable}
 use Rattle.rg_theory.specs.Net.{Place, Net}
 use Rattle.rg_theory.specs.Solves.{Solves}
 use Rattle.rg_theory.specs.Class.{NoNet}
@@ -19,7 +20,7 @@ use Rattle.rg_split.specs.Rounds.{Labelling, labelling, itself, Splitting.done a
 use Rattle.rg_split.specs.Round.{IsToldApart}
 use Rattle.rg_commands.specs.declared.splitting.SplitOutput.{SplitOutput}
 use Rattle.rg_commands.specs.declared.splitting.SplitOutput.TheVariants as output
-use Rattle.rg_messages.specs.FactorTexts.{unreachable_line}
+use Rattle.rg_messages.specs.FlawTexts.{flaw_line}
 use Rattle.rg_messages.specs.SplitTexts.{full_line}
 use Rattle.rg_messages.specs.declared.wide.WideCause.TheVariants.{Split}
 use Rattle.rg_top.specs.End.{End, says_yes, says_no, shows_term}
@@ -81,7 +82,7 @@ pub record IsWideFor (lts system : System) (w : Shown) : Type 0 where
 pub data SplitEnds (lts : System) : SplitOutput → End → Type 0 where
   a_net : (out : List ℕ) → IsLabelledText lts out → SplitEnds lts output.Net (says_yes out)
   a_system : (out : List ℕ) → IsSplitText lts out → SplitEnds lts output.System (says_yes out)
-  a_state : {wanted : SplitOutput} (s : ℕ) → IsLeastUnreachable lts s → SplitEnds lts wanted (says_no (unreachable_line lts s))
+  a_state : {wanted : SplitOutput} (s : ℕ) → IsLeastUnreachable lts s → SplitEnds lts wanted (says_no (flaw_line lts (Unreachable s)))
   no_room : {wanted : SplitOutput} → IsFull lts → SplitEnds lts wanted (says_no full_line)
   a_term : {wanted : SplitOutput} (system : System) (w : Shown) → IsWideFor lts system w → SplitEnds lts wanted (shows_term (of_split system w))
 

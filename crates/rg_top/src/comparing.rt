@@ -1,20 +1,21 @@
 //! The answer to a request for a comparison.
-ghost use Rattle.std.specs.Prelude.{◌≡◌, ℕ, ◌≤◌, Some, IfOk, IfSome, IfNone, IsErrOf};
+ghost use Rattle.std.specs.Prelude.{◌≡◌, ℕ, ◌≤◌, Some, IfOk, IsErrOf};
 ghost use Rattle.rg_ports.specs.Count.{HasRisen};
 ghost use Rattle.rg_lts.specs.WellFormed.{IsWellFormed};
-ghost use Rattle.rg_iso.specs.Compared.{IsJudged, told_of};
-ghost use Rattle.rg_top.specs.Isomorphic.{IsomorphicEnds, PairEnds, IsUnjudged, told_end};
+ghost use Rattle.rg_checks.specs.Flaws.{IsFlawless};
+ghost use Rattle.rg_iso.specs.Compared.{told_of};
+ghost use Rattle.rg_top.specs.Isomorphic.{IsomorphicEnds, PairEnds, told_end};
 ghost use Rattle.rg_top.specs.Requests.{end_of, asked_more, ReadsMore};
 ghost use Rattle.rg_top.specs.declared.answer.Stop.TheVariants as stop;
 
 use crate::answer::{Answer, Stop};
 use crate::files::{FileStop, read_system};
-use rg_checks::{first_fork, first_unreachable};
+use rg_checks::first_flaw;
 use rg_commands::Form;
 use rg_iso::{Same, compare};
 use rg_lts::Lts;
 use rg_memory::NoMemory;
-use rg_messages::{FileFault, comparison_has_names, fork_text, same_text, unreachable_text};
+use rg_messages::{FileFault, comparison_has_names, file_flaw_text, same_text};
 use rg_ports::Shelf;
 use std::alloc::Global;
 
@@ -47,19 +48,21 @@ fn pair_answer(alloc: Global, a: &Lts, b: &Lts) -> Result<Answer, NoMemory>
     ensures ends { IfOk result (λ made. PairEnds a.now b.now (end_of made)) }
 {
     b.is_well_formed();
-    if let Some(out) = unjudged_text(alloc, 1, a)? {
-        return Ok(Answer::No(out));
+    if let Some(flaw) = first_flaw(alloc, a)? {
+        let text = file_flaw_text(alloc, 1, a, flaw)?;
+        return Ok(Answer::No(text));
     }
-    if let Some(out) = unjudged_text(alloc, 2, b)? {
-        return Ok(Answer::No(out));
+    if let Some(flaw) = first_flaw(alloc, b)? {
+        let text = file_flaw_text(alloc, 2, b, flaw)?;
+        return Ok(Answer::No(text));
     }
-    judged_answer(alloc, a, b)
+    flawless_answer(alloc, a, b)
 }
 
-// The answer on two systems that are judged.
-fn judged_answer(alloc: Global, a: &Lts, b: &Lts) -> Result<Answer, NoMemory>
-    requires first { IsJudged a.now }
-    requires second { IsJudged b.now }
+// The answer on two flawless systems.
+fn flawless_answer(alloc: Global, a: &Lts, b: &Lts) -> Result<Answer, NoMemory>
+    requires first { IsFlawless a.now }
+    requires second { IsFlawless b.now }
     ensures { IfOk result (λ made. PairEnds a.now b.now (end_of made)) }
 {
     a.is_well_formed();
@@ -77,20 +80,5 @@ fn told_answer(same: &Same, text: Vec<u8>) -> Answer
     match same {
         Same::Map(_) => Answer::Yes(text),
         _ => Answer::No(text),
-    }
-}
-
-// The line that says why the system of the file with this number isn't judged; None where it is.
-fn unjudged_text(alloc: Global, file: u8, lts: &Lts) -> Result<Option<Vec<u8>>, NoMemory>
-    ensures unjudged { IfOk result (λ o. IfSome o (λ text. IsUnjudged file lts.now text.items)) }
-    ensures judged { IfOk result (λ o. IfNone o (IsJudged lts.now)) }
-{
-    lts.is_well_formed();
-    if let Some(s) = first_unreachable(alloc, lts)? {
-        return Ok(Some(unreachable_text(alloc, file, lts, s)?));
-    }
-    match first_fork(lts) {
-        Some(fork) => Ok(Some(fork_text(alloc, file, lts, fork)?)),
-        None => Ok(None),
     }
 }

@@ -13,15 +13,14 @@ ghost use Rattle.rg_top.specs.Requests.{end_of};
 use crate::answer::Answer;
 use rg_cert::print;
 use rg_cert_data::Certificate;
-use rg_checks::{first_fork, first_unreachable};
+use rg_checks::first_flaw;
 use rg_factor::{Factor, Factoring, factor};
 use rg_factor_nets::{FactorsAnswer, synthesize_factors};
 use rg_lts::Lts;
 use rg_memory::NoMemory;
 use rg_messages::{
-    WideCause, check_text, factors_text, one_block_text, sizes_text, unsolvable_factor_text,
+    WideCause, factors_text, flaw_text, one_block_text, sizes_text, unsolvable_factor_text,
 };
-use rg_net_verdict::NetNo;
 use rg_netfile::print_net;
 use rg_ports::Gate;
 use rg_theory::Class;
@@ -42,20 +41,16 @@ pub(crate) fn factor_answer<R: Threads + Sync, G: Gate + Sync>(
     ensures { IfOk result (λ a. FactorEnds lts.now class (end_of a)) }
 {
     lts.is_well_formed();
-    if let Some(s) = first_unreachable(alloc, lts)? {
-        let text = check_text(alloc, lts, NetNo::Unreachable(s))?;
-        return Ok(Answer::No(text));
-    }
-    match first_fork(lts) {
-        Some((s, t, to, other)) => {
-            let text = check_text(alloc, lts, NetNo::Fork(s, t, to, other))?;
+    match first_flaw(alloc, lts)? {
+        Some(flaw) => {
+            let text = flaw_text(alloc, lts, flaw)?;
             Ok(Answer::No(text))
         }
         None => open_answer(rt, alloc, class, lts, jobs, gate),
     }
 }
 
-// The same of a system without an unreachable state or a fork.
+// The same of a flawless system.
 fn open_answer<R: Threads + Sync, G: Gate + Sync>(
     rt: &R,
     alloc: Global,

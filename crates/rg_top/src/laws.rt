@@ -24,8 +24,8 @@ ghost use Rattle.rg_top.specs.End.{End, HasStatus};
 ghost use Rattle.rg_top.specs.One.{OneAnswer};
 ghost use Rattle.rg_top.specs.declared.status.Status.{Status};
 
+use rg_checks::one_first_flaw;
 use rg_commands::words_say_one_thing;
-use rg_decided::systems_are_decided;
 use rg_families::one_of_each;
 use rg_iso::{difference_refutes, one_comparison};
 use rg_net_verdict::verdict_is_one;
@@ -33,7 +33,6 @@ use rg_outcome::outcome_is_one;
 use rg_product::factoring_is_one;
 use rg_report::one_examination;
 use rg_split::{splitting_is_one, splitting_says};
-use rg_theory::one_least_fork;
 use rg_verify::one_verdict;
 
 /// Law: `verify` accepts what `synthesize` writes with status 1, for the same system, in any file.
@@ -81,7 +80,7 @@ pub fn factor_ends_once()
     ensures once { (lts : System) (class : Option Class) (e e' : End) → IsInRange lts → FactorEnds lts class e → FactorEnds lts class e' → e ≡ e' }
     ensures due { (lts : System) (class : Option Class) (e : End) (due : Status) → IsInRange lts → FactorEnds lts class e → FactorIsDue lts class due → HasStatus e due }
 {
-    one_least_fork();
+    one_first_flaw();
     factoring_is_one();
     outcome_is_one();
 }
@@ -105,7 +104,7 @@ pub fn isomorphic_ends_once()
     rg_apt::one_answer();
     rg_genet::one_answer();
     rg_words::one_answer();
-    one_least_fork();
+    one_first_flaw();
     one_comparison();
 }
 
@@ -152,7 +151,7 @@ pub fn answers_are_one()
     rg_words::one_answer();
     rg_cert::one_answer();
     rg_netfile::one_answer();
-    one_least_fork();
+    one_first_flaw();
     factoring_is_one();
     splitting_is_one();
     splitting_says();
@@ -163,6 +162,5 @@ pub fn answers_are_one()
     rg_words::spelled_is_well_formed();
     rg_cert::spelled_is_in_range();
     rg_netfile::spelled_is_for_the_system();
-    systems_are_decided();
     difference_refutes();
 }

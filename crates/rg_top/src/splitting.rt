@@ -6,12 +6,12 @@ ghost use Rattle.rg_split.specs.Rounds.{labelling};
 
 use crate::answer::Answer;
 use rg_apt::print_lts;
+use rg_checks::Flaw;
 use rg_commands::SplitOutput;
 use rg_lts::Lts;
 use rg_memory::NoMemory;
-use rg_messages::{WideCause, check_text, full_text};
+use rg_messages::{WideCause, flaw_text, full_text};
 use rg_net::Net;
-use rg_net_verdict::NetNo;
 use rg_netfile::print_labelled;
 use rg_ports::Gate;
 use rg_split::{Splitting, split};
@@ -37,7 +37,7 @@ pub(crate) fn split_answer<R: Threads + Sync, G: Gate + Sync>(
             Ok(Answer::Yes(text))
         }
         Splitting::Unreachable(s) => {
-            let text = check_text(alloc, lts, NetNo::Unreachable(s))?;
+            let text = flaw_text(alloc, lts, Flaw::Unreachable(s))?;
             Ok(Answer::No(text))
         }
         Splitting::Full { .. } => Ok(Answer::No(full_text(alloc)?)),

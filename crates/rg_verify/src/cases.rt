@@ -26,7 +26,7 @@ pub(crate) struct Found {
 
 impl Found {
     /// The verdict where the case has the number.
-    pub(crate) fn refused(self, case: u32) -> Verdict
+    pub(crate) fn refusal_of(self, case: u32) -> Verdict
         ensures { result ≡ verdict.Refused case self.node self.defect }
     {
         Verdict::Refused {

@@ -57,12 +57,12 @@ fn on_whole(holds: bool) -> Verdict
     if holds {
         Verdict::Accepted
     } else {
-        refused(Defect::NotSo)
+        refusal_of(Defect::NotSo)
     }
 }
 
 // Refused as a whole.
-fn refused(defect: Defect) -> Verdict
+fn refusal_of(defect: Defect) -> Verdict
     ensures { result ≡ verdict.Refused 0 0 defect }
 {
     Verdict::Refused {
@@ -88,7 +88,7 @@ fn event_verdict(
     ensures { IfOk result (JudgesTrees lts.now class (problem.Event s t) (case_tree case.now ∷ [])) }
 {
     if has_arc_at(lts, s, t) {
-        return Ok(refused(Defect::NotSo));
+        return Ok(refusal_of(Defect::NotSo));
     }
     let problem_case = ProblemCase {
         class,
@@ -97,7 +97,7 @@ fn event_verdict(
     };
     let mut sums = Sums::new(alloc, lts)?;
     match case_defect(alloc, &mut sums, lts, problem_case, case)? {
-        Some(found) => Ok(found.refused(0)),
+        Some(found) => Ok(found.refusal_of(0)),
         None => Ok(Verdict::Accepted),
     }
 }
@@ -118,10 +118,10 @@ fn states_verdict(
     ensures { IfOk result (JudgesTrees lts.now class (problem.States s other) (map case_tree cases.now)) }
 {
     if s == other {
-        return Ok(refused(Defect::NotSo));
+        return Ok(refusal_of(Defect::NotSo));
     }
     if !has_all_cases(lts, class, cases) {
-        return Ok(refused(Defect::CaseMissing));
+        return Ok(refusal_of(Defect::CaseMissing));
     }
     let mut sums = Sums::new(alloc, lts)?;
     for (number, case) in cases.iter().enumerate() {
@@ -131,7 +131,7 @@ fn states_verdict(
             number: number as u32,
         };
         if let Some(found) = case_defect(alloc, &mut sums, lts, problem_case, case)? {
-            return Ok(found.refused(problem_case.number));
+            return Ok(found.refusal_of(problem_case.number));
         }
     }
     Ok(Verdict::Accepted)
@@ -175,13 +175,11 @@ fn is_fork(arcs: &[Arc], s: u32, t: u32, first: u32, second: u32) -> bool
     requires { AllPairs IsArcBefore arcs.now }
     ensures { IsTrue result ↔ (Contains arcs.now (arc s t first) × Contains arcs.now (arc s t second) × (first ≢ second)) }
 {
-    first != second
-        && has_arc(arcs, &labelled(s, t, first))
-        && has_arc(arcs, &labelled(s, t, second))
+    first != second && has_arc(arcs, &arc_of(s, t, first)) && has_arc(arcs, &arc_of(s, t, second))
 }
 
 // The arc from a state to a state.
-fn labelled(from: u32, label: u32, to: u32) -> Arc
+fn arc_of(from: u32, label: u32, to: u32) -> Arc
     ensures { result ≡ arc from label to }
 {
     Arc { from, label, to }

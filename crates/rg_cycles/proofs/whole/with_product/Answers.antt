@@ -3,8 +3,14 @@ use Rattle.std.specs.Prelude.{FitsSigned}
 use Rattle.std.specs.Int.{w64}
 use Rattle.std.proofs.lemmas.Int.{to_z-of_z}
 use Rattle.rg_integers.proofs.Casts.{back}
-use Rattle.rg_cycles.proofs.WholeSteps.{step_of_words}
+use Rattle.rg_cycles.proofs.AddsNothing.{zero_of_bits}
+use Rattle.rg_cycles.proofs.WholeSteps.{short_in_range, zero_step, step_of_words}
 use Rattle.rg_cycles.proofs.whole.with_product.Goals as goal
+
+pub returns-then-number-eq0 : goal.returns-then-number-eq0
+returns-then-number-eq0 c =
+    rw (to_z-of_z w64 c.args.sum c.ranges.sum)
+    (zero_step c.args.count c.args.number c.args.sum (zero_of_bits c.args.number c.requires c.if-number-eq0.true) (short_in_range c.args.sum c.ranges.sum))
 
 pub returns : goal.returns
 returns c =

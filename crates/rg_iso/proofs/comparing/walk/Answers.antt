@@ -15,18 +15,18 @@ returns-in-Some c =
 whole : (c : After-len) → (c.len.result ≤ c.loop-index.index) → IsWhole c.args.a.now c.args.b.now (pairs_in c.loop-index.pairing) c.loop-index.index
 whole c past = record { followed = c.loop-index.invariant; all = let n = c.len.ensures in omega (arith, n, past) }
 
-pub mapped-requires : goal.mapped-requires
-mapped-requires c = λ s lt.
+pub map_of-requires : goal.map_of-requires
+map_of-requires c = λ s lt.
     (let past = c.loop-index-test.false in
-    let w = whole (goal.at.mapped-requires c).After-len (omega (arith, past)) in
+    let w = whole (goal.at.map_of-requires c).After-len (omega (arith, past)) in
     let lt' = subst (λ xs. s < length xs) c.deref.ensures.value lt in
-    let (q, is) = each_has c.args.a.now c.args.b.now c.requires.comparable c.requires.labels (pairs_in c.loop-index.pairing) c.loop-index.index w c.requires.first s lt' in
+    let (q, is) = each_has c.args.a.now c.args.b.now c.requires.comparable c.requires.labels (pairs_in c.loop-index.pairing) c.loop-index.index w s lt' in
     ap is_some (ap (λ xs. slice_index_or xs s None) c.deref.ensures.value ∙ is))
 
 pub returns : goal.returns
 returns c =
     let past = c.loop-index-test.false in
     let w = whole (goal.at.returns c).After-len (omega (arith, past)) in
-    let states = c.in_ok-mapped.field-0.items in
+    let states = c.in_ok-map_of.field-0.items in
     by_map states c.requires.labels
-    (isomorphism c.args.a.now c.args.b.now c.requires.comparable c.requires.labels (pairs_in c.loop-index.pairing) c.loop-index.index w states (c.in_ok-mapped.ensures ∙ c.deref.ensures.value) c.requires.second)
+    (isomorphism c.args.a.now c.args.b.now c.requires.comparable c.requires.labels (pairs_in c.loop-index.pairing) c.loop-index.index w states (c.in_ok-map_of.ensures ∙ c.deref.ensures.value))

@@ -64,7 +64,7 @@ returns-in-Ok-clause-in_range c = bounded_yes c.args.lts.now c.args.net.now c.ar
     (subst (λ l. HaveMarkings c.args.lts.now c.args.net.now l (marking_of (shown_markings c.in_ok-rows.rows.items))) c.arcs.ensures c.in_ok-rows.ensures.have)
     (subst (λ l. AllDiffer c.args.lts.now (marking_of (shown_markings l))) c.deref-2.ensures.value (rw c.in_default.is at c.in_ok-s.ensures.none))
     (subst (λ l. AreRightBefore c.args.lts.now c.args.net.now (marking_of (shown_markings l)) (states c.args.lts.now) 0) c.as_slice-2.ensures.value
-    c.in_default-first_wrong.ensures.none) c.requires.tree.tree c.requires.flawless.reachable c.requires.flawless.fork_free c.requires.system.in_range c.requires.labels
+    c.in_default-first_wrong.ensures.none) c.requires.tree.tree c.requires.flawless c.requires.system.in_range c.requires.labels
 
 pub returns-clause-no : goal.returns-clause-no
 returns-clause-no c = λ n e.

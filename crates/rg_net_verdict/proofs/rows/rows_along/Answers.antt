@@ -55,14 +55,14 @@ returns-then-not-allows-clause-no c = λ class n e.
     (arc 0 0 0) c.in_ok-rows.ensures.system c.requires.tree c.requires.labels c.loop-a-test.true c.loop-a.invariant) c.index-flows-a.is))
     c.deref-in-loop-a.result.now on)))))
 
-pub fired-requires-clause-flow : goal.fired-requires-clause-flow
-fired-requires-clause-flow c = subst (IsFlow c.args.net.now (get_or c.args.tree.now c.loop-a.a-index (arc 0 0 0)).label) (sym c.deref-in-loop-a-2.ensures.value)
+pub fire_along-requires-clause-flow : goal.fire_along-requires-clause-flow
+fire_along-requires-clause-flow c = subst (IsFlow c.args.net.now (get_or c.args.tree.now c.loop-a.a-index (arc 0 0 0)).label) (sym c.deref-in-loop-a-2.ensures.value)
     (flow_read c.args.net.now c.args.flows.now (get_or c.args.tree.now c.loop-a.a-index (arc 0 0 0)).label c.index-flows-a.result c.requires.flows
     (label_within c.args.lts.now c.args.net.now c.args.tree.now (shown_markings c.loop-a.rows.items) c.loop-a.a-index
     (arc 0 0 0) c.in_ok-rows.ensures.system c.requires.tree c.requires.labels c.loop-a-test.true c.loop-a.invariant) c.index-flows-a.is)
 
-pub fired-requires-clause-enabled : goal.fired-requires-clause-enabled
-fired-requires-clause-enabled c =
+pub fire_along-requires-clause-enabled : goal.fire_along-requires-clause-enabled
+fire_along-requires-clause-enabled c =
     subst (λ m. IsEnabled c.args.net.now m (get_or c.args.tree.now c.loop-a.a-index (arc 0 0 0)).label) (c.deref-in-loop-a.ensures.value ∙ sym c.deref-in-loop-a-3.ensures.value)
     (enabled_by c.args.net.now (get_or c.args.tree.now c.loop-a.a-index (arc 0 0 0)).label c.deref.result.now
     (subst (IsFlow c.args.net.now (get_or c.args.tree.now c.loop-a.a-index (arc 0 0 0)).label) (sym c.deref.ensures.value)
@@ -71,18 +71,18 @@ fired-requires-clause-enabled c =
     (arc 0 0 0) c.in_ok-rows.ensures.system c.requires.tree c.requires.labels c.loop-a-test.true c.loop-a.invariant) c.index-flows-a.is))
     c.deref-in-loop-a.result.now (c.allows.ensures.0 c.if-not-allows.false))
 
-pub fired-requires-clause-places : goal.fired-requires-clause-places
-fired-requires-clause-places c = source_places c.args.lts.now c.args.net.now c.args.tree.now (shown_markings c.loop-a.rows.items) c.loop-a.a-index
+pub fire_along-requires-clause-places : goal.fire_along-requires-clause-places
+fire_along-requires-clause-places c = source_places c.args.lts.now c.args.net.now c.args.tree.now (shown_markings c.loop-a.rows.items) c.loop-a.a-index
     (arc 0 0 0) c.in_ok-rows.ensures.system c.requires.tree c.requires.labels c.loop-a-test.true c.loop-a.invariant c.deref-in-loop-a-3.result.now
     (source_row c.args.lts.now c.args.net.now c.args.tree.now c.loop-a.rows.items c.loop-a.a-index
     (arc 0 0 0) c.in_ok-rows.ensures.system c.requires.tree c.requires.labels c.loop-a-test.true c.loop-a.invariant c.index-source.result.now c.index-source.ensures
     ∙ sym c.deref-in-loop-a-3.ensures.value)
 
-pub fired-requires-clause-label : goal.fired-requires-clause-label
-fired-requires-clause-label c = label_within c.args.lts.now c.args.net.now c.args.tree.now (shown_markings c.loop-a.rows.items) c.loop-a.a-index (arc 0 0 0) c.in_ok-rows.ensures.system c.requires.tree c.requires.labels c.loop-a-test.true c.loop-a.invariant
+pub fire_along-requires-clause-label : goal.fire_along-requires-clause-label
+fire_along-requires-clause-label c = label_within c.args.lts.now c.args.net.now c.args.tree.now (shown_markings c.loop-a.rows.items) c.loop-a.a-index (arc 0 0 0) c.in_ok-rows.ensures.system c.requires.tree c.requires.labels c.loop-a-test.true c.loop-a.invariant
 
-pub fired-requires-clause-in_range : goal.fired-requires-clause-in_range
-fired-requires-clause-in_range c = source_in_range c.args.lts.now c.args.net.now c.args.tree.now (shown_markings c.loop-a.rows.items) c.loop-a.a-index
+pub fire_along-requires-clause-in_range : goal.fire_along-requires-clause-in_range
+fire_along-requires-clause-in_range c = source_in_range c.args.lts.now c.args.net.now c.args.tree.now (shown_markings c.loop-a.rows.items) c.loop-a.a-index
     (arc 0 0 0) c.in_ok-rows.ensures.system c.requires.tree c.requires.labels c.loop-a-test.true c.loop-a.invariant c.deref-in-loop-a-3.result.now
     (source_row c.args.lts.now c.args.net.now c.args.tree.now c.loop-a.rows.items c.loop-a.a-index
     (arc 0 0 0) c.in_ok-rows.ensures.system c.requires.tree c.requires.labels c.loop-a-test.true c.loop-a.invariant c.index-source.result.now c.index-source.ensures
@@ -94,7 +94,7 @@ returns-in_err-target-clause-wide c = λ class w e.
     let k = h.1 in
     let j = h.2 in
     let g = c.in_err-target.was in
-    let told : c.fired.result ≡ Err (Stop (Wide w)) = cc in
+    let told : c.fire_along.result ≡ Err (Stop (Wide w)) = cc in
     passes_here c.args.lts.now c.args.net.now c.args.tree.now (shown_markings c.loop-a.rows.items) c.loop-a.a-index
     (arc 0 0 0) c.in_ok-rows.ensures.system c.requires.tree c.requires.labels c.loop-a-test.true c.loop-a.invariant c.deref-in-loop-a-3.result.now w
     (source_row c.args.lts.now c.args.net.now c.args.tree.now c.loop-a.rows.items c.loop-a.a-index
@@ -107,7 +107,7 @@ returns-in_err-target-clause-wide c = λ class w e.
     (flow_read c.args.net.now c.args.flows.now (get_or c.args.tree.now c.loop-a.a-index (arc 0 0 0)).label c.index-flows-a.result c.requires.flows
     (label_within c.args.lts.now c.args.net.now c.args.tree.now (shown_markings c.loop-a.rows.items) c.loop-a.a-index
     (arc 0 0 0) c.in_ok-rows.ensures.system c.requires.tree c.requires.labels c.loop-a-test.true c.loop-a.invariant) c.index-flows-a.is))
-    c.deref-in-loop-a.result.now (c.allows.ensures.0 c.if-not-allows.false))) (c.fired.ensures.passes w told)
+    c.deref-in-loop-a.result.now (c.allows.ensures.0 c.if-not-allows.false))) (c.fire_along.ensures.passes w told)
 
 pub index_mut-requires : goal.index_mut-requires
 index_mut-requires c =

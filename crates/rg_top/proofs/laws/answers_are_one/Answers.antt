@@ -30,7 +30,7 @@ returns c = all_one (record {
     one_verdict = c.verdict_is_one.ensures.once;
   };
   factoring = record {
-    one_fork = c.one_least_fork.ensures;
+    one_flaw = c.one_first_flaw.ensures.once;
     one_factoring = c.factoring_is_one.ensures.once;
     out = c.outcome_is_one.ensures.answer;
   };
@@ -39,7 +39,7 @@ returns c = all_one (record {
     state = c.splitting_says.ensures.state;
   };
   comparison = record {
-    one_fork = c.one_least_fork.ensures;
+    one_flaw = c.one_first_flaw.ensures.once;
     one_told = c.one_comparison.ensures.once;
   };
   examination = c.one_examination.ensures.once;
@@ -69,8 +69,7 @@ returns c = all_one (record {
     verdict = c.verdict_is_one.ensures.some;
   };
   factoring = record {
-    reachable = c.systems_are_decided.ensures.reachable;
-    fork_free = c.systems_are_decided.ensures.fork_free;
+    flaw = c.one_first_flaw.ensures.some;
     factoring = c.factoring_is_one.ensures.some;
     out = c.outcome_is_one.ensures.some;
   };
@@ -79,8 +78,7 @@ returns c = all_one (record {
     right = c.splitting_says.ensures.right;
   };
   comparison = record {
-    reachable = c.systems_are_decided.ensures.reachable;
-    fork_free = c.systems_are_decided.ensures.fork_free;
+    flaw = c.one_first_flaw.ensures.some;
     told = c.one_comparison.ensures.some;
     refutes = c.difference_refutes.ensures;
   };

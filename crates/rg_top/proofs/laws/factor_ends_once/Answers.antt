@@ -3,8 +3,8 @@ use Rattle.rg_top.proofs.laws.factor_ends_once.Goals as goal
 
 pub returns-clause-once : goal.returns-clause-once
 returns-clause-once c =
-    factor_once (record { one_fork = c.one_least_fork.ensures; one_factoring = c.factoring_is_one.ensures.once; out = c.outcome_is_one.ensures.answer })
+    factor_once (record { one_flaw = c.one_first_flaw.ensures.once; one_factoring = c.factoring_is_one.ensures.once; out = c.outcome_is_one.ensures.answer })
 
 pub returns-clause-due : goal.returns-clause-due
 returns-clause-due c =
-    factor_due (record { one_fork = c.one_least_fork.ensures; one_factoring = c.factoring_is_one.ensures.once; out = c.outcome_is_one.ensures.answer })
+    factor_due (record { one_flaw = c.one_first_flaw.ensures.once; one_factoring = c.factoring_is_one.ensures.once; out = c.outcome_is_one.ensures.answer })

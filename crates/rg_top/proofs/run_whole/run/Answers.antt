@@ -1,10 +1,9 @@
-use Rattle.std.proofs.Common.{refl, Err, inl, inr, ap, subst, List, ℕ, map, string_bytes}
+use Rattle.std.proofs.Common.{refl, Err, ap, subst, List, ℕ, map, string_bytes}
 use Rattle.rg_ports.specs.Offer.{done}
 use Rattle.rg_top.specs.Run.{writes, IsTheOne}
 use Rattle.rg_top.specs.Requests.{end_of, IsOutputOf, IsWritten}
 use Rattle.rg_top.specs.End.{HasStatus}
 use Rattle.rg_top.specs.Terms.{ShowsTerm}
-use Rattle.rg_top.specs.declared.output.Output.{Output}
 use Rattle.rg_top.proofs.Terms.{same_status}
 use Rattle.rg_top.proofs.Writing.{out_ends, err_ends, or_mishap}
 use Rattle.rg_top.proofs.run_whole.run.Goals as goal

@@ -1,6 +1,7 @@
+use Rattle.rg_checks.specs.declared.flaw.Flaw.TheVariants.{Unreachable}
 use Rattle.rg_split.specs.Rounds.{labelling}
 use Rattle.rg_split.specs.declared.splitting.Splitting.TheVariants as of
-use Rattle.rg_messages.specs.FactorTexts.{unreachable_line}
+use Rattle.rg_messages.specs.FlawTexts.{flaw_line}
 use Rattle.rg_messages.specs.SplitTexts.{full_line}
 use Rattle.rg_top.specs.Split.{SplitEnds, a_state}
 use Rattle.rg_top.proofs.ToldApart.{result_is, solved_by, solved_ends, full_ends, wide_ends}
@@ -14,10 +15,10 @@ solved_text-requires g c =
     solved_by lts found.system found.old c.deref.result.now found.net c.is_well_formed.ensures c.deref.ensures.value
     (result_is lts c.in_ok-system.field-0 (of.Done found.system found.old found.net) found.is c.in_ok-system.ensures.outcome c.in_ok-system.ensures.says)
 
-pub check_text-requires : goal.check_text-requires
-check_text-requires g c =
+pub flaw_text-requires : goal.flaw_text-requires
+flaw_text-requires g c =
     let lts = c.args.lts.now in
-    (result_is lts c.in_ok-system.field-0 (of.Unreachable c.in-Unreachable.s) c.in-Unreachable.is c.in_ok-system.ensures.outcome c.in_ok-system.ensures.says).says.state
+    (result_is lts c.in_ok-system.field-0 (of.Unreachable c.in-Unreachable.s) c.in-Unreachable.is c.in_ok-system.ensures.outcome c.in_ok-system.ensures.says).says
 
 pub returns-in-Done : goal.returns-in-Done
 returns-in-Done g c =
@@ -35,7 +36,7 @@ returns-in-Unreachable g c =
     let s = c.in-Unreachable.s in
     let result = result_is lts c.in_ok-system.field-0 (of.Unreachable s) c.in-Unreachable.is c.in_ok-system.ensures.outcome c.in_ok-system.ensures.says in
     let made = c.in_ok-text-in-Unreachable in
-    no_so (SplitEnds lts c.args.output) made.text.items (unreachable_line lts s) made.ensures (a_state s result.says)
+    no_so (SplitEnds lts c.args.output) made.text.items (flaw_line lts (Unreachable s)) made.ensures (a_state s result.says)
 
 pub returns-in-Full : goal.returns-in-Full
 returns-in-Full g c =

@@ -1,6 +1,6 @@
 use Rattle.std.proofs.Common.{◌≡◌, get_or, arith}
 use Rattle.rg_net_verdict.proofs.Shifting.{no_flow, moved_over, moved_more}
-use Rattle.rg_net_verdict.proofs.moves.moved.Goals as goal
+use Rattle.rg_net_verdict.proofs.moves.row_after.Goals as goal
 
 pub returns-then-tokens-clause-passes : goal.returns-then-tokens-clause-passes
 returns-then-tokens-clause-passes c = λ p e.

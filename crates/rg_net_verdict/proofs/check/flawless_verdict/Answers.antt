@@ -1,10 +1,10 @@
 use Rattle.std.proofs.Common.{◌≡◌, Err}
 use Rattle.rg_net_verdict.specs.declared.check.Halt.TheVariants.{No}
 use Rattle.rg_net_verdict.proofs.Telling.{verdict_no}
-use Rattle.rg_net_verdict.proofs.check.check_net.Goals as goal
+use Rattle.rg_net_verdict.proofs.check.flawless_verdict.Goals as goal
 
 pub returns-in-Err-No-clause-verdict : goal.returns-in-Err-No-clause-verdict
 returns-in-Err-No-clause-verdict c =
     let was : c.judge.result ≡ Err (No c.in-Err-No.no) = cc in
-    verdict_no c.args.lts.now c.args.net.now c.in-Ok.tree.arcs c.args.class c.in-Err-No.no c.in-Ok.ensures.all_reachable c.in_default.ensures.none
+    verdict_no c.args.lts.now c.args.net.now c.in-Ok.tree.arcs c.args.class c.in-Err-No.no c.requires.flawless
     c.in-Ok.ensures.tree.tree (c.judge.ensures.no c.in-Err-No.no was)

@@ -3,7 +3,7 @@ use Rattle.std.proofs.lemmas.Grind.{get_or-set_at}
 use Rattle.rg_theory.specs.Solves.{marking_of}
 use Rattle.rg_net.specs.ClassBreaks.{shown_markings}
 use Rattle.rg_net_verdict.proofs.Along.{row_set, row_count}
-use Rattle.rg_net_verdict.proofs.rows.begun.Goals as goal
+use Rattle.rg_net_verdict.proofs.rows.begin_rows.Goals as goal
 
 pub index_mut-requires : goal.index_mut-requires
 index_mut-requires c =

@@ -1,7 +1,7 @@
 use Rattle.std.proofs.Common.{sym, ap, subst, ◌∙◌}
 use Rattle.rg_iso.specs.Compared.{told_of}
 use Rattle.rg_top.specs.Isomorphic.{told_end, PairEnds, compared}
-use Rattle.rg_top.proofs.comparing.judged_answer.Goals as goal
+use Rattle.rg_top.proofs.comparing.flawless_answer.Goals as goal
 
 pub same_text-requires : goal.same_text-requires
 same_text-requires c =
