@@ -91,7 +91,7 @@ fn states_left<K: Keeping>(lts: &Lts, kept: &K, s: u32, first: u32) -> Option<Pr
 }
 
 // The first problem that is left, from an event problem's numbers on.
-fn left_from<K: Keeping>(lts: &Lts, kept: &K, s: u32, first: u32) -> Option<Problem>
+fn first_left_from<K: Keeping>(lts: &Lts, kept: &K, s: u32, first: u32) -> Option<Problem>
     requires kept { K.keeps_for kept.now lts.now }
     requires state { s < states lts.now }
     ensures some { IfSome result (IsFirstFrom lts.now (K.places kept.now) (problem.Event s first)) }
@@ -116,8 +116,8 @@ pub fn next_problem<K: Keeping>(lts: &Lts, kept: &K, last: Option<Problem>) -> O
     let _states = lts.states();
     let _labels = lts.labels();
     match last {
-        None => left_from(lts, kept, 0, 0),
-        Some(Problem::Event(s, t)) => left_from(lts, kept, s, t + 1),
+        None => first_left_from(lts, kept, 0, 0),
+        Some(Problem::Event(s, t)) => first_left_from(lts, kept, s, t + 1),
         Some(Problem::States(s, other)) => states_left(lts, kept, s, other + 1),
     }
 }

@@ -34,7 +34,7 @@ pub(crate) enum NodeEnd {
 }
 
 // Settles the system below the splits with the revised dictionary. None where a number is too large for it.
-pub(crate) fn settled_small(
+pub(crate) fn settle_small(
     alloc: Global,
     revised: &mut Revised,
     system: &System,
@@ -65,7 +65,7 @@ pub(crate) fn settled_small(
 }
 
 // Settles it with the full dictionary, which may be any: it is filled again.
-pub(crate) fn settled_full(
+pub(crate) fn settle_full(
     alloc: Global,
     full: &mut Option<Dictionary>,
     system: &System,
@@ -82,13 +82,13 @@ pub(crate) fn settled_full(
         *full = Some(Dictionary::new(alloc, &System::new(columns, Vec::new(alloc)))?);
     }
     match full {
-        Some(dictionary) => filled_end(alloc, dictionary, system, forms, splits),
+        Some(dictionary) => fill_and_settle(alloc, dictionary, system, forms, splits),
         None => unreachable!(),
     }
 }
 
 // Fills the dictionary with the rows of the node, and settles it.
-fn filled_end(
+fn fill_and_settle(
     alloc: Global,
     dictionary: &mut Dictionary,
     system: &System,

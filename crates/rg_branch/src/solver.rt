@@ -5,7 +5,7 @@ ghost use Rattle.rg_branch.specs.Asked.{CanBranch, AreSidesOf, HasRowsOf};
 ghost use Rattle.rg_branch.specs.Answer.{NodeTells, IsAnswer, IsSound, IsStop};
 
 use crate::bounded::Bounded;
-use crate::node::{NodeEnd, settled_full, settled_small};
+use crate::node::{NodeEnd, settle_full, settle_small};
 use crate::splits::Splits;
 use crate::whole::{BranchStop, RawNode, Whole};
 use rg_feasible::Dictionary;
@@ -104,9 +104,9 @@ impl Solver {
         ensures node { IfOk result (NodeTells system.now (forms_of forms.now) splits.now.above.items) }
         ensures columns { self.new ≡ self.old }
     {
-        match settled_small(alloc, &mut self.revised, system, forms, splits)? {
+        match settle_small(alloc, &mut self.revised, system, forms, splits)? {
             Some(end) => Ok(end),
-            None => settled_full(alloc, &mut self.full, system, forms, splits),
+            None => settle_full(alloc, &mut self.full, system, forms, splits),
         }
     }
 }

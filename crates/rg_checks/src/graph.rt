@@ -25,7 +25,7 @@ pub fn closure(alloc: Global, graph: Graph<'_>) -> Result<Vec<Option<Step>>, NoM
     requires { IsGraph graph }
     ensures { IfOk result (λ steps. IsClosure (follows graph.entry) graph.entry.states graph.entry.initial steps.items) }
 {
-    let mut walk = begun(alloc, graph)?;
+    let mut walk = begin_walk(alloc, graph)?;
     while let Some(s) = walk.waiting.pop() {
         follow(graph, &mut walk, s)?;
     }
@@ -40,7 +40,7 @@ struct Walk {
 }
 
 // The walk that has met the initial state alone.
-fn begun(alloc: Global, graph: Graph<'_>) -> Result<Walk, NoMemory>
+fn begin_walk(alloc: Global, graph: Graph<'_>) -> Result<Walk, NoMemory>
     requires { IsGraph graph }
     ensures walk { IfOk result (λ w. IsWalk (follows graph.entry) graph.entry.states graph.entry.initial w.steps.items w.waiting.items) }
     ensures waits { IfOk result (λ w. Contains w.waiting.items graph.entry.initial) }

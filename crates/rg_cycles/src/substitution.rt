@@ -31,7 +31,7 @@ pub fn substitute(alloc: Global, basis: &Basis, counts: &[i128]) -> Result<FreeR
     requires in_range { (t : ℕ) → t < length counts.now → InRange (number_at counts.now t) }
     ensures { Comes (substitute_fold (labels_of basis.now) (cycle_of basis.now) (number_at counts.now)) (λ row. map ratio_of row.coeffs.items) result }
 {
-    let others = counted(alloc, basis, counts)?;
+    let others = list_counted(alloc, basis, counts)?;
     let mut coeffs = Vec::with_capacity(alloc, basis.free().len())?;
     for index in 0..basis.free().len() {
         let sum = coefficient(basis, counts, &others, index)?;
@@ -55,7 +55,11 @@ pub fn dependent(alloc: Global, basis: &Basis, labels: u32) -> Result<Vec<u32>, 
 }
 
 // The labels that aren't free and whose count isn't 0, in order.
-pub(crate) fn counted(alloc: Global, basis: &Basis, counts: &[i128]) -> Result<Vec<u32>, AllocError>
+pub(crate) fn list_counted(
+    alloc: Global,
+    basis: &Basis,
+    counts: &[i128],
+) -> Result<Vec<u32>, AllocError>
     requires counts { length counts.now ≡ labels_of basis.now }
     requires in_range { (t : ℕ) → t < length counts.now → InRange (number_at counts.now t) }
     ensures { IfOk result (λ v. v.items ≡ counted_labels basis.now (number_at counts.now)) }

@@ -8,7 +8,7 @@ ghost use Rattle.rg_cycles.specs.View.{labels_of, cycle_of, counted_labels};
 ghost use Rattle.rg_cycles.specs.WholeSums.{IsWholeStep, AddsTimes, AddsLabel, AreCoefficients};
 
 use crate::basis::Basis;
-use crate::substitution::counted;
+use crate::substitution::list_counted;
 use std::alloc::{AllocError, Global};
 
 /// Returns the sum that `substitute` returns, if each relation that adds to it has the `d` 1 and all numbers on the way fit
@@ -25,7 +25,7 @@ pub fn whole_sums(
     ensures sums { IfOk result (λ found. IfSome found (λ sums. substitute_fold (labels_of basis.now) (cycle_of basis.now) (number_at counts.now) (Ok (map whole sums.items)))) }
     ensures in_range { IfOk result (λ found. IfSome found (λ sums. All InRange sums.items)) }
 {
-    let others = counted(alloc, basis, counts)?;
+    let others = list_counted(alloc, basis, counts)?;
     let Some(mut sums) = own_counts(alloc, basis, counts)? else {
         return Ok(None);
     };

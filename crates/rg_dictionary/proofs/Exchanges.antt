@@ -42,8 +42,8 @@ module _ (system : LinearSystem) (members : List ℕ) (i q : ℕ) (old : List �
   new_free = exchanged_free system members i (get_or members q 0) pivot.k pivot.row member named_pivot
 
   module _ (s : List ℤ) (signed : IsSigned (row_numbers system old i) s (suc (suc q))) where
-    signed_by : (k : Relation) → DictionaryRow system members i k → IsSigned (numbers_of members k) s (suc (suc q))
-    signed_by k row = subst (λ xs. IsSigned xs s (suc (suc q))) (pivot.shown ∙ ap (numbers_of members) (same_relation system members i pivot.k k pivot.row row)) signed
+    with_sign_of : (k : Relation) → DictionaryRow system members i k → IsSigned (numbers_of members k) s (suc (suc q))
+    with_sign_of k row = subst (λ xs. IsSigned xs s (suc (suc q))) (pivot.shown ∙ ap (numbers_of members) (same_relation system members i pivot.k k pivot.row row)) signed
 
     shown_by : (v : ℕ) (l : Relation) → DictionaryRow system members v l → row_numbers system old v ≡ numbers_of members l
     shown_by v l row = let r = table.rows v row.variable row.outside in r.shown ∙ ap (numbers_of members) (same_relation system members v r.k l r.row row)
@@ -59,7 +59,7 @@ module _ (system : LinearSystem) (members : List ℕ) (i q : ℕ) (old : List �
     term_of : (v n : ℕ) (t : Wide) → IsTerm system members i (get_or members q 0) v n t → TermOf v n t
     term_of v n t is =
         let shown = shown_by v is.l is.target in
-        let found = is_term members is.k is.l s q free.ordered lt (signed_by is.k is.pivot) n t is.here in
+        let found = is_term members is.k is.l s q free.ordered lt (with_sign_of is.k is.pivot) n t is.here in
         record {
           variable = is.target.variable;
           kept = (is.target.outside, is.other);
@@ -81,7 +81,7 @@ module _ (system : LinearSystem) (members : List ℕ) (i q : ℕ) (old : List �
         target = r.row;
         other = f.kept.1;
         named = λ z. f.named (number_of v r.k r.shown ∙ z);
-        here = term_is members pivot.k r.k s q free.ordered lt (signed_by pivot.k pivot.row) e (omega (arith, f.row.inside, width))
+        here = term_is members pivot.k r.k s q free.ordered lt (with_sign_of pivot.k pivot.row) e (omega (arith, f.row.inside, width))
             ∙ ap (λ xs. Some (renewal_term s xs (suc (suc q)) e)) (sym r.shown) ∙ ap Some (sym f.row.is);
       };
       passes = f.row.passes;
@@ -119,7 +119,7 @@ module _ (system : LinearSystem) (members : List ℕ) (i q : ℕ) (old : List �
       }
         where
           raw_shown : d.raw ≡ numbers_of (set members q i) (renewed pivot.k i (get_or members q 0) r.k)
-          raw_shown = renewed_shows members pivot.k s i q lt (signed_by pivot.k pivot.row) outside r.k d.raw (subst (λ xs. IsRenewed s xs d.raw (suc (suc q))) r.shown d.renewed)
+          raw_shown = renewed_shows members pivot.k s i q lt (with_sign_of pivot.k pivot.row) outside r.k d.raw (subst (λ xs. IsRenewed s xs d.raw (suc (suc q))) r.shown d.renewed)
 
           found : ReducedTo (set members q i) (renewed pivot.k i (get_or members q 0) r.k) d.reduced
           found = reduced_shows (set members q i) (renewed pivot.k i (get_or members q 0) r.k) d.raw d.reduced d.divisor raw_shown
@@ -140,7 +140,7 @@ module _ (system : LinearSystem) (members : List ℕ) (i q : ℕ) (old : List �
       leaving_shows t new is_turned is = record {
         k = turned pivot.k i (get_or members q 0);
         row = turned_row system members i (get_or members q 0) pivot.k pivot.row member named_pivot (turned pivot.k i (get_or members q 0)) (turned_reduced system members i (get_or members q 0) pivot.k pivot.row member);
-        shown = moved_shows (turned pivot.k i (get_or members q 0)) t new (turned_shows members pivot.k s i q lt (signed_by pivot.k pivot.row) outside t free.ordered is_turned) is;
+        shown = moved_shows (turned pivot.k i (get_or members q 0)) t new (turned_shows members pivot.k s i q lt (with_sign_of pivot.k pivot.row) outside t free.ordered is_turned) is;
       }
 
       -- the table after the exchange

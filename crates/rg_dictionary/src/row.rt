@@ -19,7 +19,7 @@ pub(crate) struct RowWide {
 }
 
 // The number, or its negative where `of` is negative.
-fn signed_by(of: i128, z: i128) -> i128
+fn with_sign_of(of: i128, z: i128) -> i128
     requires { InRange z }
     ensures value { result ≡ sign of *ℤ z }
     ensures in_range { InRange result }
@@ -36,7 +36,7 @@ pub(crate) fn copy_signed(row: &[i128], signed: &mut [i128], p: usize)
     ensures in_range { RowInRange signed.new }
 {
     for n in 0..row.len() {
-        let z = signed_by(row[p], row[n]);
+        let z = with_sign_of(row[p], row[n]);
         signed[n] = z;
     }
 }

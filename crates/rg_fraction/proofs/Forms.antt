@@ -114,8 +114,8 @@ product_form n d m e hd he nd me = record {
 -- ---- what `new` answers
 
 -- n = top * g over d = bottom * g, with either sign
-pub signed-value : (p q top bottom n d g : ℤ) → top *ℤ g ≡ n → bottom *ℤ g ≡ d
+pub from_reduced-value : (p q top bottom n d g : ℤ) → top *ℤ g ≡ n → bottom *ℤ g ≡ d
     → ((p ≡ top) × (q ≡ bottom)) ⊎ ((p ≡ neg_ℤ top) × (q ≡ neg_ℤ bottom)) → SameValue p q n d
-signed-value p q top bottom n d g e f h = ⊎_elim
+from_reduced-value p q top bottom n d g e f h = ⊎_elim
     (λ (s : (p ≡ top) × (q ≡ bottom)). rw (s.0, s.1) (SameValue-parts n d top bottom g e f))
     (λ (s : (p ≡ neg_ℤ top) × (q ≡ neg_ℤ bottom)). rw (s.0, s.1) (SameValue-neg n d top bottom (SameValue-parts n d top bottom g e f))) h

@@ -6,7 +6,7 @@ ghost use Rattle.rg_integers.specs.Range.{InRange};
 ghost use Rattle.rg_fraction.specs.Exact.{IsInverseIn, IsTakenApart};
 
 // An inverse of the number in twice as many last bits (Newton's step).
-fn refined(number: u128, inverse: u128) -> u128
+fn refine_inverse(number: u128, inverse: u128) -> u128
     ensures { (j : ℕ) → 0 < j → j + j ≤ 128 → IsInverseIn j number inverse → IsInverseIn (j + j) number result }
 {
     let product = number.wrapping_mul(inverse);
@@ -18,13 +18,13 @@ fn inverse_of(odd: u128) -> u128
     requires { odd % 2 ≡ 1 }
     ensures { IsInverseIn 128 odd result }
 {
-    let two = refined(odd, odd);
-    let four = refined(odd, two);
-    let eight = refined(odd, four);
-    let sixteen = refined(odd, eight);
-    let half_word = refined(odd, sixteen);
-    let word = refined(odd, half_word);
-    refined(odd, word)
+    let two = refine_inverse(odd, odd);
+    let four = refine_inverse(odd, two);
+    let eight = refine_inverse(odd, four);
+    let sixteen = refine_inverse(odd, eight);
+    let half_word = refine_inverse(odd, sixteen);
+    let word = refine_inverse(odd, half_word);
+    refine_inverse(odd, word)
 }
 
 /// A divisor, taken apart: the number of its factors 2, and the inverse of the odd number that is left.

@@ -34,7 +34,7 @@ fn remainder(z: i128, g: i128) -> i128
 
 // The fraction of two numbers without a common factor, of any sign.
 #[tactic(auto, using(rg_integers::proofs::Casts::casts))]
-fn signed(top: i128, bottom: i128) -> Fraction
+fn from_reduced(top: i128, bottom: i128) -> Fraction
     requires top_in_range { InRange top }
     requires bottom_in_range { InRange bottom }
     requires nonzero { bottom ≢ pos 0 }
@@ -69,7 +69,7 @@ impl Fraction {
             return Fraction::whole(n);
         }
         let (top, bottom) = split(n, d);
-        signed(top, bottom)
+        from_reduced(top, bottom)
     }
 
     // The first term over the second, or the first of them that passes.

@@ -27,7 +27,7 @@ fn uncommented(line: &[u8]) -> &[u8]
 }
 
 // The line up to its comment, with blanks round each brace.
-pub(crate) fn spaced(alloc: Global, line: &[u8]) -> Result<Vec<u8>, AllocError>
+pub(crate) fn space_braces(alloc: Global, line: &[u8]) -> Result<Vec<u8>, AllocError>
     ensures { IfOk result (λ text. text.items ≡ flat_map apart (uncommented line.now)) }
 {
     let mut text = Vec::new(alloc);

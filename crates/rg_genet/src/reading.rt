@@ -14,7 +14,7 @@ ghost use Rattle.rg_genet.specs.declared.fault.GraphFault.TheVariants as fault;
 ghost use Rattle.rg_genet.specs.declared.fault.GraphFault.TheVariants.{NoMemory};
 
 use crate::fault::GraphFault;
-use crate::line::{Form, form_of, opens, passes, spaced};
+use crate::line::{Form, form_of, opens, passes, space_braces};
 use rg_line_formats::{add_label, add_state, as_name, cut_line, words};
 use rg_lts::{Arc, BuildFault, Lts, LtsBuilder};
 use rg_text::MOST_NAME_BYTES;
@@ -93,7 +93,7 @@ fn is_opening(alloc: Global, line: &[u8], number: u32) -> Result<bool, GraphFaul
     ensures right { IfOk result (λ o. o ≡ false → heading_fault (number, line.now) ≡ None) }
     ensures fault { IfErr result (λ f. f ≢ NoMemory → (heading_fault (number, line.now) ≡ Some f) × (opens (number, line.now) ≡ false)) }
 {
-    let text = spaced(alloc, line)?;
+    let text = space_braces(alloc, line)?;
     let words = words(alloc, &text)?;
     if opens(&words) {
         Ok(true)
@@ -140,7 +140,7 @@ fn take_line(alloc: Global, graph: &mut Graph, line: &[u8], number: u32) -> Resu
     ensures fault { IfErr result (λ f. f ≢ NoMemory → (before : List Line) → Shows before graph.old.builder graph.old.has_arcs graph.old.marking
         → (line_fault before (number, line.now) ≡ Some f) × (closes (number, line.now) ≡ false)) }
 {
-    let text = spaced(alloc, line)?;
+    let text = space_braces(alloc, line)?;
     let words = words(alloc, &text)?;
     match form_of(&words) {
         Form::Blank => Ok(false),

@@ -31,7 +31,7 @@ pub(crate) fn add(arcs: &mut BTreeSet<Arc>, arc: Arc) -> Result<(), BuildFault>
 }
 
 // The arcs in order.
-pub(crate) fn listed(alloc: Global, arcs: &BTreeSet<Arc>) -> Result<Vec<Arc>, AllocError>
+pub(crate) fn list_arcs(alloc: Global, arcs: &BTreeSet<Arc>) -> Result<Vec<Arc>, AllocError>
     ensures { IfOk result (λ v. v.items ≡ arcs.now.keys) }
 {
     arcs.iter().copied().collect(alloc)

@@ -182,7 +182,7 @@ impl LtsBuilder {
         let Some(initial) = self.initial else {
             return Err(BuildFault::NoInitial);
         };
-        let arcs = arc_set::listed(self.alloc, &self.arcs)?;
+        let arcs = arc_set::list_arcs(self.alloc, &self.arcs)?;
         Ok(Lts::from_parts(self.state_names, self.label_names, arcs, initial))
     }
 }

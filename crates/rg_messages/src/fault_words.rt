@@ -9,7 +9,7 @@ use rg_netfile::NetFault;
 use rg_words::WordFault;
 
 // What the grammar wants.
-fn wanted(want: Want) -> &'static [u8]
+fn want_text(want: Want) -> &'static [u8]
     ensures { result.now ≡ wanted_words want }
 {
     match want {
@@ -37,7 +37,7 @@ pub(crate) fn text_words(fault: TextFault) -> &'static [u8]
         TextFault::OpenString(_) => b"open string",
         TextFault::OpenComment(_) => b"open comment",
         TextFault::LongName(_) => b"long name",
-        TextFault::Expected(_, want) => wanted(want),
+        TextFault::Expected(_, want) => want_text(want),
         TextFault::NoType => b"no type",
         TextFault::WrongType(_) => b"wrong type",
         TextFault::TwiceState(_) => b"state twice",
@@ -143,7 +143,7 @@ pub(crate) fn net_words(fault: NetFault) -> &'static [u8]
         NetFault::OpenString(_) => b"open string",
         NetFault::OpenComment(_) => b"open comment",
         NetFault::LongName(_) => b"long name",
-        NetFault::Expected(_, want) => wanted(want),
+        NetFault::Expected(_, want) => want_text(want),
         NetFault::NoType => b"no type",
         NetFault::WrongType(_) => b"wrong type",
         NetFault::TwicePlace(_) => b"place twice",

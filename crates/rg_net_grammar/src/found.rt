@@ -103,7 +103,7 @@ fn alone(name: Token, token: Token) -> Option<FoundMember>
 }
 
 // The member that a token completes after its number and `*`.
-fn counted(number: Token, token: Token) -> Option<FoundMember>
+fn counted_member(number: Token, token: Token) -> Option<FoundMember>
     ensures member { (bytes : List ℕ) → option_map (member_in bytes) result ≡ member_by (table.after_star (lexeme bytes number)) token.kind (lexeme bytes token) }
     ensures holds { (bytes : List ℕ) → IsTokenOf bytes token → IsNumberOf bytes number → IfSome result (IsMemberOf bytes) }
 {
@@ -123,7 +123,7 @@ fn completed_member(position: SetPosition, token: Token) -> Option<FoundMember>
 {
     match position {
         SetPosition::AfterName(name) => alone(name, token),
-        SetPosition::AfterStar(number) => counted(number, token),
+        SetPosition::AfterStar(number) => counted_member(number, token),
         _ => None,
     }
 }

@@ -34,7 +34,7 @@ pub(crate) fn taken(
     ensures value { IfOk result (λ pre. pre.items ≡ map (taken lts.now class problem (ratios_of numbers.now) (ratios_of found.now)) (all_numbers (labels lts.now))) }
     ensures in_range { IfOk result (λ pre. All InRange pre.items) }
 {
-    let mut taken = taken_by_effects(alloc, &found[..lts.labels() as usize])?;
+    let mut taken = take_by_effects(alloc, &found[..lts.labels() as usize])?;
     if let Problem::Event(_, t) = problem {
         taken[t as usize] = taken_to_stop(alloc, lts, class, numbers, found[t as usize], t)?;
     }
@@ -42,7 +42,7 @@ pub(crate) fn taken(
 }
 
 // What labels with these effects take at least.
-fn taken_by_effects(alloc: Global, effects: &[Fraction]) -> Result<Vec<i128>, AllocError>
+fn take_by_effects(alloc: Global, effects: &[Fraction]) -> Result<Vec<i128>, AllocError>
     ensures { IfOk result (λ pre. pre.items ≡ map (λ e. taken_by_effect (numerator_of e)) effects.now) }
 {
     effects.iter().map(|e| taken_by_effect(*e)).collect(alloc)

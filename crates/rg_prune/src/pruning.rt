@@ -32,9 +32,9 @@ pub fn prune(alloc: Global, lts: &Lts, places: Vec<Place>) -> Result<Vec<Place>,
     requires separate { SeparateAll (map shown_place places.items) lts.now }
     ensures { IfOk result (λ left. IsPruned lts.now (map shown_place places.items) (map shown_place left.items)) }
 {
-    let tree = grown(alloc, lts)?;
+    let tree = grow_tree(alloc, lts)?;
     let firsts = all_firsts(alloc, lts, tree.arcs(), &places)?;
-    Ok(dropped(alloc, lts, tree.arcs(), places, firsts)?)
+    Ok(drop_unneeded(alloc, lts, tree.arcs(), places, firsts)?)
 }
 
 /// What `prune` leaves of the places, where the caller has the problems that each place is the first to separate, as a search for
@@ -51,12 +51,12 @@ pub fn prune_with_firsts(
     requires firsts { AreAllFirsts lts.now (map shown_place places.items) firsts.items }
     ensures { IfOk result (λ left. IsPruned lts.now (map shown_place places.items) (map shown_place left.items)) }
 {
-    let tree = grown(alloc, lts)?;
-    Ok(dropped(alloc, lts, tree.arcs(), places, firsts)?)
+    let tree = grow_tree(alloc, lts)?;
+    Ok(drop_unneeded(alloc, lts, tree.arcs(), places, firsts)?)
 }
 
 // The tree of the system.
-fn grown(alloc: Global, lts: &Lts) -> Result<Tree, NoMemory>
+fn grow_tree(alloc: Global, lts: &Lts) -> Result<Tree, NoMemory>
     requires { IsAllReachable lts.now }
     ensures { IfOk result (λ tree. IsTree lts.now tree.arcs) }
 {
@@ -68,7 +68,7 @@ fn grown(alloc: Global, lts: &Lts) -> Result<Tree, NoMemory>
 }
 
 // Takes the places from the last one to the first, and keeps those that are needed.
-fn dropped(
+fn drop_unneeded(
     alloc: Global,
     lts: &Lts,
     tree: &[Arc],

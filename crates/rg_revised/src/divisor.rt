@@ -4,18 +4,18 @@ ghost use Rattle.std.specs.Prelude.{◌≡◌, ◌<◌, ◌^◌, pos, ◌<ℤ◌
 ghost use Rattle.rg_integers.specs.Range.{InRange};
 
 // An inverse of the number in twice as many last bits (Newton's step).
-fn refined(number: i64, inverse: i64) -> i64 {
+fn refine_inverse(number: i64, inverse: i64) -> i64 {
     let product = number.wrapping_mul(inverse);
     inverse.wrapping_mul(2i64.wrapping_sub(product))
 }
 
 // The inverse of an odd number modulo 2^64. In the last three bits any odd number is its own.
 fn inverse_of(odd: i64) -> i64 {
-    let six = refined(odd, odd);
-    let twelve = refined(odd, six);
-    let twenty_four = refined(odd, twelve);
-    let forty_eight = refined(odd, twenty_four);
-    refined(odd, forty_eight)
+    let six = refine_inverse(odd, odd);
+    let twelve = refine_inverse(odd, six);
+    let twenty_four = refine_inverse(odd, twelve);
+    let forty_eight = refine_inverse(odd, twenty_four);
+    refine_inverse(odd, forty_eight)
 }
 
 /// A divisor, with the number of its factors 2, and the inverse of the odd number that is left. No clause is about

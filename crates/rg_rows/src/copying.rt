@@ -20,20 +20,20 @@ impl Common {
         ensures { IfOk result (λ copy. (s : Setting) → IsCommonOf s self.now → IsCommonOf s copy) }
     {
         Ok(Common {
-            columns: copied_columns(alloc, &self.columns)?,
-            tokens: copied_rows(alloc, &self.tokens)?,
-            caps: copied_rows(alloc, &self.caps)?,
-            ups: copied_rows(alloc, &self.ups)?,
-            downs: copied_rows(alloc, &self.downs)?,
-            makes: copied_rows(alloc, &self.makes)?,
-            token_terms: copied_terms(alloc, &self.token_terms)?,
-            effect_terms: copied_terms(alloc, &self.effect_terms)?,
+            columns: copy_columns(alloc, &self.columns)?,
+            tokens: copy_rows(alloc, &self.tokens)?,
+            caps: copy_rows(alloc, &self.caps)?,
+            ups: copy_rows(alloc, &self.ups)?,
+            downs: copy_rows(alloc, &self.downs)?,
+            makes: copy_rows(alloc, &self.makes)?,
+            token_terms: copy_terms(alloc, &self.token_terms)?,
+            effect_terms: copy_terms(alloc, &self.effect_terms)?,
         })
     }
 }
 
 // The same columns.
-fn copied_columns(alloc: Global, columns: &Columns) -> Result<Columns, AllocError>
+fn copy_columns(alloc: Global, columns: &Columns) -> Result<Columns, AllocError>
     ensures start { IfOk result (λ copy. copy.start ≡ columns.now.start) }
     ensures used { IfOk result (λ copy. copy.used.items ≡ columns.now.used.items) }
 {
@@ -45,7 +45,7 @@ fn copied_columns(alloc: Global, columns: &Columns) -> Result<Columns, AllocErro
 }
 
 // The same rows.
-fn copied_rows(
+fn copy_rows(
     alloc: Global,
     rows: &[Result<CaseRow, Wide>],
 ) -> Result<Vec<Result<CaseRow, Wide>>, AllocError>
@@ -53,13 +53,13 @@ fn copied_rows(
 {
     let mut copies = Vec::with_capacity(alloc, rows.len())?;
     for row in rows {
-        copies.push(copied_row(alloc, row)?)?;
+        copies.push(copy_row(alloc, row)?)?;
     }
     Ok(copies)
 }
 
 // The same row, or the same step out of range.
-fn copied_row(
+fn copy_row(
     alloc: Global,
     written: &Result<CaseRow, Wide>,
 ) -> Result<Result<CaseRow, Wide>, AllocError>
@@ -89,7 +89,7 @@ fn same_row(alloc: Global, row: &CaseRow) -> Result<CaseRow, AllocError>
 }
 
 // The same terms.
-fn copied_terms(
+fn copy_terms(
     alloc: Global,
     terms: &[Result<FormTerms, Wide>],
 ) -> Result<Vec<Result<FormTerms, Wide>>, AllocError>
@@ -97,13 +97,13 @@ fn copied_terms(
 {
     let mut copies = Vec::with_capacity(alloc, terms.len())?;
     for written in terms {
-        copies.push(copied_form(alloc, written)?)?;
+        copies.push(copy_form(alloc, written)?)?;
     }
     Ok(copies)
 }
 
 // The same terms of one form, or the same step out of range.
-fn copied_form(
+fn copy_form(
     alloc: Global,
     written: &Result<FormTerms, Wide>,
 ) -> Result<Result<FormTerms, Wide>, AllocError>

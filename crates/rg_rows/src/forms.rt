@@ -183,7 +183,7 @@ fn terms_in_case(
     ensures one_each { IfOk result (λ t. length (arc_slice_items t.coeffs) ≡ columns_in (shown_setting c.entry.setting)) }
 {
     match common.terms(name) {
-        Some(Ok(terms)) => Ok(shared(terms)?),
+        Some(Ok(terms)) => Ok(share_terms(terms)?),
         Some(Err(wide)) => Err(FoldStop::Wide(*wide)),
         None => {
             let said = said(c, name);
@@ -193,7 +193,7 @@ fn terms_in_case(
 }
 
 // The same terms, with the same coefficients in memory.
-fn shared(terms: &FormTerms) -> Result<FormTerms, AllocError>
+fn share_terms(terms: &FormTerms) -> Result<FormTerms, AllocError>
     ensures { IfOk result (λ t. terms_of t ≡ terms_of terms.now) }
 {
     let coeffs = terms.coeffs.clone()?;

@@ -47,7 +47,7 @@ pub(crate) fn solve_case(
     ensures same { workspace.new ≡ workspace.old }
 {
     match system_with(alloc, &workspace.common, c) {
-        Ok(named) => branched(alloc, &mut workspace.solver, c, &named),
+        Ok(named) => branch_on_forms(alloc, &mut workspace.solver, c, &named),
         Err(FoldStop::Wide(wide)) => {
             let above = Vec::new(alloc);
             Ok(CaseAnswer::Wide(passed(alloc, Stage::Row, c, above, wide)))
@@ -57,7 +57,7 @@ pub(crate) fn solve_case(
 }
 
 // What the branching on the case's forms comes to.
-fn branched(
+fn branch_on_forms(
     alloc: Global,
     solver: &mut Solver,
     c: CaseSetting<'_>,

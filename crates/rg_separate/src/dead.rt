@@ -49,7 +49,7 @@ fn no_tokens(alloc: Global, states: u32) -> Result<Vec<u128>, AllocError>
 }
 
 // That place with its tokens at the states, where the label is dead.
-pub(crate) fn blocked(alloc: Global, lts: &Lts, t: u32) -> Result<RegionPlace, AllocError>
+pub(crate) fn block_label(alloc: Global, lts: &Lts, t: u32) -> Result<RegionPlace, AllocError>
     requires label { t < labels lts.now }
     requires dead { IsDead lts.now t }
     ensures place { IfOk result (λ r. shown_place r.place ≡ blocking (labels lts.now) t) }

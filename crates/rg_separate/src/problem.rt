@@ -12,7 +12,7 @@ ghost use Rattle.rg_separate.specs.Keeping.{IsSetting, Serves};
 ghost use Rattle.rg_separate.specs.Deciding.{RefutesCase, AreTried, CasesCameTo, IsGoodReason, ProblemTells, ProblemComesTo};
 
 use crate::case::{CaseAnswer, solve_case};
-use crate::dead::{blocked, is_dead};
+use crate::dead::{block_label, is_dead};
 use crate::workspace::Workspace;
 use rg_case_parts::{CaseSetting, Setting};
 use rg_cert_data::{Case, Reason, WideAt};
@@ -54,7 +54,7 @@ pub(crate) fn solve_problem(
 {
     match problem {
         Problem::Event(_, t) if is_dead(setting.lts, t) => {
-            Ok(ProblemAnswer::Place(blocked(alloc, setting.lts, t)?))
+            Ok(ProblemAnswer::Place(block_label(alloc, setting.lts, t)?))
         }
         _ => solve_live(alloc, workspace, setting, problem),
     }

@@ -38,7 +38,7 @@ pub(crate) fn refuted(
     let mut above = Vec::new(alloc);
     let mut made = Vec::new(alloc);
     for node in nodes {
-        match made_of(alloc, c, named, &above, node) {
+        match node_below(alloc, c, named, &above, node) {
             Ok(node) => made.push(node)?,
             Err(FoldStop::Wide(wide)) => {
                 let above = named_triples(alloc, &named.forms, &above)?;
@@ -67,7 +67,7 @@ fn go_on(above: &mut Vec<Side<u32>>, node: &RawNode) -> Result<(), AllocError>
 }
 
 // The node below these splits: a split with its form by name, or the leaf of the weights.
-fn made_of(
+fn node_below(
     alloc: Global,
     c: CaseSetting<'_>,
     named: &NamedSystem,

@@ -185,18 +185,13 @@ fn separated<R: Threads + Sync, G: Gate + Sync>(
     } = progress;
     match outcome {
         SeparationOutcome::Separated => Ok(SeparationWithFirsts::Places(kept.places, kept.firsts)),
-        SeparationOutcome::Unsolvable(refuted) => certified(
-            problems,
-            &mut workspace,
-            refuted,
-            proof,
-        ),
+        SeparationOutcome::Unsolvable(refuted) => certify(problems, &mut workspace, refuted, proof),
         SeparationOutcome::TooWide(left) => shown(problems, &mut workspace, left),
     }
 }
 
 // The certificate of a refuted problem: with the reason that was kept, where it is that of the problem.
-fn certified(
+fn certify(
     problems: Problems<'_>,
     workspace: &mut Workspace,
     problem: Problem,

@@ -161,8 +161,8 @@ module _ (lts : System) (order : List ℕ) (tree : List Arc) (entries : List (Op
     }
 
 -- the tree of the initial state
-pub rooted : (lts : System) → IsWellFormed lts → IsGrowing lts (lts.initial ∷ []) [] (replicate (states lts) None)
-rooted lts fine = record {
+pub root_tree : (lts : System) → IsWellFormed lts → IsGrowing lts (lts.initial ∷ []) [] (replicate (states lts) None)
+root_tree lts fine = record {
   well_formed = fine;
   order_is = refl;
   one_each = length-replicate (states lts) None;

@@ -11,7 +11,7 @@ use rg_lts::Lts;
 use std::alloc::{AllocError, Global};
 
 // The rows of the states, for a tree that is complete.
-pub(crate) fn counted(alloc: Global, lts: &Lts, growth: &Growth) -> Result<Table, AllocError>
+pub(crate) fn count_rows(alloc: Global, lts: &Lts, growth: &Growth) -> Result<Table, AllocError>
     requires growing { IsGrowing lts.now growth.now.order.items growth.now.arcs.items growth.now.entries.items }
     requires tree { IsTree lts.now growth.now.arcs.items }
     ensures one_each { IfOk result (λ rows. length rows ≡ length growth.now.entries.items) }

@@ -22,7 +22,7 @@ pub(crate) fn grown(alloc: Global, lts: &Lts) -> Result<Growth, AllocError>
     ensures growing { IfOk result (λ g. IsGrowing lts.now g.order.items g.arcs.items g.entries.items) }
     ensures tree { IfOk result (λ g. IsTree lts.now g.arcs.items) }
 {
-    let mut growth = rooted(alloc, lts)?;
+    let mut growth = root_tree(alloc, lts)?;
     let mut index = 0;
     while index < growth.order.len() {
         join_arcs_of(lts, &mut growth, index)?;
@@ -32,7 +32,7 @@ pub(crate) fn grown(alloc: Global, lts: &Lts) -> Result<Growth, AllocError>
 }
 
 // The tree of the initial state alone.
-fn rooted(alloc: Global, lts: &Lts) -> Result<Growth, AllocError>
+fn root_tree(alloc: Global, lts: &Lts) -> Result<Growth, AllocError>
     ensures { IfOk result (λ g. IsGrowing lts.now g.order.items g.arcs.items g.entries.items) }
 {
     let mut order = Vec::new(alloc);

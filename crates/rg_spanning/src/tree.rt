@@ -7,7 +7,7 @@ ghost use Rattle.rg_spanning.specs.Spanning.{Spanning, IsTreeOf, order_of};
 ghost use Rattle.rg_spanning.specs.declared.tree.GrowStop.TheVariants as stop;
 
 use crate::chords::beside;
-use crate::counts::counted;
+use crate::counts::count_rows;
 use crate::growth::{Growth, first_unmet, grown};
 use crate::table::Table;
 use rg_lts::Lts;
@@ -76,7 +76,7 @@ impl Tree {
         if let Some(s) = first_unmet(lts, &growth) {
             return Err(GrowStop::Unreachable(s));
         }
-        let rows = counted(alloc, lts, &growth)?;
+        let rows = count_rows(alloc, lts, &growth)?;
         let chords = beside(alloc, lts, &growth)?;
         let Growth {
             order,

@@ -114,12 +114,12 @@ fn condition_of(word: &str, number: u32) -> Result<Condition, ClassFault>
         "plain" => Ok(Condition::Plain),
         "safe" => Ok(Condition::Bounded(1)),
         "output-nonbranching" => Ok(Condition::Nonbranching),
-        _ => numbered(word, number),
+        _ => condition_of_number(word, number),
     }
 }
 
 // The bound or the marking that word number i gives.
-fn numbered(word: &str, number: u32) -> Result<Condition, ClassFault>
+fn condition_of_number(word: &str, number: u32) -> Result<Condition, ClassFault>
     requires other { IsOther word.now }
     ensures ok { IfOk result (λ c. IsWordOf c word.now) }
     ensures fault { IfErr result (λ f. (before : List Condition) → IsRefusedWord before word.now number f) }

@@ -238,7 +238,7 @@ impl Sums {
     }
 
     // The first variable whose sum isn't 0.
-    fn left_over(&self) -> Option<Variable>
+    fn first_nonzero(&self) -> Option<Variable>
         requires { IsTidy self.now }
         ensures { MatchOption result ((v : Variable) → signed_at self.now v ≡ pos 0) (λ v. IsLeftFirst self.now v) }
     {
@@ -256,7 +256,7 @@ impl Sums {
         requires { IsTidy self.now }
         ensures { MatchOption result (HasNoDefect self.now) (IsSumDefect self.now) }
     {
-        match self.left_over() {
+        match self.first_nonzero() {
             Some(variable) => Some(Defect::LeftOver(variable)),
             None if self.constant.signed < 0 => None,
             None => Some(Defect::NoContradiction),

@@ -31,8 +31,8 @@ within nodes i lt = let e = length-map nodes node_of in omega arith
 visited : (nodes : List RawNode) (i : ℕ) (node : RawNode) → i < length nodes → node ≡ get_or nodes i node → get_or (map node_of nodes) i (node_of node) ≡ node_of node
 visited nodes i node lt is = get_or-map node_of nodes i node (node_of node) lt ∙ ap node_of (sym is)
 
-pub made_of-requires-clause-node : goal.made_of-requires-clause-node
-made_of-requires-clause-node c =
+pub node_below-requires-clause-node : goal.node_below-requires-clause-node
+node_below-requires-clause-node c =
     let named = c.args.named.now in
     let nodes = c.args.nodes.now in
     let i = c.loop-node.node-index in

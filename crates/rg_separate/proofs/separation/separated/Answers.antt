@@ -17,8 +17,8 @@ separate_all-requires-clause-can o c = λ lives within. record {
   notable = notable c.args.setting.lts.now c.args.setting.class c.requires.setting.reachable;
 }
 
-pub certified-requires-clause-shows : goal.certified-requires-clause-shows
-certified-requires-clause-shows o c =
+pub certify-requires-clause-shows : goal.certify-requires-clause-shows
+certify-requires-clause-shows o c =
     let kept = map shown_place c.separate_all.new.progress.kept.places.items in
     ends_refuted c.args.setting c.requires.setting kept c.in-Unsolvable.refuted (subst (IsSeparationOutcome c.args.setting.lts.now (comes_of c.args.setting) kept) c.in-Unsolvable.is c.in_ok-outcome.ensures.comes)
 
@@ -47,8 +47,8 @@ returns-in-Separated-clause-searched o c =
       shows = refl;
     }
 
-pub certified-requires-clause-can : goal.certified-requires-clause-can
-certified-requires-clause-can o c = record { setting = c.requires.setting; columns = c.column_count-columns.ensures (shown_setting c.args.setting) c.requires.common refl }
+pub certify-requires-clause-can : goal.certify-requires-clause-can
+certify-requires-clause-can o c = record { setting = c.requires.setting; columns = c.column_count-columns.ensures (shown_setting c.args.setting) c.requires.common refl }
 
 pub shown-requires-clause-can : goal.shown-requires-clause-can
 shown-requires-clause-can o c = record { setting = c.requires.setting; columns = c.column_count-columns.ensures (shown_setting c.args.setting) c.requires.common refl }

@@ -1,9 +1,9 @@
 use Rattle.rg_integers.proofs.Casts.{back}
-use Rattle.rg_fraction.proofs.Forms.{signed-value}
+use Rattle.rg_fraction.proofs.Forms.{from_reduced-value}
 use Rattle.rg_fraction.proofs.fraction.Fraction.new.Goals as goal
 
-pub signed-requires-clause-reduced : goal.signed-requires-clause-reduced
-signed-requires-clause-reduced c =
+pub from_reduced-requires-clause-reduced : goal.from_reduced-requires-clause-reduced
+from_reduced-requires-clause-reduced c =
     let t = back c.split-top.result.0 c.split-top.ensures.first_in_range in
     let b = back c.split-top.result.1 c.split-top.ensures.second_in_range in
     rw (t, b) c.split-top.ensures.reduced
@@ -14,6 +14,6 @@ returns c =
     let d = back c.args.d c.requires.d_in_range in
     let t = back c.split-top.result.0 c.split-top.ensures.first_in_range in
     let b = back c.split-top.result.1 c.split-top.ensures.second_in_range in
-    signed-value _ _ c.split-top.result.0 c.split-top.result.1 _ _ _
+    from_reduced-value _ _ c.split-top.result.0 c.split-top.result.1 _ _ _
     (rw (n, d) at c.split-top.ensures.exact_first) (rw (n, d) at c.split-top.ensures.exact_second)
-    (rw (t, b) at c.signed.ensures)
+    (rw (t, b) at c.from_reduced.ensures)
