@@ -6,15 +6,14 @@ use Rattle.std.proofs.Math.IntN.{zero-*ℤ}
 use Rattle.std.proofs.lemmas.Bool.{cases_lt}
 use Rattle.std.proofs.lemmas.List.{length-map, get_or-map, get_or_append_left}
 use Rattle.rg_fraction.specs.declared.fraction.Fraction.{Fraction}
-use Rattle.rg_linear.specs.System.{LinearSystem, LinearRow, row_at, row_variable, entry}
+use Rattle.rg_linear.specs.System.{LinearSystem, LinearRow, row_at, row_variable, entry, with_rows}
 use Rattle.rg_linear.specs.declared.row.Row.{Row}
 use Rattle.rg_linear.specs.View.{linear_row}
 use Rattle.rg_linear.specs.Dictionary.{Relation, DictionaryRow}
-use Rattle.rg_linear.specs.Descent.{Outcome.point, Outcome.refuted, DescentFromStart, multiplier_of}
+use Rattle.rg_linear.specs.Descent.{Outcome.point, Outcome.refuted, DescentFromStart, multiplier_of, IsFeasibleAt}
 use Rattle.rg_linear.specs.Branching.{Form, form_at, SplitSide, side_row, node_system, Weight, weights_from}
 use Rattle.rg_linear.proofs.Points.{point_is_sound}
 use Rattle.rg_linear.proofs.Splits.{node_point}
-use Rattle.rg_feasible.specs.Settling.{with_rows, IsFeasibleAt}
 use Rattle.rg_branch.specs.declared.bounded.Bounded.{Bounded}
 use Rattle.rg_linear.specs.Room.{gap_of, gap, total, room}
 use Rattle.rg_branch.specs.View.{form_of, forms_of}

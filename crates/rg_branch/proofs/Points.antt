@@ -13,7 +13,7 @@ use Rattle.rg_linear.specs.Dictionary.{IsFree}
 use Rattle.rg_linear.specs.Branching.{form_at, scaled_value}
 use Rattle.rg_linear.proofs.Points.{zero_point_of}
 use Rattle.rg_linear.proofs.Members.{equal_or_not}
-use Rattle.rg_feasible.specs.Settling.{IsBasicPoint}
+use Rattle.rg_linear.specs.Descent.{IsBasicPoint}
 use Rattle.rg_branch.specs.declared.bounded.Bounded.{Bounded}
 use Rattle.rg_branch.specs.View.{form_of, forms_of}
 use Rattle.rg_branch.specs.Asked.{IsFormOf}

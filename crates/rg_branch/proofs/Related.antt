@@ -6,10 +6,9 @@ use Rattle.std.proofs.lemmas.List.{get_or_append_left}
 use Rattle.rg_fraction.specs.declared.fraction.Fraction.{Fraction}
 use Rattle.rg_linear.specs.System.{LinearSystem, row_variable}
 use Rattle.rg_linear.specs.Dictionary.{Relation, IsFree, DictionaryRow}
-use Rattle.rg_linear.specs.Descent.{Outcome.point, Outcome.refuted, DescentFromStart}
+use Rattle.rg_linear.specs.Descent.{Outcome.point, Outcome.refuted, DescentFromStart, IsFeasibleAt}
 use Rattle.rg_linear.proofs.Points.{point_is_sound, zero_point_of}
 use Rattle.rg_linear.proofs.Refuting.{start_refuted}
-use Rattle.rg_feasible.specs.Settling.{IsFeasibleAt}
 use Rattle.rg_branch.specs.declared.relations.Relations.{Relations}
 use Rattle.rg_branch.specs.declared.relations.Relations.TheVariants.{OfColumns, OfAll}
 use Rattle.rg_branch.specs.Relating.{AreRelationsOf}

@@ -2,7 +2,7 @@
 ghost use Rattle.std.specs.Prelude.{◌≡◌, ℕ, ◌+◌, ◌<◌, ◌^◌, ◌≤ℤ◌, ◌<ℤ◌, List, length, IfOk, IfSome, IfNone};
 ghost use Rattle.rg_integers.specs.Range.{InRange};
 ghost use Rattle.rg_linear.specs.System.{LinearSystem, LinearRow, row_at};
-ghost use Rattle.rg_feasible.specs.Settling.{with_rows};
+ghost use Rattle.rg_linear.specs.System.{with_rows};
 ghost use Rattle.rg_branch.specs.View.{form_of, forms_of};
 ghost use Rattle.rg_branch.specs.Answer.{AreValuesAt};
 ghost use Rattle.rg_branch.specs.Relating.{AreRelationsOf};

@@ -1,10 +1,9 @@
 //! The relations that a descent leaves.
 ghost use Rattle.std.specs.Prelude.{◌≡◌, ℕ, ℤ, ◌+◌, ◌<◌, ◌^◌, List, length};
 ghost use Rattle.rg_fraction.specs.Fractions.{IsValue};
-ghost use Rattle.rg_linear.specs.System.{LinearSystem, LinearRow, row_variable};
+ghost use Rattle.rg_linear.specs.System.{LinearSystem, LinearRow, row_variable, with_rows};
 ghost use Rattle.rg_linear.specs.Dictionary.{Relation};
-ghost use Rattle.rg_linear.specs.Descent.{multiplier_of};
-ghost use Rattle.rg_feasible.specs.Settling.{with_rows, IsBasicPoint};
+ghost use Rattle.rg_linear.specs.Descent.{multiplier_of, IsBasicPoint};
 ghost use Rattle.rg_branch.specs.Relating.{AreRelationsOf, IsRefutedBy};
 
 use rg_feasible::Dictionary;

@@ -9,14 +9,14 @@ use Rattle.rg_integers.specs.Term.{FitsTerm}
 use Rattle.rg_linear.specs.System.{LinearSystem, variables}
 use Rattle.rg_linear.specs.Dictionary.{Relation, IsFree, DictionaryRow}
 use Rattle.rg_linear.specs.Exchange.{without, exchanged, IsTerm, AllFit, FirstWide, renewed, turned}
-use Rattle.rg_linear.specs.Table.{numbers_of, ShowsRow, row_width, row_numbers, IsTable, index_for}
+use Rattle.rg_linear.specs.Table.{numbers_of, ShowsRow, row_width, row_numbers, IsTable, index_for, row_at}
 use Rattle.rg_linear.proofs.Members.{equal_or_not, Contains-exchanged_new, Contains-exchanged_old}
 use Rattle.rg_linear.proofs.Unique.{same_relation}
 use Rattle.rg_linear.proofs.Exchanging.{exchanged_free, turned_row, kept_row, renewed_row, renewed-positive, renewed-over}
 use Rattle.rg_linear.proofs.Leaving.{turned_reduced}
-use Rattle.rg_dictionary.specs.Renewal.{IsSigned, renewal_term, IsRenewed, IsDivided, IsExchangedRow, IsTurned, moved, row_at, IsKept, RowsExchanged, FirstOfRows}
-use Rattle.rg_dictionary.proofs.Searching.{member_at}
-use Rattle.rg_dictionary.proofs.TableRows.{length-row}
+use Rattle.rg_dictionary.specs.Renewal.{IsSigned, renewal_term, IsRenewed, IsDivided, IsExchangedRow, IsTurned, moved, IsKept, RowsExchanged, FirstOfRows}
+use Rattle.rg_linear.proofs.MemberIndices.{member_at}
+use Rattle.rg_linear.proofs.TableRows.{length-row}
 use Rattle.rg_dictionary.proofs.RowTerms.{length-numbers, number_shown, term_is, is_term}
 use Rattle.rg_dictionary.proofs.RowNumbers.{ReducedTo, renewed_shows, turned_shows, kept_shows, reduced_shows, moved_numbers, exchanged-split, set_Contains}
 

@@ -1,11 +1,9 @@
 pub mod Writing
 pub mod Moving
 pub mod Renewing
-pub mod Searching
 pub mod TableRows
 pub mod RowTerms
 pub mod RowNumbers
 pub mod Exchanges
 pub mod Storing
-pub mod Short
 pub mod Sparse

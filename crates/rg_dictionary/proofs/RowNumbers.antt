@@ -24,7 +24,7 @@ use Rattle.rg_linear.specs.Table.{numbers_of, index_for}
 use Rattle.rg_linear.proofs.Members.{differs, same, equal_or_not, is_member, exchanged-Contains}
 use Rattle.rg_linear.proofs.TableLemmas.{put_in-split}
 use Rattle.rg_dictionary.specs.Renewal.{IsSigned, IsRenewed, IsTurned, moved, renewal_term}
-use Rattle.rg_dictionary.proofs.Searching.{gone, member_at, distinct}
+use Rattle.rg_linear.proofs.MemberIndices.{gone, member_at, distinct}
 use Rattle.rg_dictionary.proofs.Renewing.{low_term, index_low, index_high, term_low, term_high, term_last}
 use Rattle.rg_dictionary.proofs.RowTerms.{length-numbers, number_shown, signed_number, signed_leaving, signed_member}
 

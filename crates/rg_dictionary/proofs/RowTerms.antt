@@ -15,7 +15,7 @@ use Rattle.rg_linear.specs.Dictionary.{Relation}
 use Rattle.rg_linear.specs.Exchange.{terms}
 use Rattle.rg_linear.specs.Table.{numbers_of}
 use Rattle.rg_dictionary.specs.Renewal.{IsSigned, renewal_term}
-use Rattle.rg_dictionary.proofs.Searching.{gone}
+use Rattle.rg_linear.proofs.MemberIndices.{gone}
 use Rattle.rg_dictionary.proofs.Renewing.{low_term, term_low, term_high, term_last}
 
 -- ---- the numbers of a relation

@@ -17,7 +17,7 @@ use Rattle.rg_integers.specs.declared.term.Wide.{Wide}
 use Rattle.rg_integers.specs.Term.{term_value, FitsTerm}
 use Rattle.rg_linear.proofs.Members.{Contains-nil, is_member}
 use Rattle.rg_dictionary.specs.Renewal.{RowInRange, AreNamedIndices, index_term, index_of, renewal_term, FirstOfRow}
-use Rattle.rg_dictionary.proofs.Searching.{rising, not_falling, member_at}
+use Rattle.rg_linear.proofs.MemberIndices.{rising, not_falling, member_at}
 use Rattle.rg_dictionary.proofs.Renewing.{low_term, first_term, term_low, term_high, index_low, index_high, Most}
 
 -- ---- the list of indices

@@ -15,12 +15,12 @@ use Rattle.rg_linear.specs.Dictionary.{Relation, IsFree, numbers_from, column_se
 use Rattle.rg_linear.specs.Table.{numbers_of, ShowsRow, row_width, row_numbers}
 use Rattle.rg_linear.proofs.Columns.{columns_free, columns_row, below_test}
 use Rattle.rg_linear.specs.Exchange.{exchanged}
-use Rattle.rg_linear.proofs.Members.{exchanged-ordered, exchanged-Contains, numbers_from-ordered, length-numbers_from, Contains-numbers_from}
+use Rattle.rg_linear.proofs.Members.{exchanged-ordered, exchanged-Contains, numbers_from-ordered, length-numbers_from, Contains-numbers_from, get_or-numbers_from}
 use Rattle.rg_linear.proofs.Unique.{same_relation}
 use Rattle.rg_dictionary.specs.Contents.{Contents, IsStored, IsDictionary, columns_alone, with_row}
 use Rattle.rg_dictionary.specs.Renewal.{RowInRange}
-use Rattle.rg_dictionary.proofs.TableRows.{row_end, row_inside}
-use Rattle.rg_dictionary.proofs.Searching.{member_at}
+use Rattle.rg_linear.proofs.TableRows.{row_end, row_inside}
+use Rattle.rg_linear.proofs.MemberIndices.{member_at}
 
 -- ---- the columns
 
@@ -33,18 +33,6 @@ numbers_from-more first (suc n) = ap (λ xs. first ∷ xs) (numbers_from-more (s
   where
     next : (first n : ℕ) → suc first + n ≡ first + suc n
     next first n = omega arith
-
-pub get_or-numbers_from : (first n k d : ℕ) → k < n → get_or (numbers_from first n) k d ≡ first + k
-get_or-numbers_from first zero k d lt = absurd (omega arith)
-get_or-numbers_from first (suc n) zero d lt = omega arith
-get_or-numbers_from first (suc n) (suc k) d lt = let r = get_or-numbers_from (suc first) n k d (omega arith) in omega arith
-
--- a list with each number at its index
-pub columns_numbered : (members : List ℕ) (n : ℕ) → length members ≡ n → ((k : ℕ) → k < n → get_or members k 0 ≡ k) → members ≡ numbers_from 0 n
-columns_numbered members n size each = ext_get_or 0 members (numbers_from 0 n) (size ∙ sym (length-numbers_from 0 n)) (λ k lt. at k (omega arith))
-  where
-    at : (k : ℕ) → k < n → get_or members k 0 ≡ get_or (numbers_from 0 n) k 0
-    at k lt = let e = each k lt in let r = get_or-numbers_from 0 n k 0 lt in omega arith
 
 -- a list of as many numbers is what a function of the columns gives
 columns_listed : (f : ℕ → ℤ) (xs : List ℤ) (n : ℕ) → length xs ≡ n → ((j : ℕ) → j < n → f j ≡ number_at xs j) → xs ≡ map f (numbers_from 0 n)

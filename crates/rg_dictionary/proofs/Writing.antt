@@ -6,13 +6,8 @@ use Rattle.rg_linear.proofs.Members.{equal_or_not}
 use Rattle.rg_integers.specs.Range.{InRange}
 use Rattle.rg_integers.specs.Sum.{number_at}
 use Rattle.rg_integers.specs.Term.{term_value, FitsTerm}
+use Rattle.rg_linear.proofs.TableRows.{below_set}
 use Rattle.rg_dictionary.specs.Renewal.{RowInRange, index_term, RenewsBetween, IsTurned}
-
--- one more number is written, and has the property of its index
-pub below_set : (P : ℕ → ℤ → Type 0) (xs : List ℤ) (n : ℕ) (z : ℤ) → n < length xs → ((k : ℕ) → k < n → P k (number_at xs k)) → P n z → (k : ℕ) → k < n + 1 → P k (number_at (set xs n z) k)
-below_set P xs n z lt all here = below_more (λ k. P k (number_at (set xs n z) k)) n
-    (λ k h. let ne : k ≢ n = omega arith in subst (P k) (sym (get_or-set_other xs n k z (pos 0) ne)) (all k h))
-    (subst (P n) (sym (get_or-set_same xs n z (pos 0) lt)) here)
 
 -- a number in range is written
 pub in_range-set : (xs : List ℤ) (n : ℕ) (z : ℤ) → RowInRange xs → InRange z → RowInRange (set xs n z)

@@ -1,5 +1,5 @@
 -- The rows of a table in an exchange, number by number.
-use Rattle.std.specs.Prelude.{◌≡◌, ◌≢◌, ◌↔◌, ℕ, suc, ◌+◌, ◌*◌, ◌<◌, ◌≤◌, ◌-◌, nat_lt, ◌==◌, if◌then◌else◌, List, length, slice_range, Contains, ℤ, pos, neg_ℤ, ◌*ℤ◌, FitsSigned}
+use Rattle.std.specs.Prelude.{◌≡◌, ◌≢◌, ◌↔◌, ℕ, suc, ◌*◌, ◌<◌, ◌≤◌, ◌-◌, nat_lt, ◌==◌, if◌then◌else◌, List, length, Contains, ℤ, pos, neg_ℤ, ◌*ℤ◌, FitsSigned}
 use Rattle.std.specs.Int.{w64}
 use Rattle.std.specs.List.{insert, remove}
 use Rattle.std.specs.List.Sorted.{IsStrictlyIncreasing}
@@ -8,6 +8,7 @@ use Rattle.rg_integers.specs.Sign.{sign}
 use Rattle.rg_integers.specs.Sum.{number_at}
 use Rattle.rg_integers.specs.declared.term.Wide.{Wide}
 use Rattle.rg_integers.specs.Term.{term_value, FitsTerm}
+use Rattle.rg_linear.specs.Table.{row_at}
 use Rattle.rg_fraction.specs.Rows.{IsPrimitivePart}
 
 -- every number is in range
@@ -103,10 +104,6 @@ pub record IsTurned (pivot turned : List ℤ) (p : ℕ) : Type 0 where
   pub d : number_at turned 0 ≡ number_at pivot p
   pub others : (n : ℕ) → 0 < n → n < length pivot → n ≢ p → number_at turned n ≡ neg_ℤ (number_at pivot n)
   pub new : number_at turned p ≡ number_at pivot 0
-
--- the row of a variable in a table with rows of so many numbers
-abbrev pub row_at : ℕ → List ℤ → ℕ → List ℤ
-row_at width table w = slice_range table (w * width) ((w + 1) * width)
 
 -- the row of this variable is renewed: it is neither a member nor the pivot
 abbrev pub IsKept : List ℕ → ℕ → ℕ → Type 0

@@ -6,8 +6,8 @@ ghost use Rattle.rg_integers.specs.Sum.{number_at};
 ghost use Rattle.rg_linear.specs.System.{LinearSystem, variables as variables_of};
 ghost use Rattle.rg_linear.specs.Dictionary.{IsFree};
 ghost use Rattle.rg_linear.specs.Exchange.{without, exchanged, AllFit, FirstWide};
-ghost use Rattle.rg_linear.specs.Table.{IsTable, index_for};
-ghost use Rattle.rg_dictionary.specs.Renewal.{RowInRange, AreNamedIndices, row_at, RowsExchanged, FirstOfRows};
+ghost use Rattle.rg_linear.specs.Table.{IsTable, index_for, row_at};
+ghost use Rattle.rg_dictionary.specs.Renewal.{RowInRange, AreNamedIndices, RowsExchanged, FirstOfRows};
 
 use crate::row::{copy_signed, exchange_row, is_short, list_indices, write_leaving};
 use rg_integers::Wide;

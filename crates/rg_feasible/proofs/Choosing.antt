@@ -17,9 +17,9 @@ use Rattle.rg_linear.specs.Descent.{IsStuck, Chooses}
 use Rattle.rg_linear.specs.Stack.{fixed_of}
 use Rattle.rg_dictionary.specs.Contents.{Contents, IsDictionary}
 use Rattle.rg_dictionary.proofs.RowTerms.{shown_number}
-use Rattle.rg_dictionary.proofs.Searching.{member_at, not_falling}
+use Rattle.rg_linear.proofs.MemberIndices.{member_at, not_falling}
 use Rattle.rg_feasible.specs.Steps.{NamesFree}
-use Rattle.rg_feasible.proofs.Fixed.{fixed_row, row_fixed}
+use Rattle.rg_linear.proofs.Fixed.{fixed_row, row_fixed}
 
 -- a number that failed the test of the code is negative
 pub negative_number : (z : ℤ) → InRange z → int_le (pos 0) (cast_signed w128 (cast_unsigned w128 z)) ≡ false → z <ℤ pos 0

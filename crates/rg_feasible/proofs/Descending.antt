@@ -1,62 +1,17 @@
--- The state of the loop over the rows, where the stack is a vector with the last fixed row at its end.
-use Rattle.std.proofs.Common.{◌≡◌, ◌⊎◌, ℕ, ◌+◌, ◌-◌, ◌<◌, ◌≤◌, List, [], ◌∷◌, ◌++◌, reverse, length, length-append, slice_get, Some, unwrap_or, ap, refl, subst, sym, ◌∙◌, inl, inr, arith, add-one}
-use Rattle.std.proofs.lemmas.List.{reverse-append}
+-- The start of the loop over the rows, and its end at a term out of range.
+use Rattle.std.proofs.Common.{◌≡◌, ℕ, ◌<◌, List, [], reverse, length, ap, subst, sym, ◌∙◌}
 use Rattle.rg_linear.specs.System.{LinearSystem}
 use Rattle.rg_linear.specs.Dictionary.{numbers_from, IsFree}
-use Rattle.rg_linear.specs.Descent.{Outcome, Outcome.point, Outcome.refuted, Outcome.wide, DescentFrom, DescentFromStart}
-use Rattle.rg_linear.specs.Stack.{fixed_of, limit, Resumes, Resumes.last, work_left, IsFalling, IsStackOf}
-use Rattle.rg_linear.proofs.Stacks.{step_satisfied, step_stuck, step_wide, step_exchange, step_return, step_end, work-satisfied, work-exchange, work-return, stack_pushed, stack_popped, room_on_stack}
+use Rattle.rg_linear.specs.Descent.{Outcome, Outcome.wide, DescentFrom, DescentFromStart}
+use Rattle.rg_linear.specs.Stack.{limit, Resumes, Resumes.last, IsStackOf}
+use Rattle.rg_linear.proofs.Stacks.{step_wide}
 use Rattle.rg_linear.proofs.Members.{Contains-nil}
+use Rattle.rg_linear.proofs.Descending.{LeadsOn}
 use Rattle.rg_dictionary.specs.Contents.{Contents, IsDictionary}
 use Rattle.rg_feasible.specs.declared.settled.PivotWide.{PivotWide}
-use Rattle.rg_feasible.specs.declared.step.Step.TheVariants.{Satisfied, Stuck, Exchanged, Wide}
+use Rattle.rg_feasible.specs.declared.step.Step.TheVariants.{Wide}
 use Rattle.rg_feasible.specs.Settling.{wide_at}
 use Rattle.rg_feasible.specs.Steps.{StepTells}
-
--- what is left at row i of the rows below, with these rows fixed, leads to the outcome of the whole
-pub record LeadsOn (system : LinearSystem) (members stack : List ℕ) (below i : ℕ) : Type 0 where
-  pub limit : below ≡ limit system (reverse stack)
-  pub stacked : IsStackOf system (reverse stack) members
-  pub leads : (o : Outcome) → Resumes system (reverse stack) members i o → DescentFromStart system o
-
-reverse-push : (stack : List ℕ) (s : ℕ) → reverse (stack ++ s ∷ []) ≡ s ∷ reverse stack
-reverse-push stack s = reverse-append stack (s ∷ [])
-
-none_left : (stack : List ℕ) → (0 < length stack → ⊥) → stack ≡ []
-none_left [] h = refl
-none_left (x ∷ stack) h = absurd (h (omega arith))
-
--- ---- limits
-
-limit_within : (system : LinearSystem) (rows : List ℕ) → IsFalling system rows → limit system rows ≤ length system.rows
-limit_within system [] falls = omega arith
-limit_within system (s ∷ rows) falls = let lt = falls.0 in let le = limit_within system rows falls.1 in omega arith
-
-last_or_none : (xs : List ℕ) → (xs ≡ []) ⊎ ((front : List ℕ) × (s : ℕ) × (xs ≡ front ++ s ∷ []))
-last_or_none [] = inl refl
-last_or_none (x ∷ xs) = more (last_or_none xs)
-  where
-    more : (xs ≡ []) ⊎ ((front : List ℕ) × (s : ℕ) × (xs ≡ front ++ s ∷ [])) → (x ∷ xs ≡ []) ⊎ ((front : List ℕ) × (s : ℕ) × (x ∷ xs ≡ front ++ s ∷ []))
-    more (inl e) = inr ([], x, ap (λ ys. x ∷ ys) e)
-    more (inr (front, s, e)) = inr (x ∷ front, s, ap (λ ys. x ∷ ys) e)
-
--- the last fixed row, or all rows
-pub limit_last : (system : LinearSystem) (stack : List ℕ) (rows : ℕ) → rows ≡ length system.rows → unwrap_or (slice_get stack (length stack - 1)) rows ≡ limit system (reverse stack)
-limit_last system stack rows e = go (last_or_none stack)
-  where
-    at_last : (front : List ℕ) (s : ℕ) → slice_get (front ++ s ∷ []) (length front) ≡ Some s
-    at_last [] s = refl
-    at_last (x ∷ front) s = at_last front s
-
-    count : (front : List ℕ) (s : ℕ) → length (front ++ s ∷ []) - 1 ≡ length front
-    count front s = let l = length-append front (s ∷ []) in omega arith
-
-    go : (stack ≡ []) ⊎ ((front : List ℕ) × (s : ℕ) × (stack ≡ front ++ s ∷ [])) → unwrap_or (slice_get stack (length stack - 1)) rows ≡ limit system (reverse stack)
-    go (inl is) = subst (λ xs. unwrap_or (slice_get xs (length xs - 1)) rows ≡ limit system (reverse xs)) (sym is) e
-    go (inr (front, s, is)) = subst (λ xs. unwrap_or (slice_get xs (length xs - 1)) rows ≡ limit system (reverse xs)) (sym is)
-        (ap (λ k. unwrap_or (slice_get (front ++ s ∷ []) k) rows) (count front s) ∙ ap (λ x. unwrap_or x rows) (at_last front s) ∙ sym (ap (limit system) (reverse-push front s)))
-
--- ---- the start and the steps
 
 pub leads_start : (system : LinearSystem) (d : Contents) (stack : List ℕ) → IsDictionary system d → d.members ≡ numbers_from 0 d.columns → stack ≡ [] → LeadsOn system d.members stack d.rows 0
 leads_start system d stack whole start none = record {
@@ -68,77 +23,11 @@ leads_start system d stack whole start none = record {
     at_start : (o : Outcome) → Resumes system [] d.members 0 o → DescentFromStart system o
     at_start o (last from) = subst (λ members. DescentFrom system members [] (length system.rows) 0 o) (start ∙ ap (numbers_from 0) whole.columns) from
 
-module _ (system : LinearSystem) (members stack : List ℕ) (below i : ℕ) (is : LeadsOn system members stack below i) where
-  pub within_rows : below ≤ length system.rows
-  within_rows = let le = limit_within system (reverse stack) is.stacked.falls in let e = is.limit in omega arith
+module _ (system : LinearSystem) (members stack : List ℕ) (below i : ℕ) (is : LeadsOn system members stack below i) (lt : i < below) where
+  pub leads_wide : (new : List ℕ) (w : PivotWide) → StepTells system members (reverse stack) i new (Wide w) → DescentFromStart system (wide (wide_at new w))
+  leads_wide new w (chooses, first, pivot, same) = subst (λ ms. DescentFromStart system (wide (wide_at ms w))) (sym same)
+      (subst (λ v. DescentFromStart system (wide (record { members = members; pivot = v; leaves = w.leaves; target = w.target; entry = w.entry; term = w.wide }))) (sym pivot)
+      (is.leads _ (step_wide system (reverse stack) members i w.leaves w.target w.entry w.wide (subst (λ n. i < n) is.limit lt) chooses first)))
 
-  -- behind the last row with nothing fixed
-  pub leads_point : (0 < length stack → ⊥) → below ≤ i → DescentFromStart system (point members)
-  leads_point none le = is.leads (point members) (subst (λ xs. Resumes system (reverse xs) members i (point members)) (sym empty) (step_end system members i (let e = is.limit ∙ ap (λ xs. limit system (reverse xs)) empty in omega arith)))
-    where
-      empty : stack ≡ []
-      empty = none_left stack none
-
-  module _ (lt : i < below) where
-    before_limit : i < limit system (reverse stack)
-    before_limit = subst (λ n. i < n) is.limit lt
-
-    pub leads_refuted : (new : List ℕ) → StepTells system members (reverse stack) i new Stuck → DescentFromStart system (refuted new i (fixed_of system (reverse stack)))
-    leads_refuted new told = subst (λ ms. DescentFromStart system (refuted ms i (fixed_of system (reverse stack)))) (sym told.1) (is.leads _ (step_stuck system (reverse stack) members i before_limit told.0))
-
-    pub leads_wide : (new : List ℕ) (w : PivotWide) → StepTells system members (reverse stack) i new (Wide w) → DescentFromStart system (wide (wide_at new w))
-    leads_wide new w (chooses, first, pivot, same) = subst (λ ms. DescentFromStart system (wide (wide_at ms w))) (sym same)
-        (subst (λ v. DescentFromStart system (wide (record { members = members; pivot = v; leaves = w.leaves; target = w.target; entry = w.entry; term = w.wide }))) (sym pivot)
-        (is.leads _ (step_wide system (reverse stack) members i w.leaves w.target w.entry w.wide before_limit chooses first)))
-
-    pub wide_free : (new : List ℕ) (w : PivotWide) → StepTells system members (reverse stack) i new (Wide w) → IsFree system new
-    wide_free new w (chooses, first, pivot, same) = subst (IsFree system) (sym same) chooses.row.free
-
-    pub leads_satisfied : (new : List ℕ) → StepTells system members (reverse stack) i new Satisfied → LeadsOn system new stack below (i + 1)
-    leads_satisfied new told = record {
-      limit = is.limit;
-      stacked = subst (IsStackOf system (reverse stack)) (sym told.1) is.stacked;
-      leads = λ o rest. is.leads o (step_satisfied system (reverse stack) members i o before_limit told.0 (subst (λ k. Resumes system (reverse stack) members k o) (add-one i) (subst (λ ms. Resumes system (reverse stack) ms (i + 1) o) told.1 rest)));
-    }
-
-    -- the stack has room for one more
-    pub stack_has_room : (new : List ℕ) → StepTells system members (reverse stack) i new Exchanged → length (reverse stack) < system.columns
-    stack_has_room new (j, chooses, fit, e) = room_on_stack system (reverse stack) members i j is.stacked chooses
-
-    pub leads_exchanged : (new pushed : List ℕ) → StepTells system members (reverse stack) i new Exchanged → pushed ≡ stack ++ i ∷ [] → LeadsOn system new pushed i 0
-    leads_exchanged new pushed (j, chooses, fit, e) was = record {
-      limit = sym (ap (limit system) turned);
-      stacked = subst (λ xs. IsStackOf system xs new) (sym turned) (subst (IsStackOf system (i ∷ reverse stack)) (sym e) (stack_pushed system (reverse stack) members i j before_limit is.stacked chooses));
-      leads = λ o rest. is.leads o (step_exchange system (reverse stack) members i j o before_limit chooses fit (subst (λ ms. Resumes system (i ∷ reverse stack) ms 0 o) e (subst (λ xs. Resumes system xs new 0 o) turned rest)));
-    }
-      where
-        turned : reverse pushed ≡ i ∷ reverse stack
-        turned = ap reverse was ∙ reverse-push stack i
-
-    pub work_satisfied : work_left (length system.rows) (reverse stack) (i + 1) < work_left (length system.rows) (reverse stack) i
-    work_satisfied = subst (λ k. work_left (length system.rows) (reverse stack) k < work_left (length system.rows) (reverse stack) i) (sym (add-one i)) (work-satisfied system (reverse stack) i before_limit)
-
-    pub work_pushed : (pushed : List ℕ) → pushed ≡ stack ++ i ∷ [] → work_left (length system.rows) (reverse pushed) 0 < work_left (length system.rows) (reverse stack) i
-    work_pushed pushed was = subst (λ xs. work_left (length system.rows) xs 0 < work_left (length system.rows) (reverse stack) i) (sym (ap reverse was ∙ reverse-push stack i)) (work-exchange system (reverse stack) i before_limit)
-
-  -- the last fixed row is taken up behind itself
-  module _ (popped : List ℕ) (s : ℕ) (was : stack ≡ popped ++ s ∷ []) where
-    turned : reverse stack ≡ s ∷ reverse popped
-    turned = ap reverse was ∙ reverse-push popped s
-
-    at_top : IsStackOf system (s ∷ reverse popped) members
-    at_top = subst (λ xs. IsStackOf system xs members) turned is.stacked
-
-    pub popped_row : s < length system.rows
-    popped_row = let lt = at_top.falls.0 in let le = limit_within system (reverse popped) at_top.falls.1 in omega arith
-
-    pub leads_popped : below ≤ i → (next : ℕ) → next ≡ limit system (reverse popped) → LeadsOn system members popped next (s + 1)
-    leads_popped le next e = record {
-      limit = e;
-      stacked = stack_popped system s (reverse popped) members at_top;
-      leads = λ o rest. is.leads o (subst (λ xs. Resumes system xs members i o) (sym turned) (step_return system s (reverse popped) members i o (subst (λ n. n ≤ i) (is.limit ∙ ap (limit system) turned) le) (subst (λ k. Resumes system (reverse popped) members k o) (add-one s) rest)));
-    }
-
-    pub work_popped : work_left (length system.rows) (reverse popped) (s + 1) < work_left (length system.rows) (reverse stack) i
-    work_popped = subst (λ xs. work_left (length system.rows) (reverse popped) (s + 1) < work_left (length system.rows) xs i) (sym turned)
-        (subst (λ k. work_left (length system.rows) (reverse popped) k < work_left (length system.rows) (s ∷ reverse popped) i) (sym (add-one s)) (work-return system s (reverse popped) i))
+  pub wide_free : (new : List ℕ) (w : PivotWide) → StepTells system members (reverse stack) i new (Wide w) → IsFree system new
+  wide_free new w (chooses, first, pivot, same) = subst (IsFree system) (sym same) chooses.row.free

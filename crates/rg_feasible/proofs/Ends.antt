@@ -1,14 +1,14 @@
 -- What is left of a dictionary after each outcome.
 use Rattle.std.proofs.Common.{◌≡◌, ℕ, List, ap, refl, subst, sym}
 use Rattle.rg_linear.specs.System.{LinearSystem}
-use Rattle.rg_linear.specs.Descent.{Outcome.wide}
+use Rattle.rg_linear.specs.Descent.{Outcome.wide, IsFeasibleAt}
 use Rattle.rg_linear.specs.Width.{IsNarrow}
 use Rattle.rg_linear.proofs.Widths.{narrow_is_not_wide}
 use Rattle.rg_dictionary.specs.Contents.{Contents, IsDictionary}
 use Rattle.rg_feasible.specs.declared.settled.Settled.{Settled}
 use Rattle.rg_feasible.specs.declared.settled.Settled.TheVariants.{Point, Refuted, Wide}
 use Rattle.rg_feasible.specs.View.{DescentState}
-use Rattle.rg_feasible.specs.Settling.{IsDictionaryOf, IsOutcome, IsLeftBy, IsNotWide, IsFeasibleAt, wide_at}
+use Rattle.rg_feasible.specs.Settling.{IsDictionaryOf, IsOutcome, IsLeftBy, IsNotWide, wide_at}
 use Rattle.rg_feasible.proofs.Shown.{point_feasible}
 
 -- where no row failed, or nothing is to be kept

@@ -6,12 +6,11 @@ use Rattle.std.proofs.lemmas.List.{take_more, get_or-append_right}
 use Rattle.rg_integers.specs.Range.{InRange}
 use Rattle.rg_integers.specs.Sum.{number_at}
 use Rattle.rg_integers.proofs.Casts.{back}
-use Rattle.rg_linear.specs.System.{LinearSystem, LinearRow, row_at}
+use Rattle.rg_linear.specs.System.{LinearSystem, LinearRow, row_at, with_rows}
 use Rattle.rg_linear.specs.declared.row.Row.{Row}
 use Rattle.rg_linear.specs.View.{linear_row, linear_system, IsWellFormed}
 use Rattle.rg_linear.proofs.KeptRows.{item_is, below_rows, constant_in_range}
 use Rattle.rg_dictionary.specs.Contents.{Contents, IsDictionary, columns_alone, with_row}
-use Rattle.rg_feasible.specs.Settling.{with_rows}
 
 module _ (system : LinearSystem) (columns : ℕ) (rows : List Row) (i : ℕ) (item : Row) (well : IsWellFormed (linear_system columns rows)) (lt : i < length rows) (at : item ≡ slice_index_or rows i item) where
   -- one row more, as the code hands it on

@@ -1,4 +1,3 @@
-pub mod Fixed
 pub mod Choosing
 pub mod Descending
 pub mod Shown

@@ -1,14 +1,9 @@
 -- The relation, the values and the multipliers that the numbers of a row show.
 use Rattle.std.proofs.Common.{◌≡◌, ◌≢◌, ℕ, zero, suc, ◌+◌, ◌*◌, ◌<◌, ◌==◌, if◌then◌else◌, List, [], ◌∷◌, length, drop, Contains, Some, ap, refl, subst, sym, ◌∙◌, arith}
-use Rattle.std.specs.Prelude.{ℤ, pos, neg_ℤ, ◌-ℤ◌, ◌≤ℤ◌, slice_range, slice_index}
+use Rattle.std.specs.Prelude.{ℤ, pos, neg_ℤ, ◌≤ℤ◌, slice_range, slice_index}
 use Rattle.std.proofs.Math.IntN.{*ℤ_comm}
-use Rattle.std.specs.Int.{w128, cast_signed, cast_unsigned}
-use Rattle.std.proofs.lemmas.Int.{ints}
 use Rattle.std.proofs.lemmas.Option.{same_Some}
-use Rattle.rg_integers.specs.Range.{InRange}
 use Rattle.rg_integers.specs.Sum.{number_at}
-use Rattle.rg_integers.proofs.Casts.{back}
-use Rattle.rg_integers.proofs.Ranges.{in_range-neg}
 use Rattle.rg_integers.proofs.Order.{positive_differs}
 use Rattle.rg_integers.proofs.Values.{SameValue-trans}
 use Rattle.rg_fraction.specs.declared.fraction.Fraction.{Fraction}
@@ -16,14 +11,14 @@ use Rattle.rg_fraction.specs.Fractions.{IsValue, numerator_of, denominator_of}
 use Rattle.rg_linear.specs.System.{LinearSystem, AreFarkasMultipliers, variables, row_variable}
 use Rattle.rg_linear.specs.Dictionary.{Relation, DictionaryRow}
 use Rattle.rg_linear.specs.Table.{numbers_of, number_beside, ShowsRow}
-use Rattle.rg_linear.specs.Descent.{Outcome.point, Outcome.refuted, DescentFromStart, multiplier_of}
+use Rattle.rg_linear.specs.Descent.{Outcome.point, Outcome.refuted, DescentFromStart, multiplier_of, IsBasicPoint, IsFeasibleAt}
 use Rattle.rg_linear.proofs.Members.{same, differs, Contains-here, Contains-there}
 use Rattle.rg_linear.proofs.Points.{constant_left, point_is_sound, zero_point_of}
 use Rattle.rg_linear.proofs.Refuting.{start_refuted, refuted_is_sound}
 use Rattle.rg_linear.proofs.TableLemmas.{beside_map}
 use Rattle.rg_dictionary.specs.Contents.{Contents, row_of, IsDictionary}
 use Rattle.rg_feasible.specs.View.{DescentState}
-use Rattle.rg_feasible.specs.Settling.{IsBasicPoint, IsFeasibleAt, IsRefutation, relation_of, multiplier_with}
+use Rattle.rg_feasible.specs.Settling.{IsRefutation, relation_of, multiplier_with}
 
 -- ---- numbers beside members
 
@@ -148,10 +143,3 @@ module _ (d : DescentState) (i failing row : ℕ) (is : IsRefutation d i) (e : d
       → ((q : ℕ) → q < p → slice_index d.table.members q ≡ d.table.columns + row → ⊥) → neg_ℤ (number_at numbers (p + 2)) ≡ multiplier_with d.table i row
   reads_at p ne size lt at first = ap (λ xs. neg_ℤ (number_at xs (p + 2))) back_to
       ∙ sym (multiplier_at d.table i row p (other ne) (sym (ap length back_to) ∙ size ∙ ap (λ n. n + 2) (sym (is.dictionary.free.count ∙ sym is.dictionary.columns))) lt at first)
-
--- the negative that the code forms
-pub negated : (z : ℤ) → InRange z → cast_signed w128 (cast_unsigned w128 (pos 0 -ℤ cast_signed w128 (cast_unsigned w128 z))) ≡ neg_ℤ z
-negated z h = ap (λ x. cast_signed w128 (cast_unsigned w128 (pos 0 -ℤ x))) (back z h) ∙ back (pos 0 -ℤ z) (subst InRange (sym is) (in_range-neg z h)) ∙ is
-  where
-    is : pos 0 -ℤ z ≡ neg_ℤ z
-    is = omega (arith, ints)

@@ -1,19 +1,15 @@
 -- What a settled dictionary says of its system.
-use Rattle.std.specs.Prelude.{◌≡◌, ℕ, ◌+◌, List, ◌++◌, drop, Some, ◌==◌, if◌then◌else◌, ℤ, neg_ℤ}
+use Rattle.std.specs.Prelude.{◌≡◌, ℕ, ◌+◌, List, drop, Some, ◌==◌, if◌then◌else◌, ℤ, neg_ℤ}
 use Rattle.rg_integers.specs.Sum.{number_at}
-use Rattle.rg_linear.specs.System.{LinearSystem, LinearRow, IsPoint, MeetsRows}
+use Rattle.rg_linear.specs.System.{LinearSystem}
 use Rattle.rg_linear.specs.Dictionary.{Relation, numbers_from}
-use Rattle.rg_linear.specs.Descent.{WideAt, Outcome.point, Outcome.refuted, Outcome.wide, DescentFromStart, IsAtZero}
+use Rattle.rg_linear.specs.Descent.{WideAt, Outcome.point, Outcome.refuted, Outcome.wide, DescentFromStart}
 use Rattle.rg_linear.specs.Table.{number_beside}
 use Rattle.rg_dictionary.specs.Contents.{Contents, row_of, IsDictionary}
 use Rattle.rg_feasible.specs.declared.settled.Settled.{Settled}
 use Rattle.rg_feasible.specs.declared.settled.Settled.TheVariants.{Point, Refuted, Wide}
 use Rattle.rg_feasible.specs.declared.settled.PivotWide.{PivotWide}
 use Rattle.rg_feasible.specs.View.{DescentState}
-
--- the system with these rows after its own
-abbrev pub with_rows : LinearSystem → List LinearRow → LinearSystem
-with_rows system rows = record { columns = system.columns; rows = system.rows ++ rows }
 
 -- the dictionary of the system
 abbrev pub IsDictionaryOf : LinearSystem → DescentState → Type 0
@@ -44,18 +40,6 @@ abbrev pub IsLeftBy : LinearSystem → DescentState → Settled → Type 0
 IsLeftBy system d Point = IsDictionaryOf system d
 IsLeftBy system d (Refuted i) = IsDictionaryOf system d × (d.failing ≡ Some i)
 IsLeftBy system d (Wide w) = Unit {0}
-
--- the values v over scale are those of the point at which every member is 0
-pub record IsBasicPoint (system : LinearSystem) (members : List ℕ) (scale : ℤ) (v : ℕ → ℤ) : Type 0 where
-  pub point : IsPoint system scale v
-  pub zero : IsAtZero members v
-
--- there is such a point, and it meets every row
-pub record IsFeasibleAt (system : LinearSystem) (members : List ℕ) : Type 0 where
-  pub scale : ℤ
-  pub v : ℕ → ℤ
-  pub basic : IsBasicPoint system members scale v
-  pub meets : MeetsRows system v
 
 -- the relation that these numbers show: d, the constant, and the coefficients of the members in order
 abbrev pub relation_of : List ℕ → List ℤ → Relation

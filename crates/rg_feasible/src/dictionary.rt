@@ -1,14 +1,15 @@
 //! The dictionary of a system, and the descent on it.
 
 ghost use Rattle.std.specs.Prelude.{◌≡◌, ℕ, ◌+◌, ◌^◌, ◌<◌, ◌≤◌, ℤ, pos, ◌≤ℤ◌, length, map, Contains, slice_index, IsOk, IfOk, IfSome, IfNone, OnOk, OnErr};
-ghost use Rattle.rg_linear.specs.System.{LinearSystem, AreFarkasMultipliers};
+ghost use Rattle.rg_linear.specs.System.{LinearSystem, AreFarkasMultipliers, with_rows};
 ghost use Rattle.rg_linear.specs.Dictionary.{numbers_from, IsFree};
 ghost use Rattle.rg_linear.specs.View.{linear_row, linear_system, IsWellFormed};
 ghost use Rattle.rg_linear.specs.Width.{IsNarrow};
 ghost use Rattle.rg_dictionary.specs.Contents.{IsDictionary, columns_alone, SameShape};
 ghost use Rattle.rg_fraction.specs.Fractions.{IsValue};
 ghost use Rattle.rg_feasible.specs.declared.settled.Settled.TheVariants as ends;
-ghost use Rattle.rg_feasible.specs.Settling.{with_rows, IsDictionaryOf, IsWhole, IsFresh, IsOutcome, IsLeftBy, IsBasicPoint, IsFeasibleAt, IsRefutation, IsNotWide, multiplier_with};
+ghost use Rattle.rg_feasible.specs.Settling.{IsDictionaryOf, IsWhole, IsFresh, IsOutcome, IsLeftBy, IsRefutation, IsNotWide, multiplier_with};
+ghost use Rattle.rg_linear.specs.Descent.{IsBasicPoint, IsFeasibleAt};
 
 use crate::descent::descend;
 use crate::settled::Settled;

@@ -10,3 +10,4 @@ pub mod Values
 pub mod Sums
 pub mod ListSums
 pub mod Dots
+pub mod Short

@@ -1,9 +1,12 @@
 -- Which numbers are in range with others.
-use Rattle.std.proofs.Common.{◌≡◌, ◌⊎◌, ⊎_elim, ℕ, ◌*◌, ◌<◌, ◌≤◌, ◌^◌, inl, inr, arith}
+use Rattle.std.proofs.Common.{◌≡◌, ◌⊎◌, ⊎_elim, ℕ, ◌*◌, ◌<◌, ◌≤◌, ◌^◌, inl, inr, ap, subst, sym, ◌∙◌, arith}
 use Rattle.std.specs.Prelude.{ℤ, pos, neg_ℤ, ◌-ℤ◌, ◌*ℤ◌, ◌<ℤ◌, unsigned_abs}
+use Rattle.std.specs.Int.{w128, cast_signed, cast_unsigned}
 use Rattle.std.proofs.lemmas.Bool.{cases_lt}
+use Rattle.std.proofs.lemmas.Int.{ints}
 use Rattle.rg_integers.specs.Range.{InRange, Fits}
 use Rattle.rg_integers.specs.Sign.{sign}
+use Rattle.rg_integers.proofs.Casts.{back}
 use Rattle.rg_integers.proofs.Signs.{abs-times, abs-neg, abs-signed, abs-factor}
 
 pub in_range_or_not : (z : ℤ) → InRange z ⊎ ¬ InRange z
@@ -33,3 +36,10 @@ in_range-factor f x y h e g = let r = abs-factor f x y (unsigned_abs y) h e (ome
 
 pub in_range-times : (x y : ℤ) (a b : ℕ) → unsigned_abs x ≤ a → unsigned_abs y ≤ b → a * b < 2 ^ 127 → InRange (x *ℤ y)
 in_range-times x y a b h g small = let r = abs-times x y a b h g in omega (arith, r, small)
+
+-- the negative that the code forms
+pub negated : (z : ℤ) → InRange z → cast_signed w128 (cast_unsigned w128 (pos 0 -ℤ cast_signed w128 (cast_unsigned w128 z))) ≡ neg_ℤ z
+negated z h = ap (λ x. cast_signed w128 (cast_unsigned w128 (pos 0 -ℤ x))) (back z h) ∙ back (pos 0 -ℤ z) (subst InRange (sym is) (in_range-neg z h)) ∙ is
+  where
+    is : pos 0 -ℤ z ≡ neg_ℤ z
+    is = omega (arith, ints)

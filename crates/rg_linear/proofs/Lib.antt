@@ -24,3 +24,7 @@ pub mod SampleLemmas
 pub mod TableLemmas
 pub mod KeptRows
 pub mod Norms
+pub mod MemberIndices
+pub mod TableRows
+pub mod Fixed
+pub mod Descending

@@ -2,6 +2,7 @@
 use Rattle.std.proofs.Common.{◌≡◌, ◌≢◌, ◌⊎◌, ⊎_elim, ℕ, zero, suc, ◌+◌, ◌<◌, ◌≤◌, Bool, true, false, ◌==◌, nat_lt, if◌then◌else◌, List, [], ◌∷◌, length, get_or, Contains, ap, refl, subst, sym, ◌∙◌, inl, inr, arith, eqb-true, eq-eqb, add-one}
 use Rattle.std.specs.List.Sorted.{IsStrictlyIncreasing}
 use Rattle.std.proofs.lemmas.Bool.{cases_lt, false≢true}
+use Rattle.std.proofs.lemmas.List.{ext_get_or}
 use Rattle.std.proofs.lemmas.Bool.Decides.{nat_tests}
 use Rattle.rg_linear.specs.Exchange.{without, put_in, exchanged}
 use Rattle.rg_linear.specs.Dictionary.{numbers_from}
@@ -236,3 +237,15 @@ numbers_in_order a (suc n) = ((λ m has. (numbers_from-Contains (suc a) n m has)
 
 pub numbers_from-ordered : (a n : ℕ) → IsStrictlyIncreasing (numbers_from a n)
 numbers_from-ordered a n = increasing_from_order _ (numbers_in_order a n)
+
+pub get_or-numbers_from : (first n k d : ℕ) → k < n → get_or (numbers_from first n) k d ≡ first + k
+get_or-numbers_from first zero k d lt = absurd (omega arith)
+get_or-numbers_from first (suc n) zero d lt = omega arith
+get_or-numbers_from first (suc n) (suc k) d lt = let r = get_or-numbers_from (suc first) n k d (omega arith) in omega arith
+
+-- a list with each number at its index
+pub columns_numbered : (members : List ℕ) (n : ℕ) → length members ≡ n → ((k : ℕ) → k < n → get_or members k 0 ≡ k) → members ≡ numbers_from 0 n
+columns_numbered members n size each = ext_get_or 0 members (numbers_from 0 n) (size ∙ sym (length-numbers_from 0 n)) (λ k lt. at k (omega arith))
+  where
+    at : (k : ℕ) → k < n → get_or members k 0 ≡ get_or (numbers_from 0 n) k 0
+    at k lt = let e = each k lt in let r = get_or-numbers_from 0 n k 0 lt in omega arith

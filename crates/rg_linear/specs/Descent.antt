@@ -1,6 +1,6 @@
 -- The order of work on a system: rows are fixed one after the other, and a row that fails is exchanged.
 use Rattle.std.specs.Prelude.{◌≡◌, ◌≢◌, ℕ, suc, ◌<◌, ◌≤◌, ◌⊎◌, List, [], ◌∷◌, length, Contains, ◌==◌, if◌then◌else◌, ℤ, pos, neg_ℤ, ◌≤ℤ◌, ◌<ℤ◌}
-use Rattle.rg_linear.specs.System.{LinearSystem, row_variable}
+use Rattle.rg_linear.specs.System.{LinearSystem, row_variable, IsPoint, MeetsRows}
 use Rattle.rg_linear.specs.Dictionary.{Relation, DictionaryRow, column_set}
 use Rattle.rg_integers.specs.declared.term.Wide.{Wide}
 use Rattle.rg_linear.specs.Exchange.{exchanged, AllFit, FirstWide}
@@ -89,3 +89,15 @@ abbrev pub IsNotWide : Outcome → Type 0
 IsNotWide (point members) = Unit {0}
 IsNotWide (refuted members i fixed) = Unit {0}
 IsNotWide (wide at) = ⊥
+
+-- the values v over scale are those of the point at which every member is 0
+pub record IsBasicPoint (system : LinearSystem) (members : List ℕ) (scale : ℤ) (v : ℕ → ℤ) : Type 0 where
+  pub point : IsPoint system scale v
+  pub zero : IsAtZero members v
+
+-- there is such a point, and it meets every row
+pub record IsFeasibleAt (system : LinearSystem) (members : List ℕ) : Type 0 where
+  pub scale : ℤ
+  pub v : ℕ → ℤ
+  pub basic : IsBasicPoint system members scale v
+  pub meets : MeetsRows system v

@@ -1,5 +1,5 @@
 -- Systems of rows over columns, and their rational points.
-use Rattle.std.specs.Prelude.{◌≡◌, ℕ, ◌+◌, ◌<◌, List, [], length, slice_index_or, ℤ, pos, ◌+ℤ◌, ◌*ℤ◌, ◌≤ℤ◌, ◌<ℤ◌}
+use Rattle.std.specs.Prelude.{◌≡◌, ℕ, ◌+◌, ◌<◌, List, ◌++◌, [], length, slice_index_or, ℤ, pos, ◌+ℤ◌, ◌*ℤ◌, ◌≤ℤ◌, ◌<ℤ◌}
 use Rattle.rg_integers.specs.Sum.{sum_below}
 
 -- the row says that coeffs . x + constant is at least 0
@@ -41,3 +41,7 @@ pub record AreFarkasMultipliers (system : LinearSystem) (multiplier : ℕ → �
   pub not_negative : (i : ℕ) → i < length system.rows → pos 0 ≤ℤ multiplier i
   pub cancels : (j : ℕ) → j < system.columns → sum_below (length system.rows) (λ i. multiplier i *ℤ entry system i j) ≡ pos 0
   pub contradicts : sum_below (length system.rows) (λ i. multiplier i *ℤ (row_at system i).constant) <ℤ pos 0
+
+-- the system with these rows after its own
+abbrev pub with_rows : LinearSystem → List LinearRow → LinearSystem
+with_rows system rows = record { columns = system.columns; rows = system.rows ++ rows }

@@ -36,3 +36,7 @@ pub record IsTable (system : LinearSystem) (members : List ℕ) (table : List �
 abbrev pub index_for : ℕ → List ℕ → ℕ
 index_for i [] = 0
 index_for i (m ∷ members) = if nat_lt i m then 0 else (1 + index_for i members)
+
+-- row number w of a flat list of rows with this many numbers each
+abbrev pub row_at : ℕ → List ℤ → ℕ → List ℤ
+row_at width table w = slice_range table (w * width) ((w + 1) * width)

@@ -1,8 +1,7 @@
 -- Values where every member is 0.
-use Rattle.std.proofs.Common.{◌≡◌, ◌⊎◌, ℕ, List, Contains, ap, sym, ◌∙◌, inl, inr}
+use Rattle.std.proofs.Common.{◌≡◌, ◌⊎◌, ℕ, List, Contains, ap, sym, ◌∙◌, inl, inr, arith}
 use Rattle.std.specs.Prelude.{ℤ, pos, ◌+ℤ◌, ◌*ℤ◌}
 use Rattle.std.proofs.lemmas.Int.{ints}
-use Rattle.std.proofs.Common.{arith}
 use Rattle.std.proofs.Math.IntN.{*ℤ_comm, zero-*ℤ, *ℤ-zero}
 use Rattle.rg_integers.proofs.Order.{positive_differs}
 use Rattle.rg_integers.proofs.Sums.{sum_below-zero}
@@ -12,7 +11,7 @@ use Rattle.rg_fraction.specs.Fractions.{IsValue, numerator_of, denominator_of}
 use Rattle.rg_linear.specs.System.{LinearSystem, variables}
 use Rattle.rg_linear.specs.Dictionary.{Relation}
 use Rattle.rg_linear.proofs.Members.{is_member}
-use Rattle.rg_feasible.specs.Settling.{IsBasicPoint}
+use Rattle.rg_linear.specs.Descent.{IsBasicPoint}
 use Rattle.rg_revised.specs.Basis.{IsRelationOf}
 
 -- where every member is 0, a relation has its constant alone

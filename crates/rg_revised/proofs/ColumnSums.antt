@@ -6,7 +6,7 @@ use Rattle.std.specs.Prelude.{ℤ, pos, ◌+ℤ◌, ◌*ℤ◌, unsigned_abs}
 use Rattle.std.proofs.Math.IntN.{zero-*ℤ}
 use Rattle.rg_integers.specs.Sum.{number_at}
 use Rattle.rg_linear.proofs.Members.{equal_or_not}
-use Rattle.rg_dictionary.proofs.TableRows.{length-row}
+use Rattle.rg_linear.proofs.TableRows.{length-row}
 use Rattle.rg_revised.specs.Rows.{row_at, RowWithin, TableWithin}
 use Rattle.rg_revised.specs.Reading.{column_sum, IsSmallRow, IsAdded, IsRead}
 use Rattle.rg_revised.proofs.Sizes.{sum_small, whole_small}

@@ -6,7 +6,7 @@ use Rattle.rg_integers.specs.Sum.{number_at, sum_below}
 use Rattle.rg_integers.proofs.Sums.{sum_below-same}
 use Rattle.rg_linear.specs.System.{LinearSystem, row_at as row_of, entry}
 use Rattle.rg_linear.specs.Descent.{IsSatisfied}
-use Rattle.rg_dictionary.proofs.TableRows.{length-row}
+use Rattle.rg_linear.proofs.TableRows.{length-row}
 use Rattle.rg_revised.specs.Basis.{row_over}
 use Rattle.rg_revised.specs.Rows.{row_at, RowWithin}
 use Rattle.rg_revised.specs.Held.{column_relation}

@@ -5,12 +5,11 @@ use Rattle.std.proofs.lemmas.Bool.{cases_lt}
 use Rattle.std.proofs.lemmas.Bool.Decides.{nat_tests}
 use Rattle.std.proofs.lemmas.List.{map-append, get_or_append_left, get_or-append_right}
 use Rattle.std.proofs.Math.Nat.{mul-le-mul}
-use Rattle.rg_linear.specs.System.{LinearSystem, LinearRow}
+use Rattle.rg_linear.specs.System.{LinearSystem, LinearRow, with_rows}
 use Rattle.rg_linear.specs.Norm.{row_norm, norm_at, greatest_norm, kept_norm}
 use Rattle.rg_linear.specs.View.{linear_row, linear_system}
 use Rattle.rg_linear.specs.declared.row.Row.{Row}
 use Rattle.rg_linear.proofs.Norms.{at_most}
-use Rattle.rg_feasible.specs.Settling.{with_rows}
 use Rattle.rg_revised.specs.Basis.{HasNorms}
 use Rattle.rg_revised.specs.State.{HasRoom, HasConstants}
 use Rattle.rg_revised.specs.Ending.{EndTells, IsEnded}

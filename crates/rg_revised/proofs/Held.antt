@@ -11,7 +11,7 @@ use Rattle.rg_integers.proofs.Signs.{sign-times}
 use Rattle.rg_linear.specs.Table.{number_beside}
 use Rattle.rg_linear.specs.Exchange.{renewed}
 use Rattle.rg_linear.proofs.Members.{is_member, equal_or_not, differs, same}
-use Rattle.rg_dictionary.proofs.Searching.{member_at}
+use Rattle.rg_linear.proofs.MemberIndices.{member_at}
 use Rattle.rg_revised.specs.Basis.{IsMultiple}
 use Rattle.rg_revised.specs.Rows.{RowRenewed}
 use Rattle.rg_revised.specs.Held.{AreDistinct, relation_of, IsPivot}

@@ -16,8 +16,8 @@ use Rattle.rg_linear.specs.Table.{number_beside}
 use Rattle.rg_linear.specs.Exchange.{exchanged, renewed}
 use Rattle.rg_linear.proofs.Members.{is_member, Contains-exchanged_new, Contains-exchanged_old, exchanged-Contains}
 use Rattle.rg_linear.proofs.Unique.{sum_at, sum_one}
-use Rattle.rg_dictionary.proofs.Searching.{member_at}
-use Rattle.rg_dictionary.proofs.TableRows.{length-row}
+use Rattle.rg_linear.proofs.MemberIndices.{member_at}
+use Rattle.rg_linear.proofs.TableRows.{length-row}
 use Rattle.rg_revised.specs.Basis.{IsRelationOf, row_over, IsMultiple, IsWithin}
 use Rattle.rg_revised.specs.Rows.{RowWithin, row_at, TableRenewed}
 use Rattle.rg_revised.specs.Held.{relation_of, column_relation, IsHeld, IsPivot, AreRowNumbers}

@@ -7,7 +7,7 @@ use Rattle.rg_linear.specs.Stack.{limit, Resumes, Resumes.last, work_left, IsSta
 use Rattle.rg_linear.specs.declared.row.Row.{Row}
 use Rattle.rg_linear.specs.View.{linear_row, linear_system}
 use Rattle.rg_linear.proofs.Members.{Contains-nil}
-use Rattle.rg_feasible.proofs.Descending.{LeadsOn}
+use Rattle.rg_linear.proofs.Descending.{LeadsOn}
 
 pub begins : (columns : ℕ) (rows : List Row) (stack : List ℕ) → stack ≡ [] → LeadsOn (linear_system columns rows) (numbers_from 0 columns) stack (length rows) 0
 begins columns rows stack none = record {

@@ -5,7 +5,7 @@ use Rattle.std.specs.Prelude.{ℤ, pos}
 use Rattle.rg_integers.specs.Sum.{number_at}
 use Rattle.rg_linear.specs.Table.{number_beside}
 use Rattle.rg_linear.proofs.Members.{differs, same, Contains-here, Contains-there, Contains-cons_cases, Contains-nil}
-use Rattle.rg_dictionary.proofs.Searching.{member_at}
+use Rattle.rg_linear.proofs.MemberIndices.{member_at}
 use Rattle.rg_revised.specs.Held.{AreDistinct}
 
 -- ---- the number beside a variable

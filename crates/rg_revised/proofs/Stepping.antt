@@ -13,9 +13,9 @@ use Rattle.rg_linear.specs.Descent.{IsSatisfied, IsStuck, Chooses}
 use Rattle.rg_linear.specs.Stack.{fixed_of}
 use Rattle.rg_linear.specs.Norm.{row_norm, norm_at}
 use Rattle.rg_linear.proofs.Members.{equal_or_not, differs, same}
-use Rattle.rg_feasible.proofs.Fixed.{fixed_row, row_fixed}
-use Rattle.rg_dictionary.proofs.Searching.{member_at}
-use Rattle.rg_dictionary.proofs.TableRows.{length-row}
+use Rattle.rg_linear.proofs.Fixed.{fixed_row, row_fixed}
+use Rattle.rg_linear.proofs.MemberIndices.{member_at}
+use Rattle.rg_linear.proofs.TableRows.{length-row}
 use Rattle.rg_revised.specs.Basis.{IsRelationOf}
 use Rattle.rg_revised.specs.Rows.{row_at, RowWithin}
 use Rattle.rg_revised.specs.Held.{AreDistinct, relation_of, column_relation, AreRowNumbers}

@@ -3,7 +3,7 @@ use Rattle.std.proofs.Common.{◌≡◌, ◌≢◌, ⊎_elim, ℕ, ◌+◌, ◌*
 use Rattle.std.specs.Prelude.{ℤ}
 use Rattle.std.proofs.lemmas.Bool.{cases_lt}
 use borrow.Rule.Slice.PartMut.{put_mid}
-use Rattle.rg_dictionary.proofs.TableRows.{row_put, row_other}
+use Rattle.rg_linear.proofs.TableRows.{row_put, row_other}
 use Rattle.rg_revised.specs.Rows.{row_at, RowRenewed, TableRenewed}
 
 -- one more row is renewed

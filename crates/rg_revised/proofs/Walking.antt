@@ -6,15 +6,14 @@ use Rattle.std.specs.List.Sorted.{IsStrictlyIncreasing}
 use Rattle.std.proofs.lemmas.List.{get_or_default}
 use Rattle.rg_integers.proofs.Order.{is_zero_or_not}
 use Rattle.rg_linear.specs.System.{LinearSystem, variables, row_variable, row_at as row_of}
-use Rattle.rg_linear.specs.Table.{number_beside, ShowsRow}
+use Rattle.rg_linear.specs.Table.{number_beside, ShowsRow, numbers_of}
 use Rattle.rg_linear.specs.Dictionary.{Relation}
 use Rattle.rg_linear.specs.Exchange.{put_in, without, exchanged, AllFit, IsReduced}
-use Rattle.rg_linear.specs.Table.{numbers_of}
 use Rattle.rg_linear.specs.Cycle.{IsSkipped, Picks}
 use Rattle.rg_linear.proofs.Columns.{past_test}
 use Rattle.rg_linear.proofs.Members.{Contains-here, Contains-there, Contains-cons_cases, Contains-nil, is_member, without-Contains, order_from_increasing, IsInOrder}
-use Rattle.rg_dictionary.proofs.Searching.{member_at, gone}
-use Rattle.rg_dictionary.proofs.TableRows.{length-row}
+use Rattle.rg_linear.proofs.MemberIndices.{member_at, gone}
+use Rattle.rg_linear.proofs.TableRows.{length-row}
 use Rattle.rg_revised.specs.Basis.{IsRelationOf, row_over}
 use Rattle.rg_revised.specs.Rows.{row_at}
 use Rattle.rg_revised.specs.Held.{AreDistinct, relation_of, column_relation}

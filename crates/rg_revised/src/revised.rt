@@ -3,11 +3,10 @@
 ghost use Rattle.std.specs.Prelude.{◌≡◌, ℕ, ◌+◌, ◌*◌, ◌^◌, ◌<◌, ◌≤◌, ◌++◌, List, length, map, Contains, slice_index, vec_capacity, IfOk, IfSome, IfNone, ℤ, pos, ◌≤ℤ◌, unsigned_abs};
 ghost use Rattle.std.specs.Arc.{arc_slice_items};
 ghost use Rattle.rg_fraction.specs.Fractions.{IsValue};
-ghost use Rattle.rg_linear.specs.System.{LinearSystem, row_variable, row_at};
+ghost use Rattle.rg_linear.specs.System.{LinearSystem, row_variable, row_at, with_rows};
 ghost use Rattle.rg_linear.specs.Dictionary.{Relation, DictionaryRow};
-ghost use Rattle.rg_linear.specs.Descent.{multiplier_of};
+ghost use Rattle.rg_linear.specs.Descent.{multiplier_of, IsBasicPoint};
 ghost use Rattle.rg_linear.specs.View.{linear_row, linear_system, IsWellFormed};
-ghost use Rattle.rg_feasible.specs.Settling.{with_rows, IsBasicPoint};
 ghost use Rattle.rg_revised.specs.Basis.{HasNorms};
 ghost use Rattle.rg_revised.specs.Ending.{EndTells, IsEnded};
 ghost use Rattle.rg_revised.specs.State.{HasConstants};

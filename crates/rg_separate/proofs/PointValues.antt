@@ -10,7 +10,7 @@ use Rattle.rg_linear.specs.System.{LinearSystem, variables}
 use Rattle.rg_linear.specs.Dictionary.{Relation, DictionaryRow, HasDictionary}
 use Rattle.rg_linear.proofs.Members.{is_member}
 use Rattle.rg_linear.proofs.Points.{constant_left, zero_point_of}
-use Rattle.rg_feasible.specs.Settling.{IsBasicPoint}
+use Rattle.rg_linear.specs.Descent.{IsBasicPoint}
 use Rattle.rg_case_folds.specs.Fold.{whole, ratio_of, IsRatio}
 use Rattle.rg_case_folds.specs.Shown.{IsValueAt}
 use Rattle.rg_case_folds.proofs.FoldLemmas.{ratio_one, new_step}

@@ -1,5 +1,5 @@
 use Rattle.std.proofs.Common.{arith}
-use Rattle.rg_dictionary.proofs.Storing.{columns_numbered}
+use Rattle.rg_linear.proofs.Members.{columns_numbered}
 use Rattle.rg_dictionary.proofs.dictionary.number_columns.Goals as goal
 
 pub returns : goal.returns

@@ -5,7 +5,7 @@ use Rattle.rg_integers.specs.Range.{InRange}
 use Rattle.rg_integers.specs.Sign.{sign}
 use Rattle.rg_integers.specs.Sum.{number_at}
 use Rattle.rg_integers.proofs.Casts.{back}
-use Rattle.rg_dictionary.proofs.Writing.{below_set}
+use Rattle.rg_linear.proofs.TableRows.{below_set}
 use Rattle.rg_dictionary.proofs.row.copy_signed.Goals as goal
 
 pub loop-n-preserved : goal.loop-n-preserved

@@ -9,7 +9,7 @@ use Rattle.rg_integers.specs.Sum.{number_at}
 use Rattle.rg_integers.proofs.Casts.{back}
 use Rattle.rg_dictionary.specs.Renewal.{RowIsShort}
 use Rattle.rg_dictionary.proofs.Writing.{in_range-set}
-use Rattle.rg_dictionary.proofs.Short.{short_behind}
+use Rattle.rg_integers.proofs.Short.{short_behind}
 use Rattle.rg_dictionary.proofs.Renewing.{begun, half, most, renewed, wide_first, wide_low, wide_high, wide_last}
 use Rattle.rg_dictionary.proofs.row.renew.Goals as goal
 use Rattle.rg_dictionary.proofs.row.renew.Goals.{then-short, else-short}

@@ -5,7 +5,7 @@ use Rattle.rg_integers.specs.Range.{InRange}
 use Rattle.rg_integers.specs.Sum.{number_at}
 use Rattle.rg_integers.proofs.Casts.{back}
 use Rattle.rg_dictionary.specs.Renewal.{RenewsBetween}
-use Rattle.rg_dictionary.proofs.Short.{short_fits, short_in_range}
+use Rattle.rg_integers.proofs.Short.{short_fits, short_in_range}
 use Rattle.rg_dictionary.proofs.Writing.{in_range-set, renews_more}
 use Rattle.rg_dictionary.proofs.row.renew_short.Goals as goal
 

@@ -3,7 +3,8 @@ use Rattle.std.specs.Prelude.{neg_ℤ}
 use Rattle.rg_integers.specs.Range.{InRange}
 use Rattle.rg_integers.specs.Sum.{number_at}
 use Rattle.rg_integers.proofs.Casts.{back}
-use Rattle.rg_dictionary.proofs.Writing.{below_set, in_range-set, turned}
+use Rattle.rg_dictionary.proofs.Writing.{in_range-set, turned}
+use Rattle.rg_linear.proofs.TableRows.{below_set}
 use Rattle.rg_dictionary.proofs.row.turn.Goals as goal
 
 pub loop-n-preserved : goal.loop-n-preserved

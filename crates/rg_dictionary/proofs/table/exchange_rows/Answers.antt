@@ -2,9 +2,11 @@ use Rattle.std.proofs.Common.{◌≡◌, Contains, ◌+◌, ◌*◌, ◌-◌, le
 use Rattle.std.specs.Prelude.{pos}
 use Rattle.std.proofs.lemmas.Bool.{false≢true}
 use Rattle.rg_integers.specs.Sum.{number_at}
-use Rattle.rg_dictionary.specs.Renewal.{row_at, RowInRange, FirstOfRow, IsExchangedRow, RowsExchanged, IsKept}
-use Rattle.rg_dictionary.proofs.Searching.{AreBelow, found_or_not, member_at, past_member, past_other}
-use Rattle.rg_dictionary.proofs.TableRows.{row_inside, part_is, length-part, in_range-put, in_range-part, row_other, rows_skipped, rows_more, first_of_rows}
+use Rattle.rg_dictionary.specs.Renewal.{RowInRange, FirstOfRow, IsExchangedRow, RowsExchanged, IsKept}
+use Rattle.rg_linear.specs.Table.{row_at}
+use Rattle.rg_linear.proofs.MemberIndices.{AreBelow, found_or_not, member_at, past_member, past_other}
+use Rattle.rg_dictionary.proofs.TableRows.{in_range-put, in_range-part, rows_skipped, rows_more, first_of_rows}
+use Rattle.rg_linear.proofs.TableRows.{row_inside, part_is, length-part, row_other}
 use Rattle.rg_dictionary.proofs.table.exchange_rows.Goals as goal
 use Rattle.rg_dictionary.proofs.table.exchange_rows.Goals.{then-stands_at, else-stands_at+then-w-pivot+in-Ok, else-stands_at+else-w-pivot}
 

@@ -1,6 +1,7 @@
 use Rattle.std.proofs.Common.{◌≡◌, ℕ, ◌≤◌, length}
-use Rattle.rg_dictionary.specs.Renewal.{RowInRange, row_at, RowsExchanged}
-use Rattle.rg_dictionary.proofs.Searching.{AreBelow}
+use Rattle.rg_dictionary.specs.Renewal.{RowInRange, RowsExchanged}
+use Rattle.rg_linear.specs.Table.{row_at}
+use Rattle.rg_linear.proofs.MemberIndices.{AreBelow}
 use Rattle.rg_dictionary.proofs.table.exchange_rows.Given as goal
 
 abbrev pub invariant-loop-w : goal.invariant-loop-w

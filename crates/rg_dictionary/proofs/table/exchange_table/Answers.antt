@@ -1,10 +1,11 @@
 use Rattle.std.proofs.Common.{◌≡◌, ◌≢◌, suc, ◌+◌, ◌*◌, ◌-◌, length, get_or, refl, arith, subst, sym, ◌∙◌}
 use Rattle.std.specs.Prelude.{pos}
 use Rattle.rg_integers.specs.Sum.{number_at}
-use Rattle.rg_linear.specs.Table.{row_width}
-use Rattle.rg_dictionary.specs.Renewal.{IsSigned, row_at, RowsExchanged, FirstOfRows}
-use Rattle.rg_dictionary.proofs.Searching.{few_members}
-use Rattle.rg_dictionary.proofs.TableRows.{part_is, length-part, in_range-put, length-put-mid, row_put, row_other}
+use Rattle.rg_linear.specs.Table.{row_width, row_at}
+use Rattle.rg_dictionary.specs.Renewal.{IsSigned, RowsExchanged, FirstOfRows}
+use Rattle.rg_linear.proofs.MemberIndices.{few_members}
+use Rattle.rg_dictionary.proofs.TableRows.{in_range-put}
+use Rattle.rg_linear.proofs.TableRows.{part_is, length-part, length-put-mid, row_put, row_other}
 use Rattle.rg_dictionary.proofs.Exchanges.{wide_after, fit_after, table_after}
 use Rattle.rg_dictionary.proofs.table.exchange_table.Goals as goal
 

@@ -1,5 +1,5 @@
 use Rattle.std.proofs.Common.{Contains, subst}
-use Rattle.rg_dictionary.proofs.Searching.{found_or_not, member_at}
+use Rattle.rg_linear.proofs.MemberIndices.{found_or_not, member_at}
 use Rattle.rg_dictionary.proofs.table.is_member.Goals as goal
 
 pub returns : goal.returns

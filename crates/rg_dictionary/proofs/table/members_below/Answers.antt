@@ -1,6 +1,6 @@
 use Rattle.std.proofs.Common.{ltb, arith, rules}
 use Rattle.std.proofs.lemmas.List.Sorted.{IsPartitionPoint-from_clause, IsPartitionedBy-ltb, IsNonDecreasingBy-from_default}
-use Rattle.rg_dictionary.proofs.Searching.{not_falling, is_below, is_not_below}
+use Rattle.rg_linear.proofs.MemberIndices.{not_falling, is_below, is_not_below}
 use Rattle.rg_dictionary.proofs.table.members_below.Goals as goal
 
 pub returns-clause-below : goal.returns-clause-below

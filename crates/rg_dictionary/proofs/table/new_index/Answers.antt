@@ -1,4 +1,4 @@
-use Rattle.rg_dictionary.proofs.Searching.{index_behind, index_before}
+use Rattle.rg_linear.proofs.MemberIndices.{index_behind, index_before}
 use Rattle.rg_dictionary.proofs.table.new_index.Goals as goal
 
 pub returns-then-index-below-clause-value : goal.returns-then-index-below-clause-value

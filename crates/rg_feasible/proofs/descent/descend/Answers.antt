@@ -2,7 +2,8 @@ use Rattle.std.proofs.Common.{rules, ◌≡◌, ◌<◌, ◌-◌, ap, subst, sym
 use Rattle.std.proofs.lemmas.Bool.{false≢true}
 use Rattle.std.proofs.lemmas.List.{length-reverse}
 use Rattle.rg_linear.specs.Stack.{fixed_of, limit}
-use Rattle.rg_feasible.proofs.Descending.{leads_point, leads_refuted, leads_wide, wide_free, leads_satisfied, leads_exchanged, leads_popped, popped_row, within_rows, stack_has_room, work_satisfied, work_pushed, limit_last}
+use Rattle.rg_feasible.proofs.Descending.{leads_wide, wide_free}
+use Rattle.rg_linear.proofs.Descending.{leads_point, leads_refuted, leads_satisfied, leads_exchanged, leads_popped, popped_row, within_rows, stack_has_room, work_satisfied, work_pushed, limit_last}
 use Rattle.rg_feasible.proofs.descent.descend.Goals as goal
 
 pub returns-in-None-clause-outcome : goal.returns-in-None-clause-outcome

@@ -1,6 +1,6 @@
 use Rattle.std.proofs.Common.{rules}
 use Rattle.rg_feasible.specs.Steps.{NamesFree}
-use Rattle.rg_feasible.proofs.Fixed.{next_index}
+use Rattle.rg_linear.proofs.Fixed.{next_index}
 use Rattle.rg_feasible.proofs.step.least_free.Goals as goal
 use Rattle.rg_feasible.proofs.step.least_free.Goals.{else-numbers-index-ne0-via-then-numbers-index-ne0+else-not-is_fixed, else-numbers-index-ne0-via-else-numbers-index-ne0}
 

@@ -9,7 +9,7 @@ use Rattle.rg_linear.specs.Exchange.{exchanged}
 use Rattle.rg_linear.specs.Dictionary.{numbers_from}
 use Rattle.rg_linear.specs.View.{linear_row, linear_system}
 use Rattle.rg_linear.specs.Stack.{fixed_of, limit}
-use Rattle.rg_feasible.proofs.Descending.{LeadsOn, leads_point, leads_refuted, leads_satisfied, leads_exchanged, leads_popped, popped_row, within_rows, stack_has_room, work_satisfied, work_pushed, limit_last}
+use Rattle.rg_linear.proofs.Descending.{LeadsOn, leads_point, leads_refuted, leads_satisfied, leads_exchanged, leads_popped, popped_row, within_rows, stack_has_room, work_satisfied, work_pushed, limit_last}
 use Rattle.rg_revised.specs.State.{IsSmallHeld}
 use Rattle.rg_revised.proofs.Looping.{begins, work_kept, within_kept}
 use Rattle.rg_revised.proofs.descent.descend.Goals as goal

@@ -2,7 +2,7 @@ use Rattle.std.proofs.Common.{◌≡◌, ◌≤◌, ◌++◌, ℕ, List, length,
 use Rattle.std.specs.Prelude.{unsigned_abs}
 use Rattle.rg_linear.specs.View.{linear_system}
 use Rattle.rg_linear.specs.Stack.{work_left}
-use Rattle.rg_feasible.proofs.Descending.{LeadsOn}
+use Rattle.rg_linear.proofs.Descending.{LeadsOn}
 use Rattle.rg_revised.specs.State.{IsSmallHeld, HasConstants}
 use Rattle.rg_revised.proofs.descent.descend.Given as goal
 

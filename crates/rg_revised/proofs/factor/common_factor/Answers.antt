@@ -5,7 +5,7 @@ use Rattle.std.proofs.lemmas.Int.{to_z-of_z}
 use Rattle.rg_integers.specs.Divisor.{IsGcdBelow}
 use Rattle.rg_integers.specs.Sum.{number_at}
 use Rattle.rg_integers.proofs.Casts.{back}
-use Rattle.rg_dictionary.proofs.Short.{short_in_range}
+use Rattle.rg_integers.proofs.Short.{short_in_range}
 use Rattle.rg_revised.proofs.Factors.{first_factor, next_factor}
 use Rattle.rg_revised.proofs.factor.common_factor.Goals as goal
 

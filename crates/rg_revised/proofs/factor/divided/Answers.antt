@@ -5,7 +5,7 @@ use Rattle.std.proofs.lemmas.Int.{to_z-of_z}
 use Rattle.std.proofs.Math.IntN.{*ℤ_comm}
 use Rattle.rg_integers.proofs.Casts.{back}
 use Rattle.rg_integers.proofs.Divisors.{exact}
-use Rattle.rg_dictionary.proofs.Short.{short_in_range}
+use Rattle.rg_integers.proofs.Short.{short_in_range}
 use Rattle.rg_revised.proofs.Factors.{quotient_in_range}
 use Rattle.rg_revised.proofs.factor.divided.Goals as goal
 

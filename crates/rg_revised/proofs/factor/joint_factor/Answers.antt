@@ -3,7 +3,7 @@ use Rattle.std.specs.Prelude.{FitsSigned}
 use Rattle.std.specs.Int.{w64}
 use Rattle.std.proofs.lemmas.Int.{to_z-of_z}
 use Rattle.rg_integers.proofs.Casts.{back}
-use Rattle.rg_dictionary.proofs.Short.{short_in_range}
+use Rattle.rg_integers.proofs.Short.{short_in_range}
 use Rattle.rg_revised.proofs.factor.joint_factor.Goals as goal
 
 pub returns-clause-greatest : goal.returns-clause-greatest

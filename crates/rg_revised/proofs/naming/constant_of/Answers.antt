@@ -4,8 +4,8 @@ use Rattle.std.specs.Int.{w64, w128, cast_signed}
 use Rattle.std.proofs.lemmas.Int.{to_z-of_z}
 use Rattle.rg_integers.specs.Range.{InRange}
 use Rattle.rg_integers.specs.Sum.{number_at}
-use Rattle.rg_dictionary.proofs.Searching.{member_at}
-use Rattle.rg_dictionary.proofs.Short.{short_in_range}
+use Rattle.rg_linear.proofs.MemberIndices.{member_at}
+use Rattle.rg_integers.proofs.Short.{short_in_range}
 use Rattle.rg_revised.proofs.Sizes.{coefficient_fits, constant_fits, term_fits}
 use Rattle.rg_revised.proofs.Indices.{next_total, whole_total}
 use Rattle.rg_revised.proofs.NamedSums.{first_fits, part_fits, next_fits}

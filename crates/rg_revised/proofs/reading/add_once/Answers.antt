@@ -3,7 +3,7 @@ use Rattle.std.specs.Prelude.{ℤ, pos, FitsSigned, ◌+ℤ◌, ◌*ℤ◌}
 use Rattle.std.specs.Int.{w64}
 use Rattle.std.proofs.lemmas.Int.{to_z-of_z, ints}
 use Rattle.rg_integers.specs.Sum.{number_at}
-use Rattle.rg_dictionary.proofs.Writing.{below_set}
+use Rattle.rg_linear.proofs.TableRows.{below_set}
 use Rattle.rg_revised.proofs.reading.add_once.Goals as goal
 
 pub loop-s-preserved : goal.loop-s-preserved

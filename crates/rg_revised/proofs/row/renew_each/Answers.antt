@@ -3,7 +3,7 @@ use Rattle.std.specs.Prelude.{pos, FitsSigned, ◌*ℤ◌, ◌-ℤ◌, unsigned_
 use Rattle.std.specs.Int.{w64}
 use Rattle.std.proofs.lemmas.Int.{to_z-of_z}
 use Rattle.rg_integers.specs.Sum.{number_at}
-use Rattle.rg_dictionary.proofs.Writing.{below_set}
+use Rattle.rg_linear.proofs.TableRows.{below_set}
 use Rattle.rg_revised.proofs.Written.{within-set, renewed_row}
 use Rattle.rg_revised.proofs.row.renew_each.Goals as goal
 

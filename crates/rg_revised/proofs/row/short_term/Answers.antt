@@ -4,7 +4,7 @@ use Rattle.std.specs.Int.{w64}
 use Rattle.std.proofs.lemmas.Int.{to_z-of_z}
 use Rattle.rg_integers.specs.Range.{InRange}
 use Rattle.rg_integers.proofs.Casts.{back, fits}
-use Rattle.rg_dictionary.proofs.Short.{short_fits, short_in_range}
+use Rattle.rg_integers.proofs.Short.{short_fits, short_in_range}
 use Rattle.rg_revised.proofs.row.short_term.Goals as goal
 
 pub overflow_sub-result : goal.overflow_sub-result

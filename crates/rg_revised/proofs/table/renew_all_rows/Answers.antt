@@ -2,7 +2,7 @@ use Rattle.std.proofs.Common.{rules, ◌≡◌, ◌+◌, ◌*◌, ◌-◌, lengt
 use Rattle.std.specs.Prelude.{FitsSigned, unsigned_abs}
 use Rattle.std.specs.Int.{w64}
 use Rattle.std.proofs.lemmas.Int.{to_z-of_z}
-use Rattle.rg_dictionary.proofs.TableRows.{part_is, length-part, length-put-mid, row_other}
+use Rattle.rg_linear.proofs.TableRows.{part_is, length-part, length-put-mid, row_other}
 use Rattle.rg_revised.specs.Rows.{RowRenewed, TableRenewed}
 use Rattle.rg_revised.proofs.Tables.{rows_more}
 use Rattle.rg_revised.proofs.table.renew_all_rows.Goals as goal

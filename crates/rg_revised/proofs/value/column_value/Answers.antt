@@ -6,7 +6,7 @@ use Rattle.std.proofs.lemmas.List.{get_or_default}
 use Rattle.rg_integers.specs.Sum.{number_at}
 use Rattle.rg_integers.proofs.Casts.{back}
 use Rattle.rg_fraction.specs.Fractions.{IsValue}
-use Rattle.rg_dictionary.proofs.Short.{short_in_range}
+use Rattle.rg_integers.proofs.Short.{short_in_range}
 use Rattle.rg_revised.specs.Held.{column_relation}
 use Rattle.rg_revised.proofs.BasicValues.{relation_value}
 use Rattle.rg_revised.proofs.value.column_value.Goals as goal

@@ -12,7 +12,7 @@ use Rattle.rg_revised.proofs.Rows.{row_follows}
 use Rattle.rg_revised.proofs.Stepping.{small_row}
 use Rattle.rg_revised.proofs.ConstantsHeld.{shares, constants_small, constant_at}
 use Rattle.rg_revised.proofs.BasicValues.{relation_value}
-use Rattle.rg_dictionary.proofs.Short.{short_in_range}
+use Rattle.rg_integers.proofs.Short.{short_in_range}
 use Rattle.rg_revised.proofs.value.row_value.Goals as goal
 
 pub constant-requires-clause-small : goal.constant-requires-clause-small

@@ -1,6 +1,6 @@
 use Rattle.std.proofs.Common.{rules, ◌<◌, length}
 use Rattle.rg_linear.proofs.Columns.{below_test}
-use Rattle.rg_dictionary.proofs.Searching.{is_below}
+use Rattle.rg_linear.proofs.MemberIndices.{is_below}
 use Rattle.rg_revised.proofs.Walking.{first_column, some_column}
 use Rattle.rg_revised.proofs.walk.has_column.Goals as goal
 

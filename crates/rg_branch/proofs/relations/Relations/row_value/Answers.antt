@@ -2,7 +2,8 @@ use Rattle.std.proofs.Common.{◌<◌, length, ap, subst, sym, ◌∙◌}
 use Rattle.std.proofs.lemmas.List.{length-map}
 use Rattle.rg_linear.specs.View.{linear_row}
 use Rattle.rg_linear.proofs.KeptRows.{item_is, row_length}
-use Rattle.rg_feasible.specs.Settling.{with_rows, IsBasicPoint}
+use Rattle.rg_linear.specs.System.{with_rows}
+use Rattle.rg_linear.specs.Descent.{IsBasicPoint}
 use Rattle.rg_branch.specs.Relating.{AreRelationsOf}
 use Rattle.rg_branch.proofs.Nodes.{first_row, first_length}
 use Rattle.rg_branch.proofs.relations.Relations.row_value.Goals as goal

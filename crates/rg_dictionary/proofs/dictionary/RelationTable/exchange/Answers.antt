@@ -5,9 +5,9 @@ use Rattle.std.proofs.lemmas.List.{with_items_is}
 use Rattle.rg_integers.specs.Sum.{number_at}
 use Rattle.rg_linear.specs.Dictionary.{IsFree}
 use Rattle.rg_linear.specs.Exchange.{exchanged, AllFit, FirstWide}
-use Rattle.rg_linear.specs.Table.{IsTable}
+use Rattle.rg_linear.specs.Table.{IsTable, row_at}
 use Rattle.rg_dictionary.specs.Contents.{Contents, IsDictionary, IsOutside, row_of}
-use Rattle.rg_dictionary.specs.Renewal.{RowInRange, row_at}
+use Rattle.rg_dictionary.specs.Renewal.{RowInRange}
 use Rattle.rg_dictionary.proofs.Exchanges.{free_after}
 use Rattle.rg_dictionary.proofs.RowNumbers.{exchanged-split}
 use Rattle.rg_dictionary.proofs.Storing.{stored_exchanged}

@@ -4,7 +4,8 @@ use Rattle.rg_integers.specs.Sum.{number_at}
 use Rattle.rg_integers.proofs.Casts.{back}
 use Rattle.rg_feasible.specs.View.{DescentState}
 use Rattle.rg_feasible.specs.Settling.{IsRefutation, multiplier_with}
-use Rattle.rg_feasible.proofs.Shown.{multiplier_not_negative, refuted_row, reads_own, reads_none, reads_at, negated}
+use Rattle.rg_feasible.proofs.Shown.{multiplier_not_negative, refuted_row, reads_own, reads_none, reads_at}
+use Rattle.rg_integers.proofs.Ranges.{negated}
 use Rattle.rg_feasible.proofs.dictionary.Dictionary.multiplier.Goals as goal
 
 pub overflow_add-columns : goal.overflow_add-columns

@@ -2,7 +2,8 @@ use Rattle.std.proofs.Common.{ap, subst, sym, ◌∙◌}
 use Rattle.rg_integers.specs.Sum.{number_at}
 use Rattle.rg_integers.proofs.Casts.{back}
 use Rattle.rg_feasible.specs.View.{DescentState}
-use Rattle.rg_feasible.specs.Settling.{IsDictionaryOf, IsBasicPoint}
+use Rattle.rg_feasible.specs.Settling.{IsDictionaryOf}
+use Rattle.rg_linear.specs.Descent.{IsBasicPoint}
 use Rattle.rg_feasible.proofs.Shown.{value_outside}
 use Rattle.rg_feasible.proofs.dictionary.Dictionary.point.Goals as goal
 

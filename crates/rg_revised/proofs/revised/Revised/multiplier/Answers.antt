@@ -5,7 +5,7 @@ use Rattle.std.proofs.lemmas.Int.{to_z-of_z}
 use Rattle.std.proofs.lemmas.List.{get_or_default}
 use Rattle.rg_integers.specs.Sum.{number_at}
 use Rattle.rg_integers.proofs.Casts.{back}
-use Rattle.rg_feasible.proofs.Shown.{negated}
+use Rattle.rg_integers.proofs.Ranges.{negated}
 use Rattle.rg_revised.specs.View.{RevisedState}
 use Rattle.rg_revised.specs.Settling.{IsRefutedAt}
 use Rattle.rg_revised.proofs.Multipliers.{divides_d, divides_number, failing_row, slot_row, other_row, same_row}

@@ -4,7 +4,7 @@ use Rattle.std.specs.Int.{w64}
 use Rattle.std.proofs.lemmas.Int.{to_z-of_z}
 use Rattle.rg_integers.proofs.Casts.{back}
 use Rattle.rg_linear.specs.View.{linear_row}
-use Rattle.rg_feasible.specs.Settling.{with_rows}
+use Rattle.rg_linear.specs.System.{with_rows}
 use Rattle.rg_revised.specs.Basis.{HasNorms}
 use Rattle.rg_revised.specs.State.{HasRoom}
 use Rattle.rg_revised.specs.declared.descent.Descent.TheVariants.{Refuted}

@@ -4,7 +4,7 @@ use Rattle.std.specs.Int.{w64}
 use Rattle.std.proofs.lemmas.Int.{to_z-of_z}
 use Rattle.std.proofs.lemmas.Result.{IfOk-weaker}
 use Rattle.rg_linear.specs.Table.{ShowsRow}
-use Rattle.rg_dictionary.proofs.TableRows.{part_is}
+use Rattle.rg_linear.proofs.TableRows.{part_is}
 use Rattle.rg_revised.specs.Walk.{WalkState, IsWalkOf}
 use Rattle.rg_revised.proofs.Walking.{column_shown}
 use Rattle.rg_revised.proofs.walk.RevisedWalk.numbers.Goals as goal
