@@ -5,8 +5,7 @@ ghost use Rattle.rg_outcome.specs.Blocks.{IsBlock, last_of};
 ghost use Rattle.rg_outcome.specs.Coming.{IsDone};
 ghost use Rattle.rg_marks.specs.Separated.{AreSome};
 ghost use Rattle.rg_blocks.specs.Blocks.{most_in_block};
-ghost use Rattle.rg_blocks.specs.Taking.{IsSolvedBy, problems_of};
-ghost use Rattle.rg_blocks.specs.Searching.{CanSearch, IsSearching};
+ghost use Rattle.rg_blocks.specs.Taking.{IsSolvedBy, AreNotable, problems_of};
 
 use crate::keeping::Keeping;
 use crate::left::next_problem;
@@ -94,7 +93,7 @@ where
 
     ghost holds = { λ s part. AreSome s.search.now.lts.now part.separated × (S.serves s.search.now.solving.now s.workspace.now → S.serves s.search.now.solving.now part.workspace) };
 
-    ghost asks = { λ s i. (i < length s.problems.now) × All (IsProblem s.search.now.lts.now) s.problems.now × CanSearch s.search.now S.asks S.comes S.makes K.may_keep × K.keeps_for s.kept.now s.search.now.lts.now × S.serves s.search.now.solving.now s.workspace.now };
+    ghost asks = { λ s i. (i < length s.problems.now) × All (IsProblem s.search.now.lts.now) s.problems.now × All (S.asks s.search.now.solving.now) s.problems.now × AreNotable s.search.now.lts.now (S.makes s.search.now.solving.now) × K.keeps_for s.kept.now s.search.now.lts.now × S.serves s.search.now.solving.now s.workspace.now };
 
     ghost answers = { λ s i v. (slice_get s.problems.now i ≡ Some v.problem) × IsSolvedBy (S.comes s.search.now.solving.now) (S.makes s.search.now.solving.now) v };
 
@@ -151,9 +150,12 @@ where
     S::Workspace: Send + Sync + Drop,
     S::Proof: Send + Sync + Drop,
     requires few { length problems.now ≤ most_in_block }
-    requires can { CanSearch search.now S.asks S.comes S.makes K.may_keep }
-    requires searching { IsSearching search.now K.keeps_for S.serves S.proves progress.now }
+    requires some { 1 ≤ search.now.jobs }
+    requires kept { K.keeps_for progress.now.kept search.now.lts.now }
     requires problems { All (IsProblem search.now.lts.now) problems.now }
+    requires asked { All (S.asks search.now.solving.now) problems.now }
+    requires notable { AreNotable search.now.lts.now (S.makes search.now.solving.now) }
+    requires serves { S.serves search.now.solving.now progress.now.workspace }
     ensures solved { IfOk result (λ v. All (IsSolvedBy (S.comes search.now.solving.now) (S.makes search.now.solving.now)) v.items) }
     ensures same { IfOk result (λ v. problems_of v.items ≡ problems.now) }
 {

@@ -1,5 +1,5 @@
 //! All problems.
-ghost use Rattle.std.specs.Prelude.{◌≡◌, ◌≤◌, [], All, IfOk, OnOk, None, length};
+ghost use Rattle.std.specs.Prelude.{◌≡◌, ◌≤◌, [], All, IfOk, IfSome, OnOk, None, length};
 ghost use Rattle.rg_theory.specs.Problem.{IsProblem};
 ghost use Rattle.rg_outcome.specs.Coming.{IsSound};
 ghost use Rattle.rg_blocks.specs.Blocks.{most_in_block};
@@ -45,6 +45,7 @@ where
     requires searching { IsSearching search.now K.keeps_for S.serves S.proves progress.old }
     requires problems { All (IsProblem search.now.lts.now) problems.now }
     ensures searching { OnOk result (IsSearching search.now K.keeps_for S.serves S.proves progress.new) }
+    ensures proves { IfSome progress.new.proof (λ p. S.proves search.now.solving.now p.0 p.1) }
     ensures taken { IfOk result (λ end. IsTakenOver search.now.lts.now (S.comes search.now.solving.now) (K.places progress.old.kept) problems.now (K.places progress.new.kept) end) }
 {
     if search.jobs == 1 {
@@ -77,6 +78,7 @@ where
     requires searching { IsSearching search.now K.keeps_for S.serves S.proves progress.old }
     requires sound { IsSound search.now.lts.now (S.comes search.now.solving.now) None (K.places progress.old.kept) }
     ensures searching { OnOk result (IsSearching search.now K.keeps_for S.serves S.proves progress.new) }
+    ensures proves { IfSome progress.new.proof (λ p. S.proves search.now.solving.now p.0 p.1) }
     ensures ends { IfOk result (λ end. EndsAll search.now.lts.now (S.comes search.now.solving.now) (K.places progress.old.kept) (K.places progress.new.kept) end) }
 {
     let mut last = None;
@@ -111,6 +113,7 @@ where
     requires searching { IsSearching search.now K.keeps_for S.serves S.proves progress.old }
     requires empty { K.places progress.old.kept ≡ [] }
     ensures searching { OnOk result (IsSearching search.now K.keeps_for S.serves S.proves progress.new) }
+    ensures proves { IfSome progress.new.proof (λ p. S.proves search.now.solving.now p.0 p.1) }
     ensures comes { IfOk result (IsSeparationOutcome search.now.lts.now (S.comes search.now.solving.now) (K.places progress.new.kept)) }
 {
     match solve_all(rt, search, progress)? {

@@ -1,10 +1,10 @@
 //! How the outcomes of the problems of a block are taken over.
-ghost use Rattle.std.specs.Prelude.{◌≡◌, ◌≤◌, [], ◌∷◌, All, IfOk, OnOk, length};
+ghost use Rattle.std.specs.Prelude.{◌≡◌, ◌≤◌, [], ◌∷◌, All, IfOk, IfSome, OnOk, length};
 ghost use Rattle.rg_theory.specs.Problem.{IsProblem};
 ghost use Rattle.rg_outcome.specs.Coming.{IsSeparated};
 ghost use Rattle.rg_blocks.specs.Blocks.{most_in_block};
-ghost use Rattle.rg_blocks.specs.Taking.{IsOutcome, IsSolvedBy, problems_of, IsTakenOver, IsBegun};
-ghost use Rattle.rg_blocks.specs.Searching.{CanSearch, IsSearching};
+ghost use Rattle.rg_blocks.specs.Taking.{IsOutcome, IsSolvedBy, AreKeepable, problems_of, IsTakenOver, IsBegun};
+ghost use Rattle.rg_blocks.specs.Searching.{IsSearching};
 
 use crate::keeping::Keeping;
 use crate::search::{Progress, Search};
@@ -23,12 +23,12 @@ fn outcome_of<K: Keeping, S: Solving, G>(
     progress: &mut Progress<K, S::Workspace, S::Proof>,
     solved: SolvedProblem,
 ) -> Result<ProblemOutcome, NoMemory>
-    requires can { CanSearch search.now S.asks S.comes S.makes K.may_keep }
+    requires asked { S.asks search.now.solving.now solved.problem }
     requires searching { IsSearching search.now K.keeps_for S.serves S.proves progress.old }
-    requires problem { IsProblem search.now.lts.now solved.problem }
     requires solved { IsSolvedBy (S.comes search.now.solving.now) (S.makes search.now.solving.now) solved }
     ensures outcome { IfOk result (IsOutcome (S.comes search.now.solving.now) (S.makes search.now.solving.now) solved.problem) }
     ensures searching { OnOk result (IsSearching search.now K.keeps_for S.serves S.proves progress.new) }
+    ensures proves { IfSome progress.new.proof (λ p. S.proves search.now.solving.now p.0 p.1) }
     ensures same { progress.new.kept ≡ progress.old.kept }
 {
     match solved.outcome {
@@ -43,12 +43,14 @@ fn take_left<K: Keeping, S: Solving, G>(
     progress: &mut Progress<K, S::Workspace, S::Proof>,
     solved: SolvedProblem,
 ) -> Result<Option<Problem>, NoMemory>
-    requires can { CanSearch search.now S.asks S.comes S.makes K.may_keep }
+    requires keepable { AreKeepable (S.makes search.now.solving.now) (K.may_keep search.now.lts.now) }
+    requires asked { S.asks search.now.solving.now solved.problem }
     requires searching { IsSearching search.now K.keeps_for S.serves S.proves progress.old }
     requires problem { IsProblem search.now.lts.now solved.problem }
     requires solved { IsSolvedBy (S.comes search.now.solving.now) (S.makes search.now.solving.now) solved }
     requires left { ¬ IsSeparated search.now.lts.now (K.places progress.old.kept) solved.problem }
     ensures searching { OnOk result (IsSearching search.now K.keeps_for S.serves S.proves progress.new) }
+    ensures proves { IfSome progress.new.proof (λ p. S.proves search.now.solving.now p.0 p.1) }
     ensures taken { IfOk result (λ end. IsTakenOver search.now.lts.now (S.comes search.now.solving.now) (K.places progress.old.kept) (solved.problem ∷ []) (K.places progress.new.kept) end) }
 {
     let problem = solved.problem;
@@ -68,11 +70,13 @@ fn take<K: Keeping, S: Solving, G>(
     progress: &mut Progress<K, S::Workspace, S::Proof>,
     solved: SolvedProblem,
 ) -> Result<Option<Problem>, NoMemory>
-    requires can { CanSearch search.now S.asks S.comes S.makes K.may_keep }
+    requires keepable { AreKeepable (S.makes search.now.solving.now) (K.may_keep search.now.lts.now) }
+    requires asked { S.asks search.now.solving.now solved.problem }
     requires searching { IsSearching search.now K.keeps_for S.serves S.proves progress.old }
     requires problem { IsProblem search.now.lts.now solved.problem }
     requires solved { IsSolvedBy (S.comes search.now.solving.now) (S.makes search.now.solving.now) solved }
     ensures searching { OnOk result (IsSearching search.now K.keeps_for S.serves S.proves progress.new) }
+    ensures proves { IfSome progress.new.proof (λ p. S.proves search.now.solving.now p.0 p.1) }
     ensures taken { IfOk result (λ end. IsTakenOver search.now.lts.now (S.comes search.now.solving.now) (K.places progress.old.kept) (solved.problem ∷ []) (K.places progress.new.kept) end) }
 {
     if progress.kept.separates(search.lts, solved.problem) {
@@ -91,11 +95,13 @@ pub fn take_over<K: Keeping, S: Solving, G>(
     progress: &mut Progress<K, S::Workspace, S::Proof>,
     solved: Vec<SolvedProblem>,
 ) -> Result<Option<Problem>, NoMemory>
-    requires can { CanSearch search.now S.asks S.comes S.makes K.may_keep }
+    requires keepable { AreKeepable (S.makes search.now.solving.now) (K.may_keep search.now.lts.now) }
+    requires asked { All (λ s. S.asks search.now.solving.now s.problem) solved.items }
     requires searching { IsSearching search.now K.keeps_for S.serves S.proves progress.old }
     requires problems { All (λ s. IsProblem search.now.lts.now s.problem) solved.items }
     requires solved { All (IsSolvedBy (S.comes search.now.solving.now) (S.makes search.now.solving.now)) solved.items }
     ensures searching { OnOk result (IsSearching search.now K.keeps_for S.serves S.proves progress.new) }
+    ensures proves { IfSome progress.new.proof (λ p. S.proves search.now.solving.now p.0 p.1) }
     ensures taken { IfOk result (λ end. IsTakenOver search.now.lts.now (S.comes search.now.solving.now) (K.places progress.old.kept) (problems_of solved.items) (K.places progress.new.kept) end) }
 {
     for s in solved {
@@ -132,10 +138,12 @@ pub fn begin_in_turn<K: Keeping, S: Solving, G>(
     progress: &mut Progress<K, S::Workspace, S::Proof>,
     problems: &[Problem],
 ) -> Result<Begun, NoMemory>
-    requires can { CanSearch search.now S.asks S.comes S.makes K.may_keep }
+    requires keepable { AreKeepable (S.makes search.now.solving.now) (K.may_keep search.now.lts.now) }
+    requires asked { All (S.asks search.now.solving.now) problems.now }
     requires searching { IsSearching search.now K.keeps_for S.serves S.proves progress.old }
     requires problems { All (IsProblem search.now.lts.now) problems.now }
     ensures searching { OnOk result (IsSearching search.now K.keeps_for S.serves S.proves progress.new) }
+    ensures proves { IfSome progress.new.proof (λ p. S.proves search.now.solving.now p.0 p.1) }
     ensures begun { IfOk result (IsBegun search.now.lts.now (S.comes search.now.solving.now) (K.places progress.old.kept) problems.now (K.places progress.new.kept)) }
 {
     let in_turn = problems.len() / ONE_IN_TURN_OF;
@@ -178,10 +186,12 @@ pub fn solve_in_turn<K: Keeping, S: Solving, G: Gate>(
     problems: &[Problem],
 ) -> Result<Option<Problem>, NoMemory>
     requires few { length problems.now ≤ most_in_block }
-    requires can { CanSearch search.now S.asks S.comes S.makes K.may_keep }
+    requires keepable { AreKeepable (S.makes search.now.solving.now) (K.may_keep search.now.lts.now) }
+    requires asked { All (S.asks search.now.solving.now) problems.now }
     requires searching { IsSearching search.now K.keeps_for S.serves S.proves progress.old }
     requires problems { All (IsProblem search.now.lts.now) problems.now }
     ensures searching { OnOk result (IsSearching search.now K.keeps_for S.serves S.proves progress.new) }
+    ensures proves { IfSome progress.new.proof (λ p. S.proves search.now.solving.now p.0 p.1) }
     ensures taken { IfOk result (λ end. IsTakenOver search.now.lts.now (S.comes search.now.solving.now) (K.places progress.old.kept) problems.now (K.places progress.new.kept) end) }
 {
     for (i, &problem) in problems.iter().enumerate() {

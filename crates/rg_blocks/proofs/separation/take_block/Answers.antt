@@ -10,6 +10,13 @@ take_over-requires-clause-problems g c =
     others_have (λ s. IsProblem c.args.search.now.lts.now s.problem) c.in_ok-solved-in-First.solved.items c.in_ok-others-in-First.others.items c.in-First.taken c.in_ok-others-in-First.ensures.tail
     (of_solved (IsProblem c.args.search.now.lts.now) c.in_ok-solved-in-First.solved.items (subst (λ xs. All (IsProblem c.args.search.now.lts.now) xs) (sym c.in_ok-solved-in-First.ensures.same) c.requires.problems))
 
+pub take_over-requires-clause-asked : goal.take_over-requires-clause-asked
+take_over-requires-clause-asked g c =
+    let asks = g.S.Solving.asks c.args.search.now.solving.now in
+    others_have (λ s. asks s.problem) c.in_ok-solved-in-First.solved.items c.in_ok-others-in-First.others.items c.in-First.taken c.in_ok-others-in-First.ensures.tail
+    (of_solved asks c.in_ok-solved-in-First.solved.items
+    (subst (λ xs. All asks xs) (sym c.in_ok-solved-in-First.ensures.same) (λ i d lt. c.requires.can.asked _ (c.requires.problems i d lt))))
+
 pub take_over-requires-clause-solved : goal.take_over-requires-clause-solved
 take_over-requires-clause-solved g c =
     others_have (IsSolvedBy (g.S.Solving.comes c.args.search.now.solving.now) (g.S.Solving.makes c.args.search.now.solving.now)) c.in_ok-solved-in-First.solved.items c.in_ok-others-in-First.others.items c.in-First.taken c.in_ok-others-in-First.ensures.tail c.in_ok-solved-in-First.ensures.solved
