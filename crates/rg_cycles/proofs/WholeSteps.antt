@@ -1,13 +1,14 @@
 -- Steps of the sum for a free label in whole numbers.
-use Rattle.std.proofs.Common.{◌≡◌, ◌≢◌, ◌⊎◌, inl, inr, ℕ, suc, ◌+◌, ◌<◌, ◌≤◌, List, [], ◌∷◌, ◌++◌, map, length, take, drop, Option, None, Some, Result, Ok, ap, refl, subst, sym, ◌∙◌, arith}
-use Rattle.std.specs.Prelude.{ℤ, pos, neg_ℤ, ◌+ℤ◌, ◌-ℤ◌, ◌*ℤ◌, unsigned_abs, int_div, slice_index, slice_set, FitsSigned, SomeIff, IfSome}
+use Rattle.std.proofs.Common.{◌≡◌, ◌≢◌, ◌⊎◌, inl, inr, ℕ, suc, ◌+◌, ◌<◌, ◌≤◌, List, [], ◌∷◌, ◌++◌, map, length, take, drop, Option, None, Some, Result, Ok, ap, refl, subst, sym, add-one, ◌∙◌, arith}
+use Rattle.std.specs.Prelude.{ℤ, pos, neg_ℤ, ◌+ℤ◌, ◌-ℤ◌, ◌*ℤ◌, unsigned_abs, int_div, slice_index, slice_set, FitsSigned, SomeIff, IfSome, IfNone}
 use Rattle.std.specs.Int.{w64}
 use Rattle.std.proofs.Math.Nat.{eq-or-lt_of_le}
-use Rattle.std.proofs.lemmas.List.{drop_all, take_all, append-nil, length-set, get_or-set_same, get_or-set_other}
+use Rattle.std.proofs.lemmas.List.{drop_all, take_all, append-nil, length-set, get_or-set_same, get_or-set_other, get_or-map}
 use Rattle.std.proofs.lemmas.Int.{ints}
 use Rattle.rg_integers.specs.Range.{InRange}
-use Rattle.rg_integers.specs.Sum.{number_at}
+use Rattle.rg_integers.specs.Sum.{number_at, sum_below}
 use Rattle.rg_integers.specs.Term.{FitsTerm}
+use Rattle.rg_integers.proofs.Short.{short_in_range}
 use Rattle.rg_integers.specs.Divisor.{int_gcd}
 use Rattle.rg_integers.specs.declared.term.Wide.{Wide}
 use Rattle.rg_fraction.specs.Terms.{product_term, product_top, product_bottom, sum_top, sum_bottom}
@@ -17,8 +18,8 @@ use Rattle.rg_case_folds.specs.Rewriting.{free_labels, dependent_term}
 use Rattle.rg_cycles.specs.declared.basis.Basis.{Basis}
 use Rattle.rg_cycles.specs.declared.relation.Relation.{Relation}
 use Rattle.rg_cycles.specs.Basis.{ShowsRelation}
-use Rattle.rg_cycles.specs.View.{labels_of, cycle_of}
-use Rattle.rg_cycles.specs.WholeSums.{IsWholeStep}
+use Rattle.rg_cycles.specs.View.{labels_of, cycle_of, counted_labels}
+use Rattle.rg_cycles.specs.WholeSums.{IsWholeStep, StaysShort, LabelIsShort, AreShort, numbers_of_label, sum_after}
 use Rattle.rg_cycles.proofs.Folding.{stepped}
 
 -- ---- whole numbers as ratios
@@ -110,9 +111,6 @@ each_of_all make (a ∷ items) show (z ∷ numbers) same made =
 
 -- ---- numbers of 64 bits
 
-pub short_in_range : (z : ℤ) → FitsSigned w64 z → InRange z
-short_in_range z f = omega (arith, ints)
-
 -- the sum and the product, where both fit
 pub step_of_words : (count number sum given product : ℤ) (r : Option ℤ) → given ≡ number → FitsSigned w64 sum → FitsSigned w64 (count *ℤ given) → product ≡ count *ℤ given
     → SomeIff r (FitsSigned w64 (sum +ℤ product)) (sum +ℤ product) → IfSome r (IsWholeStep count number sum)
@@ -182,3 +180,59 @@ zero_step count number sum none in_range = subst (λ n. IsWholeStep count n sum 
       where
         none_of : (count : ℤ) → count *ℤ pos 0 ≡ pos 0
         none_of count = omega (arith, ints)
+
+-- ---- the sums of the labels before one
+
+-- one more label adds its count times its number
+pub sum_more : (basis : Basis) (counts : ℕ → ℤ) (labels : List ℕ) (k n : ℕ)
+    → sum_after basis counts labels (k + 1) n ≡ sum_after basis counts labels k n +ℤ (counts (slice_index labels k) *ℤ numbers_of_label basis (slice_index labels k) n)
+sum_more basis counts labels k n =
+    subst (λ m. sum_after basis counts labels m n ≡ sum_after basis counts labels k n +ℤ (counts (slice_index labels k) *ℤ numbers_of_label basis (slice_index labels k) n)) (sym (add-one k))
+    (joined (counts (slice_index (free_labels (labels_of basis) (cycle_of basis)) n)) (sum_below k (λ i. counts (slice_index labels i) *ℤ numbers_of_label basis (slice_index labels i) n))
+    (counts (slice_index labels k) *ℤ numbers_of_label basis (slice_index labels k) n))
+  where
+    joined : (a s x : ℤ) → a +ℤ (s +ℤ x) ≡ (a +ℤ s) +ℤ x
+    joined a s x = omega (arith, ints)
+
+-- before any label the sum is the count
+pub sum_none : (basis : Basis) (counts : ℕ → ℤ) (labels : List ℕ) (n : ℕ)
+    → counts (slice_index (free_labels (labels_of basis) (cycle_of basis)) n) ≡ sum_after basis counts labels 0 n
+sum_none basis counts labels n = alone (counts (slice_index (free_labels (labels_of basis) (cycle_of basis)) n))
+  where
+    alone : (a : ℤ) → a ≡ a +ℤ pos 0
+    alone a = omega (arith, ints)
+
+-- at label k the sums are those after the labels before it
+pub label_is_short : (basis : Basis) (counts : ℕ → ℤ) (others : List ℕ) (k : ℕ) (sums : List ℤ) → others ≡ counted_labels basis counts → AreShort basis counts → k < length others
+    → length sums ≡ length (free_labels (labels_of basis) (cycle_of basis)) → ((n : ℕ) → n < length sums → number_at sums n ≡ sum_after basis counts others k n)
+    → LabelIsShort basis counts (slice_index others k) sums
+label_is_short basis counts others k sums all short lt same is = subst (λ l. LabelIsShort basis counts (slice_index l k) sums) (sym all) (record {
+  count = short.count k here;
+  whole = short.whole k here;
+  terms = λ n below. subst (StaysShort (counts (slice_index (counted_labels basis counts) k)) (numbers_of_label basis (slice_index (counted_labels basis counts) k) n)) (sym (at n below))
+      (short.terms k n here (subst (λ m. n < m) same below));
+})
+  where
+    here : k < length (counted_labels basis counts)
+    here = subst (λ l. k < length l) all lt
+
+    at : (n : ℕ) → n < length sums → number_at sums n ≡ sum_after basis counts (counted_labels basis counts) k n
+    at n below = is n below ∙ ap (λ l. sum_after basis counts l k n) all
+
+-- the numbers of a relation are those of its label
+pub label_numbers : (basis : Basis) (t n : ℕ) (rel : Relation) → ShowsRelation (labels_of basis) (cycle_of basis) t rel → n < length (free_labels (labels_of basis) (cycle_of basis))
+    → number_at rel.free.items n ≡ numbers_of_label basis t n
+label_numbers basis t n rel shows lt =
+    ap (λ l. number_at l n) shows.free ∙ get_or-map ((cycle_of basis).relation t).coefficient (free_labels (labels_of basis) (cycle_of basis)) n 0 (pos 0) lt
+
+-- what a checked step doesn't return doesn't fit
+pub none_fits : {P Q : Type 0} (r : Option ℤ) (v : ℤ) → SomeIff r P v → (Q → P) → IfNone r (¬ Q)
+none_fits None v is fits = λ q. is (fits q)
+none_fits (Some z) v is fits = tt
+
+-- the same count and number have the same step
+pub short_as : {count k number m : ℤ} (sum : ℤ) → count ≡ k → number ≡ m → StaysShort k m sum → StaysShort count number sum
+short_as {count} {k} {number} {m} sum e f short = subst (λ c. StaysShort c number sum) (sym e) (subst (λ n. StaysShort k n sum) (sym f) short)
+
+pub step_as : {count k number m next : ℤ} (sum : ℤ) → count ≡ k → number ≡ m → next ≡ sum +ℤ (count *ℤ number) → next ≡ sum +ℤ (k *ℤ m)
+step_as {count} {k} {number} {m} sum e f is = is ∙ ap (λ x. sum +ℤ x) (ap (λ c. c *ℤ number) e ∙ ap (λ n. k *ℤ n) f)

@@ -2,7 +2,6 @@
 use Rattle.std.specs.Prelude.{◌≡◌, ℕ, ◌<◌, List, Contains, Some, slice_get}
 use Rattle.rg_theory.specs.System.{System}
 use Rattle.rg_checks.specs.Flaws.{IsFlawless}
-pub use Rattle.rg_checks.specs.Flaws.{IsFlawless as IsJudged}
 use Rattle.rg_lts.specs.WellFormed.{IsWellFormed}
 use Rattle.rg_iso.specs.Isomorphic.{HaveSameLabels, IsIsomorphismTo}
 use Rattle.rg_iso.specs.Words.{Difference, Difference.step as by_step, Difference.target as by_target, IsFirstDifference}

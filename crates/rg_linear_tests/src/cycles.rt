@@ -1,9 +1,9 @@
 //! Small bases worked by hand, and the walk at the limit of the range.
-ghost use Rattle.std.specs.Prelude.{◌≡◌, ◌<◌, IfSome, IfOk};
+ghost use Rattle.std.specs.Prelude.{◌≡◌, ◌<◌, All, IfSome, IfOk};
 ghost use Rattle.rg_integers.specs.Range.{InRange};
 ghost use Rattle.rg_cycles.specs.View.{labels_of};
 
-use rg_cycles::{Basis, CycleWide, FreeRow, Stop, dependent, substitute};
+use rg_cycles::{Basis, CycleWide, FreeRow, Stop, dependent, substitute, whole_sums};
 use rg_fraction::{FoldStop, Fraction};
 use rg_integers::Wide;
 use rg_test_bases::solved;
@@ -267,5 +267,50 @@ fn sums_of_whole_numbers_are_whole_at_any_size(rt: HostRuntime) -> Result<(), Fa
     let alloc = rt.alloc();
     let basis = basis(alloc, 2, &[[1, -1]]).ok_or("a basis")?;
     assert!(rt; are_whole(alloc, &basis));
+    Ok(())
+}
+
+// Whether the sum in whole numbers of the labels, counted so, is this one.
+fn is_sum(alloc: Global, basis: &Basis, counts: &[i128; 2], sum: Option<i128>) -> bool
+    requires labels { labels_of basis.now ≡ 2 }
+    requires in_range { All InRange counts.now }
+{
+    match whole_sums(alloc, basis, counts) {
+        Ok(Some(sums)) => sums.len() == 1 && Some(sums[0]) == sum,
+        Ok(None) => sum.is_none(),
+        Err(_) => false,
+    }
+}
+
+// Whether the sums of 64 bits are written, and no others.
+fn are_short(alloc: Global, basis: &Basis) -> bool
+    requires { labels_of basis.now ≡ 2 }
+{
+    is_sum(alloc, basis, &[3, 1], Some(4))
+        && is_sum(alloc, basis, &[LONG, 0], Some(LONG))
+        && is_sum(alloc, basis, &[1, LONG], None)
+        && is_sum(alloc, basis, &[HALF, 1], None)
+}
+
+#[test]
+fn whole_sums_have_numbers_of_64_bits(rt: HostRuntime) -> Result<(), Fail> {
+    let alloc = rt.alloc();
+    let basis = basis(alloc, 2, &[[1, -1]]).ok_or("a basis")?;
+    assert!(rt; are_short(alloc, &basis));
+    Ok(())
+}
+
+// Whether no sum of halves is written, and the sum of a label that doesn't follow from others is.
+fn halves_are_left(alloc: Global, basis: &Basis) -> bool
+    requires { labels_of basis.now ≡ 2 }
+{
+    is_sum(alloc, basis, &[3, 1], None) && is_sum(alloc, basis, &[0, 1], Some(1))
+}
+
+#[test]
+fn whole_sums_have_no_halves(rt: HostRuntime) -> Result<(), Fail> {
+    let alloc = rt.alloc();
+    let basis = basis(alloc, 2, &[[2, -1]]).ok_or("a basis")?;
+    assert!(rt; halves_are_left(alloc, &basis));
     Ok(())
 }

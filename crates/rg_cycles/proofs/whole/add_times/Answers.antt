@@ -14,7 +14,6 @@ loop-index-preserved c =
     let s = to_z-of_z w64 (number_at c.loop-index.sums c.loop-index.index) fits in
     let n = back (number_at c.args.numbers.now c.loop-index.index) (c.requires.in_range c.loop-index.index) in
     let z = to_z-of_z w64 c.in-Some.sum next in
-    let told = c.in-Some.ensures {u = tt} in
-    let step = rw (s, n) at told in
+    let step = rw (s, n) at c.in-Some.ensures.some in
     let lt : c.loop-index.index < length c.loop-index.sums = subst (λ m. c.loop-index.index < m) (sym (c.loop-index.auto.sums ∙ c.requires.one_each)) c.loop-index-test.true in
     rw z (adds_next _ c.args.numbers.now c.args.sums.now c.loop-index.sums c.loop-index.index c.in-Some.sum c.loop-index.invariant lt step)

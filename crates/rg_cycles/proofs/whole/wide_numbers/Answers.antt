@@ -7,7 +7,7 @@ use Rattle.std.proofs.Math.Seq.{take-suc}
 use Rattle.rg_integers.specs.Range.{InRange}
 use Rattle.rg_integers.specs.Sum.{number_at}
 use Rattle.rg_integers.proofs.Casts.{back}
-use Rattle.rg_cycles.proofs.WholeSteps.{short_in_range}
+use Rattle.rg_integers.proofs.Short.{short_in_range}
 use Rattle.rg_cycles.proofs.whole.wide_numbers.Goals as goal
 
 pub loop-number-preserved : goal.loop-number-preserved
