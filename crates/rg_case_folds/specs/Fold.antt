@@ -22,6 +22,11 @@ abbrev pub and_then : {X Y : Type 0} → (Result X Wide → Type 0) → (X → R
 and_then {X} first next (Ok y) = (x : X) × first (Ok x) × next x (Ok y)
 and_then {X} first next (Err w) = first (Err w) ⊎ ((x : X) × first (Ok x) × next x (Err w))
 
+-- the same, so that several computations in a row are a `do` block
+infixl 10 ◌>>=◌
+abbrev pub ◌>>=◌ : {X Y : Type 0} → (Result X Wide → Type 0) → (X → Result Y Wide → Type 0) → Result Y Wide → Type 0
+first >>= next = and_then first next
+
 -- the one computation or the other
 abbrev pub either : {X : Type 0} → Bool → (Result X Wide → Type 0) → (Result X Wide → Type 0) → Result X Wide → Type 0
 either true first second = first
@@ -47,17 +52,25 @@ Comes fold view (Err stop.NoMemory) = Unit {0}
 -- the values of the items, made in order
 abbrev pub each : {A X : Type 0} → (A → Result X Wide → Type 0) → List A → Result (List X) Wide → Type 0
 each make [] = gives []
-each make (a ∷ rest) = and_then (make a) (λ x. and_then (each make rest) (λ xs. gives (x ∷ xs)))
+each make (a ∷ rest) = do
+  x ← make a
+  xs ← each make rest
+  gives (x ∷ xs)
 
 -- a number to which further ones are joined, each made and then joined
 abbrev pub further : {A X : Type 0} → (X → X → Result X Wide → Type 0) → (A → Result X Wide → Type 0) → X → List A → Result X Wide → Type 0
 further join make sum [] = gives sum
-further join make sum (a ∷ rest) = and_then (make a) (λ x. and_then (join sum x) (λ more. further join make more rest))
+further join make sum (a ∷ rest) = do
+  x ← make a
+  more ← join sum x
+  further join make more rest
 
 -- the same, which begins with its first term; `none` where there is no term
 abbrev pub joined : {A X : Type 0} → (X → X → Result X Wide → Type 0) → (A → Result X Wide → Type 0) → X → List A → Result X Wide → Type 0
 joined join make none [] = gives none
-joined join make none (a ∷ rest) = and_then (make a) (λ x. further join make x rest)
+joined join make none (a ∷ rest) = do
+  x ← make a
+  further join make x rest
 
 -- ---- steps
 

@@ -13,7 +13,7 @@ use Rattle.rg_integers.specs.Value.{SameValue}
 use Rattle.rg_integers.specs.declared.term.Wide.{Wide}
 use Rattle.rg_linear.specs.Branching.{form_at}
 use Rattle.rg_linear.specs.Cycle.{CycleBasis}
-use Rattle.rg_case_folds.specs.Fold.{and_then, each, Ratio, whole}
+use Rattle.rg_case_folds.specs.Fold.{◌>>=◌, each, Ratio, whole}
 use Rattle.rg_case_folds.specs.Setting.{Setting}
 use Rattle.rg_case_folds.specs.Rewriting.{free_columns, all_numbers, has_start, CaseSystem}
 use Rattle.rg_case_folds.specs.Values.{column_values}
@@ -50,11 +50,11 @@ AreFormsWhole s case first effect scale = (f : ℕ) → f < length case.forms �
 
 -- the numbers of the states that Start and the values of the free labels make on the way to a place
 abbrev pub numbers_fold : Setting → Problem → Ratio → (ℕ → Ratio) → Result (List Ratio) Wide → Type 0
-numbers_fold s problem start value =
-    and_then (each (effect_fold s.lts s.basis value) (all_numbers (labels s.lts)))
-    (λ effects. and_then (made_whole s.class (effects ++ start ∷ []))
-    (λ found. and_then (along_tree (ratio_at found) (λ q. ratio_at found (labels s.lts)) s.tree)
-    (λ number. shift_fold s.lts s.class problem (map number (all_numbers (states s.lts))))))
+numbers_fold s problem start value = do
+  effects ← each (effect_fold s.lts s.basis value) (all_numbers (labels s.lts))
+  found ← made_whole s.class (effects ++ start ∷ [])
+  number ← along_tree (ratio_at found) (λ q. ratio_at found (labels s.lts)) s.tree
+  shift_fold s.lts s.class problem (map number (all_numbers (states s.lts)))
 
 -- the tokens of the states by these numbers
 abbrev pub tokens_of : List Ratio → ℕ → ℕ

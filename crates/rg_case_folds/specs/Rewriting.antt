@@ -15,7 +15,7 @@ use Rattle.rg_linear.specs.System.{LinearRow, LinearSystem}
 use Rattle.rg_linear.specs.Branching.{Form}
 use Rattle.rg_integers.specs.declared.term.Wide.{Wide}
 use Rattle.rg_fraction.specs.Rows.{IsRowGcd}
-use Rattle.rg_case_folds.specs.Fold.{gives, and_then, each, further, Ratio, whole, IsRatio, quotient, add, mul, multiple_of_all}
+use Rattle.rg_case_folds.specs.Fold.{gives, ◌>>=◌, each, further, Ratio, whole, IsRatio, quotient, add, mul, multiple_of_all}
 use Rattle.rg_theory.specs.Tree.{parikh}
 use Rattle.rg_linear.specs.Cycle.{CycleBasis, IsZeroVector}
 use Rattle.rg_linear.specs.Firsts.{KeepsEqualRows}
@@ -82,7 +82,9 @@ count_of tree (t ∷ terms) u = (t.coefficient *ℤ variable_count tree t.variab
 
 -- what the dependent label t adds to the coefficient of the free label f: its count, times the number of f in its relation
 abbrev pub dependent_term : CycleBasis → (ℕ → ℤ) → ℕ → ℕ → Result Ratio Wide → Type 0
-dependent_term basis counts f t = and_then (quotient ((basis.relation t).coefficient f) (basis.relation t).d) (λ k. mul (whole (counts t)) k)
+dependent_term basis counts f t = do
+  k ← quotient ((basis.relation t).coefficient f) (basis.relation t).d
+  mul (whole (counts t)) k
 
 -- the coefficient of the free label f: its own count, and those of the dependent labels
 abbrev pub coefficient_fold : ℕ → CycleBasis → (ℕ → ℤ) → ℕ → Result Ratio Wide → Type 0
@@ -116,11 +118,16 @@ pub record Scaled : Type 0 where
 
 -- fractions, multiplied by the least common multiple of their denominators
 abbrev pub scaled_fold : List Ratio → Result Scaled Wide → Type 0
-scaled_fold numbers = and_then (multiple_of_all (map (λ r. r.bottom) numbers)) (λ m. and_then (each (λ r. mul r (whole m)) numbers) (λ products. gives (record { multiple = m; numbers = map (λ r. r.top) products })))
+scaled_fold numbers = do
+  m ← multiple_of_all (map (λ r. r.bottom) numbers)
+  products ← each (λ r. mul r (whole m)) numbers
+  gives (record { multiple = m; numbers = map (λ r. r.top) products })
 
 -- the expression over the columns, without denominators
 abbrev pub terms_fold : Setting → List Term → Result Scaled Wide → Type 0
-terms_fold s terms = and_then (substitute_fold (labels s.lts) s.basis (count_of s.tree terms)) (λ free. scaled_fold (columns_of s.lts s.basis s.class (start_of terms) free))
+terms_fold s terms = do
+  free ← substitute_fold (labels s.lts) s.basis (count_of s.tree terms)
+  scaled_fold (columns_of s.lts s.basis s.class (start_of terms) free)
 
 -- a row of the system: the named row that it is a multiple of, and the factor
 pub record KeptRow : Type 0 where
@@ -142,7 +149,10 @@ divided name scaled constant (Err w) = ⊥
 
 -- the named row over the columns
 abbrev pub row_fold : Setting → RowName → Expression → Result KeptRow Wide → Type 0
-row_fold s name e = and_then (terms_fold s e.terms) (λ scaled. and_then (mul (whole e.constant) (whole scaled.multiple)) (λ constant. divided name scaled constant.top))
+row_fold s name e = do
+  scaled ← terms_fold s e.terms
+  constant ← mul (whole e.constant) (whole scaled.multiple)
+  divided name scaled constant.top
 
 -- ---- the system of a case
 
@@ -196,8 +206,19 @@ form_high lts class (split_form.Tokens q) = pos (unwrap_or class.bound 0)
 form_high lts class (split_form.Effect t) = pos 1
 form_high lts class split_form.Start = pos (unwrap_or class.bound (states lts))
 
+-- the form over the columns: its variable in steps, and its bounds
+abbrev pub form_over : System → Class → SplitForm → Scaled → Form
+form_over lts class form scaled = record {
+  scale = pos (step_of class form) *ℤ scaled.multiple;
+  coeffs = scaled.numbers;
+  low = form_low form;
+  high = form_high lts class form;
+}
+
 abbrev pub form_fold : Setting → SplitForm → Result Form Wide → Type 0
-form_fold s form = and_then (terms_fold s (plus (form_variable s.lts.initial form) ∷ [])) (λ scaled. gives (record { scale = pos (step_of s.class form) *ℤ scaled.multiple; coeffs = scaled.numbers; low = form_low form; high = form_high s.lts s.class form }))
+form_fold s form = do
+  scaled ← terms_fold s (plus (form_variable s.lts.initial form) ∷ [])
+  gives (form_over s.lts s.class form scaled)
 
 -- the rows and forms of a case
 pub record CaseSystem : Type 0 where
@@ -212,8 +233,13 @@ abbrev pub kept_of : Setting → List KeptRow → List Form → Result CaseSyste
 kept_of s all forms (Ok case) = (case.columns ≡ column_count s.lts s.basis s.class) × KeepsEqualRows (λ k. k.row) IsIdle [] all case.kept × (case.forms ≡ forms)
 kept_of s all forms (Err w) = ⊥
 
+-- the named row of a case
+abbrev pub named_fold : CaseSetting → RowName → Result KeptRow Wide → Type 0
+named_fold s name = row_fold s.setting name (row_expression s.lts s.class s.problem s.number [] name)
+
 -- the system of a case of a problem
 abbrev pub system_fold : CaseSetting → Result CaseSystem Wide → Type 0
-system_fold s =
-    and_then (each (λ name. row_fold s.setting name (row_expression s.lts s.class s.problem s.number [] name)) (names_of s.lts s.class s.problem s.number))
-    (λ all. and_then (each (form_fold s.setting) (split_forms s.lts s.class s.problem)) (λ forms. kept_of s.setting all forms))
+system_fold s = do
+  all ← each (named_fold s) (names_of s.lts s.class s.problem s.number)
+  forms ← each (form_fold s.setting) (split_forms s.lts s.class s.problem)
+  kept_of s.setting all forms

@@ -12,7 +12,7 @@ use Rattle.rg_integers.specs.Sign.{size}
 use Rattle.rg_linear.specs.Branching.{Weight, Form, form_at, SplitSide}
 use Rattle.rg_integers.specs.declared.term.Wide.{Wide}
 use Rattle.rg_fraction.specs.Rows.{IsRowGcd}
-use Rattle.rg_case_folds.specs.Fold.{gives, and_then, each, joined, Ratio, whole, quotient, add, mul, whole_sum, whole_product}
+use Rattle.rg_case_folds.specs.Fold.{gives, ◌>>=◌, each, joined, Ratio, whole, quotient, add, mul, whole_sum, whole_product}
 use Rattle.rg_theory.specs.Tree.{same_arc}
 use Rattle.rg_linear.specs.Cycle.{CycleBasis}
 use Rattle.rg_case_folds.specs.Chords.{chord_at}
@@ -55,7 +55,9 @@ factor_of case form_sides above i =
     else split_factor (named_at above (i - length case.kept)).form (form_at case.forms (side_at form_sides (i - length case.kept)).form)
 
 abbrev pub share_fold : CaseSystem → List SplitSide → List Side → Weight → Result Share Wide → Type 0
-share_fold case form_sides above w = and_then (mul (whole w.multiplier) (factor_of case form_sides above w.row)) (λ m. gives (record { name = name_of case w.row; multiplier = m }))
+share_fold case form_sides above w = do
+  m ← mul (whole w.multiplier) (factor_of case form_sides above w.row)
+  gives (record { name = name_of case w.row; multiplier = m })
 
 -- ---- chords
 
@@ -70,16 +72,20 @@ pairs_of (r ∷ shares) ts = map (λ t. record { share = r; label = t }) ts ++ p
 
 -- what a pair gives the chord with variable c: the multiplier, times the count, times the chord's number in the label's relation
 abbrev pub pair_fold : List Arc → CycleBasis → (RowName → Expression) → ℕ → Pair → Result Ratio Wide → Type 0
-pair_fold tree basis expression c p =
-    and_then (mul p.share.multiplier (whole (count_of tree (expression p.share.name).terms p.label)))
-    (λ x. and_then (quotient ((basis.relation p.label).coefficient c) (basis.relation p.label).d) (λ k. mul x k))
+pair_fold tree basis expression c p = do
+  x ← mul p.share.multiplier (whole (count_of tree (expression p.share.name).terms p.label))
+  k ← quotient ((basis.relation p.label).coefficient c) (basis.relation p.label).d
+  mul x k
 
 -- the kept chords whose variables are members, by number
 abbrev pub used_chords : System → CycleBasis → List ℕ
 used_chords lts basis = numbers_where (λ c. is_in basis.members (labels lts + c)) 0 (length basis.kept)
 
+-- the multiplier of kept chord number c: what all pairs give it, negated
 abbrev pub chord_fold : System → List Arc → CycleBasis → (RowName → Expression) → List Share → ℕ → Result Ratio Wide → Type 0
-chord_fold lts tree basis expression shares c = and_then (joined add (pair_fold tree basis expression (labels lts + c)) (whole (pos 0)) (pairs_of shares (dependent_labels (labels lts) basis))) (λ sum. gives (negated sum))
+chord_fold lts tree basis expression shares c = do
+  sum ← joined add (pair_fold tree basis expression (labels lts + c)) (whole (pos 0)) (pairs_of shares (dependent_labels (labels lts) basis))
+  gives (negated sum)
 
 -- ---- arcs of the tree
 
@@ -111,7 +117,9 @@ addends_at expression rows done s = map (λ r. product r.multiplier (coefficient
 -- the arcs in `last_first` get their multipliers, one after the other; `done` has those after them in the tree
 abbrev pub tree_fold : (RowName → Expression) → List NamedRow → List ArcTimes → List Arc → Result (List ArcTimes) Wide → Type 0
 tree_fold expression rows done [] = gives done
-tree_fold expression rows done (a ∷ last_first) = and_then (joined whole_sum addend_fold (pos 0) (addends_at expression rows done a.to)) (λ m. tree_fold expression rows (record { arc = a; multiplier = m } ∷ done) last_first)
+tree_fold expression rows done (a ∷ last_first) = do
+  m ← joined whole_sum addend_fold (pos 0) (addends_at expression rows done a.to)
+  tree_fold expression rows (record { arc = a; multiplier = m } ∷ done) last_first
 
 -- ---- the leaf
 
@@ -139,35 +147,60 @@ abbrev pub not_zero : List NamedRow → List NamedRow
 not_zero [] = []
 not_zero (r ∷ rows) = if int_lt r.multiplier (pos 0) || int_lt (pos 0) r.multiplier then (r ∷ not_zero rows) else not_zero rows
 
+-- the absolute value of a number of the row, multiplied
+abbrev pub multiplied_size : (RowName → ℤ) → NamedRow → Result ℤ Wide → Type 0
+multiplied_size coefficient r = do
+  z ← whole_product r.multiplier (coefficient r.name)
+  gives (size z)
+
 -- the sum of the absolute values of the multiplied numbers of the rows
 abbrev pub sizes_fold : (RowName → ℤ) → List NamedRow → Result ℤ Wide → Type 0
-sizes_fold coefficient rows = joined whole_sum (λ r. and_then (whole_product r.multiplier (coefficient r.name)) (λ z. gives (size z))) (pos 0) rows
+sizes_fold coefficient rows = joined whole_sum (multiplied_size coefficient) (pos 0) rows
 
 abbrev pub variables_of : System → List Variable
 variables_of lts = map Tokens (all_numbers (states lts)) ++ map Effect (all_numbers (labels lts))
 
 -- the leaf, where no sum of absolute values passes
 abbrev pub checked_leaf : System → (RowName → Expression) → List NamedRow → Result (List NamedRow) Wide → Type 0
-checked_leaf lts expression rows =
-    and_then (each (λ v. sizes_fold (λ name. coefficient_in (expression name).terms v) rows) (variables_of lts))
-    (λ sums. and_then (sizes_fold (λ name. (expression name).constant) rows) (λ sum. gives rows))
+checked_leaf lts expression rows = do
+  sums ← each (λ v. sizes_fold (λ name. coefficient_in (expression name).terms v) rows) (variables_of lts)
+  sum ← sizes_fold (λ name. (expression name).constant) rows
+  gives rows
 
 -- the chords that are used
 abbrev pub chord_arcs : System → List Arc → CycleBasis → List Arc
 chord_arcs lts tree basis = map (λ c. chord_at lts tree (slice_index_or basis.kept c 0)) (used_chords lts basis)
 
--- the leaf of the shares: the chords get their multipliers, then the arcs of the tree from its last to its first
+-- the rows of the shares and the chords, with these numbers in order
+abbrev pub numbered_rows : List Share → List Arc → List ℤ → List NamedRow
+numbered_rows shares chords numbers = named_from (map (λ r. r.name) shares ++ map arc_name chords) numbers
+
+-- the arcs of a system, each with the multiplier that it has among these arcs
+abbrev pub arc_rows : List Arc → List ℤ → List Arc → List NamedRow
+arc_rows arcs numbers system = map (λ a. record { multiplier = multiplier_among arcs numbers a; name = arc_name a }) system
+
+-- the rows of the leaf, without zeros: those of the shares, and then the arcs of the system; `arcs` are those that have
+-- the parts behind the shares'
+abbrev pub leaf_rows_of : System → List Share → List Arc → List ℤ → List NamedRow
+leaf_rows_of lts shares arcs parts =
+    not_zero (named_from (map (λ r. r.name) shares) parts ++ arc_rows arcs (drop (length shares) parts) lts.arcs)
+
+-- the leaf of the shares' and chords' numbers: the arcs of the tree get their multipliers, from its last to its first
+abbrev pub numbers_leaf : System → List Arc → List Arc → (RowName → Expression) → List Share → List ℤ → Result (List NamedRow) Wide → Type 0
+numbers_leaf lts tree chords expression shares numbers = do
+  arcs ← tree_fold expression (numbered_rows shares chords numbers) [] (reverse tree)
+  parts ← parts_of (numbers ++ map (λ x. x.multiplier) arcs)
+  checked_leaf lts expression (leaf_rows_of lts shares (chords ++ map (λ x. x.arc) arcs) parts)
+
+-- the leaf of the shares: the chords get their multipliers, and then all are made whole
 abbrev pub leaf_fold : System → List Arc → CycleBasis → (RowName → Expression) → List Share → Result (List NamedRow) Wide → Type 0
-leaf_fold lts tree basis expression shares =
-    and_then (each (chord_fold lts tree basis expression shares) (used_chords lts basis))
-    (λ chord_shares. and_then (scaled_fold (map (λ r. r.multiplier) shares ++ chord_shares))
-    (λ scaled. and_then (tree_fold expression (named_from (map (λ r. r.name) shares ++ map arc_name (chord_arcs lts tree basis)) scaled.numbers) [] (reverse tree))
-    (λ arcs. and_then (parts_of (scaled.numbers ++ map (λ x. x.multiplier) arcs))
-    (λ parts. checked_leaf lts expression
-    (not_zero (named_from (map (λ r. r.name) shares) parts ++ map (λ a. record { multiplier = multiplier_among (chord_arcs lts tree basis ++ map (λ x. x.arc) arcs) (drop (length shares) parts) a; name = arc_name a }) lts.arcs))))))
+leaf_fold lts tree basis expression shares = do
+  chord_shares ← each (chord_fold lts tree basis expression shares) (used_chords lts basis)
+  scaled ← scaled_fold (map (λ r. r.multiplier) shares ++ chord_shares)
+  numbers_leaf lts tree (chord_arcs lts tree basis) expression shares scaled.numbers
 
 -- the leaf of the weights of a node's rows
 abbrev pub spread_fold : CaseSetting → CaseSystem → List SplitSide → List Side → List Weight → Result (List NamedRow) Wide → Type 0
-spread_fold s case form_sides above weights =
-    and_then (each (share_fold case form_sides above) weights)
-    (λ shares. leaf_fold s.lts s.tree s.basis (row_expression s.lts s.class s.problem s.number above) shares)
+spread_fold s case form_sides above weights = do
+  shares ← each (share_fold case form_sides above) weights
+  leaf_fold s.lts s.tree s.basis (row_expression s.lts s.class s.problem s.number above) shares
