@@ -3,7 +3,7 @@ ghost use Rattle.rg_spanning.specs.Spanning.{IsTreeOf};
 
 use rg_lts::Lts;
 use rg_samples::system;
-use rg_spanning::{GrowStop, Tree};
+use rg_spanning::{GrowStop, Tree, TreeArcs};
 use rg_theory::Arc;
 use std::alloc::Global;
 
@@ -39,7 +39,7 @@ fn is_grown(alloc: Global) -> bool {
         return false;
     };
     match Tree::grow(alloc, &lts) {
-        Ok(tree) => is_right(&lts, &tree),
+        Ok(tree) => is_right(&lts, &tree) && has_arcs_alone(alloc, &lts, &tree),
         Err(_) => false,
     }
 }
@@ -75,6 +75,26 @@ fn has_arcs(tree: &Tree) -> bool {
         arc(4, 4, 5),
     ];
     tree.arcs() == arcs.as_slice()
+}
+
+// Whether the arcs that are grown alone are the tree's, and each stands at the state that it enters.
+fn has_arcs_alone(alloc: Global, lts: &Lts, tree: &Tree) -> bool {
+    let parents = [
+        None,
+        Some(arc(0, 3, 1)),
+        Some(arc(1, 4, 2)),
+        Some(arc(0, 0, 3)),
+        Some(arc(3, 3, 4)),
+        Some(arc(4, 4, 5)),
+        Some(arc(3, 1, 6)),
+        Some(arc(6, 3, 7)),
+    ];
+    match TreeArcs::grow(alloc, lts) {
+        Ok(alone) => {
+            alone.arcs.as_slice() == tree.arcs() && alone.parents.as_slice() == parents.as_slice()
+        }
+        Err(_) => false,
+    }
 }
 
 fn has_chords(tree: &Tree) -> bool {

@@ -23,7 +23,7 @@ struct Small {
 
 fn values(alloc: Global, revised: &Revised, columns: u32) -> Result<Vec<(i128, i128)>, AllocError>
     requires held { (system : LinearSystem) × (members : List ℕ) × IsHeldOf system members revised.now }
-    requires columns { columns ≤ length revised.now.slots }
+    requires columns { columns ≤ length revised.now.tableau.basis.slots }
 {
     let mut values = Vec::new(alloc);
     for t in 0..columns {
@@ -35,7 +35,7 @@ fn values(alloc: Global, revised: &Revised, columns: u32) -> Result<Vec<(i128, i
 
 fn multipliers(alloc: Global, revised: &Revised, rows: u32) -> Result<Vec<i128>, AllocError>
     requires refuted { (system : LinearSystem) × (members : List ℕ) × (i : ℕ) × IsRefutedAt system members i revised.now }
-    requires rows { length revised.now.slots + rows < 2 ^ 32 }
+    requires rows { length revised.now.tableau.basis.slots + rows < 2 ^ 32 }
 {
     let mut multipliers = Vec::new(alloc);
     for row in 0..rows {

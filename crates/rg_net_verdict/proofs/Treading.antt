@@ -1,5 +1,5 @@
 -- The arcs of the tree, and the chords, where each state has its marking.
-use Rattle.std.proofs.Common.{◌≡◌, ℕ, ◌<◌, ◌≤◌, List, [], ◌∷◌, ◌++◌, length, get_or, All, Contains, Vec, refl, sym, ap, subst, ◌∙◌}
+use Rattle.std.proofs.Common.{◌≡◌, ℕ, ◌<◌, ◌≤◌, List, [], ◌∷◌, ◌++◌, length, get_or, None, Some, All, Contains, Vec, refl, sym, ap, subst, ◌∙◌}
 use Rattle.std.specs.declared.alloc.Global.{Global}
 use Rattle.rg_integers.specs.Range.{greatest}
 use Rattle.rg_theory.specs.declared.Arc.{Arc}
@@ -37,14 +37,15 @@ tree_fires lts net tree h fine is have a in_tree = by (last_step net (start_mark
     by : (mid : Marking) × FiresAll net (start_marking net) (way_to tree a.from) mid × Fires net mid a.label (h a.to) → Fires net (h a.from) a.label (h a.to)
     by (mid, before, last) = subst (λ m. Fires net m a.label (h a.to)) (runs_once net (start_marking net) (way_to tree a.from) mid (h a.from) before (have.each a.from range.0).fires) last
 
--- the arc that was found is of the tree
-pub grown_fires : (m : Marked) → IsMarked m → (a : Arc) (s t to : ℕ) → Contains m.tree.now.arcs a → a.to ≡ to → a.from ≡ s → a.label ≡ t
+-- the arc that enters a state is of the tree
+pub grown_fires : (m : Marked) → IsMarked m → (a : Arc) (s t to : ℕ) → get_or m.tree.now.parents.items to None ≡ Some a → a.from ≡ s → a.label ≡ t
     → Fires m.net.now (marking_of (shown_markings m.rows.now) s) t (marking_of (shown_markings m.rows.now) to)
-grown_fires m is a s t to has e_to e_from e_label =
+grown_fires m is a s t to at e_from e_label =
+    let (e_to, has) = is.tree.entered to a at in
     subst (λ n. Fires m.net.now (marking_of (shown_markings m.rows.now) s) t (marking_of (shown_markings m.rows.now) n)) e_to
     (subst (λ n. Fires m.net.now (marking_of (shown_markings m.rows.now) s) n (marking_of (shown_markings m.rows.now) a.to)) e_label
     (subst (λ n. Fires m.net.now (marking_of (shown_markings m.rows.now) n) a.label (marking_of (shown_markings m.rows.now) a.to)) e_from
-    (tree_fires m.lts.now m.net.now m.tree.now.arcs (marking_of (shown_markings m.rows.now)) is.system is.tree.tree is.have a has)))
+    (tree_fires m.lts.now m.net.now m.tree.now.arcs.items (marking_of (shown_markings m.rows.now)) is.system is.tree.tree is.have a has)))
 
 -- the list of the label and the row of the state that were read
 module _ (m : Marked) (is : IsMarked m) (s t : ℕ) (state : s < states m.lts.now) (label : t < labels m.lts.now) (v : Vec Flow Global) (x : Vec ℕ Global)

@@ -2,7 +2,7 @@
 use Rattle.std.specs.Prelude.{◌≡◌}
 use Rattle.rg_theory.specs.System.{labels, IsInRange, IsForkFree}
 use Rattle.rg_theory.specs.Solves.{marking_of}
-use Rattle.rg_spanning.specs.Spanning.{IsTreeOf}
+use Rattle.rg_spanning.specs.Spanning.{AreArcsOf}
 use Rattle.rg_net.specs.ClassBreaks.{shown_markings}
 use Rattle.rg_net_verdict.specs.declared.wrong.Marked.{Marked}
 use Rattle.rg_net_verdict.specs.Flows.{AreFlows}
@@ -13,8 +13,8 @@ use Rattle.rg_net_verdict.specs.Verdict.{HaveMarkings}
 pub record IsMarked (m : Marked) : Type 0 where
   pub system : IsInRange m.lts.now
   pub labels : m.net.now.labels ≡ labels m.lts.now
-  pub tree : IsTreeOf m.lts.now m.tree.now
+  pub tree : AreArcsOf m.lts.now m.tree.now
   pub fork_free : IsForkFree m.lts.now
   pub flows : AreFlows m.net.now m.flows.now
   pub rows : AreRows m.lts.now m.net.now (shown_markings m.rows.now)
-  pub have : HaveMarkings m.lts.now m.net.now m.tree.now.arcs (marking_of (shown_markings m.rows.now))
+  pub have : HaveMarkings m.lts.now m.net.now m.tree.now.arcs.items (marking_of (shown_markings m.rows.now))

@@ -5,7 +5,7 @@ ghost use Rattle.rg_theory.specs.System.{labels};
 ghost use Rattle.rg_theory.specs.Class.{IsBounded};
 ghost use Rattle.rg_checks.specs.Flaws.{IsFlawless};
 ghost use Rattle.rg_lts.specs.WellFormed.{IsWellFormed};
-ghost use Rattle.rg_spanning.specs.Spanning.{IsTreeOf};
+ghost use Rattle.rg_spanning.specs.Spanning.{AreArcsOf};
 ghost use Rattle.rg_net_verdict.specs.declared.check.Halt.TheVariants as halt;
 ghost use Rattle.rg_net_verdict.specs.declared.verdict.CheckStop.TheVariants as stop;
 ghost use Rattle.rg_net_verdict.specs.declared.verdict.CheckWide.{CheckWide};
@@ -21,7 +21,7 @@ use crate::wrong::{Marked, first_wrong};
 use rg_checks::{Flaw, NoMemory, first_flaw};
 use rg_lts::Lts;
 use rg_net::{Class, Net, in_class};
-use rg_spanning::{GrowStop, Tree};
+use rg_spanning::TreeArcs;
 use std::alloc::{AllocError, Global};
 
 /// Why the tests end before the last.
@@ -86,10 +86,8 @@ fn flawless_verdict(
     ensures in_range { IfOk result (λ v. v ≡ verdict.Yes → IsBounded net.now greatest) }
 {
     lts.is_well_formed();
-    let tree = match Tree::grow(alloc, lts) {
-        Ok(tree) => tree,
-        Err(GrowStop::NoMemory) => return Err(CheckStop::NoMemory),
-        Err(GrowStop::Unreachable(_)) => unreachable!(),
+    let Ok(tree) = TreeArcs::grow(alloc, lts) else {
+        return Err(CheckStop::NoMemory);
     };
     match judge(alloc, lts, &tree, net, class) {
         Ok(()) => Ok(NetVerdict::Yes),
@@ -99,18 +97,18 @@ fn flawless_verdict(
 }
 
 // The tests along the tree and after them.
-fn judge(alloc: Global, lts: &Lts, tree: &Tree, net: &Net, class: Class) -> Result<(), Halt>
+fn judge(alloc: Global, lts: &Lts, tree: &TreeArcs, net: &Net, class: Class) -> Result<(), Halt>
     requires system { IsWellFormed lts.now }
     requires labels { net.now.labels ≡ labels lts.now }
-    requires tree { IsTreeOf lts.now tree.now }
+    requires tree { AreArcsOf lts.now tree.now }
     requires flawless { IsFlawless lts.now }
-    ensures yes { OnOk result (Tells lts.now net.now tree.now.arcs class (Ok verdict.Yes)) }
-    ensures no { (n : NetNo) → IsErrOf result (halt.No n) → Tells lts.now net.now tree.now.arcs class (Ok (verdict.No n)) }
-    ensures wide { (w : CheckWide) → IsErrOf result (halt.Stop (stop.Wide w)) → Tells lts.now net.now tree.now.arcs class (Err w) }
+    ensures yes { OnOk result (Tells lts.now net.now tree.now.arcs.items class (Ok verdict.Yes)) }
+    ensures no { (n : NetNo) → IsErrOf result (halt.No n) → Tells lts.now net.now tree.now.arcs.items class (Ok (verdict.No n)) }
+    ensures wide { (w : CheckWide) → IsErrOf result (halt.Stop (stop.Wide w)) → Tells lts.now net.now tree.now.arcs.items class (Err w) }
     ensures in_range { OnOk result (IsBounded net.now greatest) }
 {
     let flows = flows_of(alloc, net)?;
-    let rows = rows_along(alloc, lts, tree.arcs(), net, &flows)?;
+    let rows = rows_along(alloc, lts, &tree.arcs, net, &flows)?;
     if let Some((s, r)) = first_same(alloc, lts, &rows)? {
         return Err(Halt::No(NetNo::SameMarking(s, r)));
     }

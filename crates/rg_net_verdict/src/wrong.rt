@@ -13,14 +13,14 @@ use crate::moves::{allows, leads};
 use crate::verdict::NetNo;
 use rg_lts::Lts;
 use rg_net::Net;
-use rg_spanning::Tree;
+use rg_spanning::TreeArcs;
 use rg_theory::Arc;
 
-// A system with its tree, a net with the places of each label, and the markings of the states.
+// A system with its tree's arcs, a net with the places of each label, and the markings of the states.
 #[derive(Clone, Copy)]
 pub(crate) struct Marked<'a> {
     pub lts: &'a Lts,
-    pub tree: &'a Tree,
+    pub tree: &'a TreeArcs,
     pub net: &'a Net,
     pub flows: &'a [Vec<Flow>],
     pub rows: &'a [Vec<u128>],
@@ -80,7 +80,7 @@ fn is_grown(marked: Marked<'_>, s: u32, t: u32, to: u32) -> bool
     requires arc { HasArc marked.lts.now s t to }
     ensures { IsTrue result → Fires marked.entry.net.now (marking_of (shown_markings marked.entry.rows.now) s) t (marking_of (shown_markings marked.entry.rows.now) to) }
 {
-    match marked.tree.parent(to) {
+    match marked.tree.parents[to as usize] {
         Some(a) => a.from == s && a.label == t,
         None => false,
     }

@@ -19,7 +19,7 @@ use rg_lts::Lts;
 use rg_marks::{Firsts, Separated};
 use rg_memory::NoMemory;
 use rg_net::Place;
-use rg_spanning::{GrowStop, Tree};
+use rg_spanning::TreeArcs;
 use rg_theory::Arc;
 use std::alloc::{AllocError, Global};
 
@@ -32,9 +32,9 @@ pub fn prune(alloc: Global, lts: &Lts, places: Vec<Place>) -> Result<Vec<Place>,
     requires separate { SeparateAll (map shown_place places.items) lts.now }
     ensures { IfOk result (λ left. IsPruned lts.now (map shown_place places.items) (map shown_place left.items)) }
 {
-    let tree = grow_tree(alloc, lts)?;
-    let firsts = all_firsts(alloc, lts, tree.arcs(), &places)?;
-    Ok(drop_unneeded(alloc, lts, tree.arcs(), places, firsts)?)
+    let tree = TreeArcs::grow(alloc, lts)?;
+    let firsts = all_firsts(alloc, lts, &tree.arcs, &places)?;
+    Ok(drop_unneeded(alloc, lts, &tree.arcs, places, firsts)?)
 }
 
 /// What `prune` leaves of the places, where the caller has the problems that each place is the first to separate, as a search for
@@ -51,20 +51,8 @@ pub fn prune_with_firsts(
     requires firsts { AreAllFirsts lts.now (map shown_place places.items) firsts.items }
     ensures { IfOk result (λ left. IsPruned lts.now (map shown_place places.items) (map shown_place left.items)) }
 {
-    let tree = grow_tree(alloc, lts)?;
-    Ok(drop_unneeded(alloc, lts, tree.arcs(), places, firsts)?)
-}
-
-// The tree of the system.
-fn grow_tree(alloc: Global, lts: &Lts) -> Result<Tree, NoMemory>
-    requires { IsAllReachable lts.now }
-    ensures { IfOk result (λ tree. IsTree lts.now tree.arcs) }
-{
-    match Tree::grow(alloc, lts) {
-        Ok(tree) => Ok(tree),
-        Err(GrowStop::NoMemory) => Err(NoMemory),
-        Err(GrowStop::Unreachable(_)) => unreachable!(),
-    }
+    let tree = TreeArcs::grow(alloc, lts)?;
+    Ok(drop_unneeded(alloc, lts, &tree.arcs, places, firsts)?)
 }
 
 // Takes the places from the last one to the first, and keeps those that are needed.

@@ -11,8 +11,7 @@ use Rattle.rg_linear.specs.View.{linear_row, linear_system}
 use Rattle.rg_linear.specs.declared.row.Row.{Row}
 use Rattle.rg_linear.proofs.Norms.{at_most}
 use Rattle.rg_revised.specs.Basis.{HasNorms}
-use Rattle.rg_revised.specs.State.{HasRoom, HasConstants}
-use Rattle.rg_revised.specs.Ending.{EndTells, IsEnded}
+use Rattle.rg_revised.specs.Ending.{EndTells}
 use Rattle.rg_revised.specs.View.{RevisedState}
 use Rattle.rg_revised.specs.Settling.{IsCommonFactor, IsDescent}
 use Rattle.rg_revised.specs.declared.descent.Descent.{Descent}
@@ -63,22 +62,12 @@ has_norms system columns own further same are a b n most first second greater so
 
 -- ---- the ends
 
-module _ (system : LinearSystem) (most : ℕ) (r : RevisedState) (room : HasRoom system most) where
-  pub refuted_at : (i : ℕ) → EndTells system most r.slots r.d r.table r.numbers (Refuted i) → HasConstants r.slots r.table r.constants r.named → r.failing ≡ Some i
-      → IsCommonFactor r.d r.numbers r.factor → IsDescent system r (Refuted i)
-  refuted_at i told constants failing common = (
-    told.members,
-    record {
-      held = record { most = most; held = told.held; room = room; constants = constants };
-      outcome = (told.fixed, told.outcome);
-      relation = told.relation;
-      failing = failing;
-      common = common;
-    },
-  )
+pub refuted_at : (system : LinearSystem) (r : RevisedState) (i : ℕ) → EndTells system r.tableau (Refuted i) → r.failing ≡ Some i
+    → IsCommonFactor r.tableau.basis.d r.tableau.numbers r.factor → IsDescent system r (Refuted i)
+refuted_at system r i (members, told) failing common =
+    (members, record { held = told.held; outcome = told.outcome; relation = told.relation; failing = failing; common = common })
 
-  pub other_end : (ended : Descent) → ((i : ℕ) → ended ≡ Refuted i → ⊥) → EndTells system most r.slots r.d r.table r.numbers ended
-      → (IsEnded ended → HasConstants r.slots r.table r.constants r.named) → IsDescent system r ended
-  other_end Point none told constants = (told.members, record { held = record { most = most; held = told.held; room = room; constants = constants tt }; outcome = told.outcome })
-  other_end (Refuted i) none told constants = absurd (none i refl)
-  other_end Large none told constants = tt
+pub other_end : (system : LinearSystem) (r : RevisedState) (ended : Descent) → ((i : ℕ) → ended ≡ Refuted i → ⊥) → EndTells system r.tableau ended → IsDescent system r ended
+other_end system r Point none told = told
+other_end system r (Refuted i) none told = absurd (none i refl)
+other_end system r Large none told = tt

@@ -20,6 +20,7 @@ use Rattle.rg_linear.proofs.MemberIndices.{member_at}
 use Rattle.rg_linear.proofs.TableRows.{length-row}
 use Rattle.rg_revised.specs.Basis.{IsRelationOf, row_over, IsMultiple, IsWithin}
 use Rattle.rg_revised.specs.Rows.{RowWithin, row_at, TableRenewed}
+use Rattle.rg_revised.specs.View.{BasisState}
 use Rattle.rg_revised.specs.Held.{relation_of, column_relation, IsHeld, IsPivot, AreRowNumbers}
 use Rattle.rg_revised.proofs.Relations.{member_has_no_constant}
 use Rattle.rg_revised.proofs.Rows.{row_follows}
@@ -27,45 +28,45 @@ use Rattle.rg_revised.proofs.Renewing.{basis_exchanged}
 use Rattle.rg_revised.proofs.Slots.{beside_none, beside_at, set_Contains, Contains-set_new, Contains-set_old, distinct-set}
 use Rattle.rg_revised.proofs.Held.{row_is_multiple}
 
-pub held_exchanged : (system : LinearSystem) (members slots : List ℕ) (d : ℤ) (table table' numbers pivot : List ℤ) (p i : ℕ) (negative : Bool) (most : ℕ)
-    → IsHeld system members slots d table → i < variables system → ¬ Contains members i → IsRelationOf system members i (relation_of slots d numbers) → length numbers ≡ length slots + 1
-    → p < length slots → number_at numbers p ≢ pos 0
-    → IsPivot numbers pivot p negative → TableRenewed (length slots + 1) pivot table table' p negative d most system.columns
-    → IsHeld system (exchanged members i (get_or slots p 0)) (set slots p i) (size (number_at numbers p)) table'
-held_exchanged system members slots d table table' numbers pivot p i negative most held variable outside is width inside named signed r =
-    subst (λ z. IsHeld system (exchanged members i (get_or slots p 0)) (set slots p i) z table') (ap size kj_is) (record {
-      basis = basis_exchanged system members d (column_relation slots d table) i (get_or slots p 0) (relation_of slots d numbers) held.basis variable outside is refl member
-          (λ e. named (sym kj_is ∙ e)) (column_relation (set slots p i) (size (number_beside slots numbers (get_or slots p 0))) table') (λ t lt. multiple t lt);
+pub held_exchanged : (system : LinearSystem) (members : List ℕ) (b : BasisState) (table' numbers pivot : List ℤ) (p i : ℕ) (negative : Bool) (most : ℕ)
+    → IsHeld system members b → i < variables system → ¬ Contains members i → IsRelationOf system members i (relation_of b.slots b.d numbers) → length numbers ≡ length b.slots + 1
+    → p < length b.slots → number_at numbers p ≢ pos 0
+    → IsPivot numbers pivot p negative → TableRenewed (length b.slots + 1) pivot b.table table' p negative b.d most system.columns
+    → IsHeld system (exchanged members i (get_or b.slots p 0)) (record { slots = set b.slots p i; d = size (number_at numbers p); table = table' })
+held_exchanged system members b table' numbers pivot p i negative most held variable outside is width inside named signed r =
+    subst (λ z. IsHeld system (exchanged members i (get_or b.slots p 0)) (record { slots = set b.slots p i; d = z; table = table' })) (ap size kj_is) (record {
+      basis = basis_exchanged system members b.d (column_relation b) i (get_or b.slots p 0) (relation_of b.slots b.d numbers) held.basis variable outside is refl member
+          (λ e. named (sym kj_is ∙ e)) (column_relation (record { slots = set b.slots p i; d = size (number_beside b.slots numbers (get_or b.slots p 0)); table = table' })) (λ t lt. multiple t lt);
       count = count' ∙ held.count;
-      distinct = distinct-set slots p i held.distinct inside lacks;
+      distinct = distinct-set b.slots p i held.distinct inside lacks;
       same = λ m. (
-        (λ has. ⊎_elim (λ e. subst (Contains (set slots p i)) e (Contains-set_new slots p i inside)) (λ old. Contains-set_old slots p i m ((held.same m).0 old.0) old.1)
-            (exchanged-Contains i (get_or slots p 0) m members has)),
-        (λ has. ⊎_elim (λ e. subst (Contains (exchanged members i (get_or slots p 0))) e (Contains-exchanged_new i (get_or slots p 0) members))
-            (λ old. Contains-exchanged_old i (get_or slots p 0) m members ((held.same m).1 old.0) old.1) (set_Contains slots p i m held.distinct inside has)),
+        (λ has. ⊎_elim (λ e. subst (Contains (set b.slots p i)) e (Contains-set_new b.slots p i inside)) (λ old. Contains-set_old b.slots p i m ((held.same m).0 old.0) old.1)
+            (exchanged-Contains i (get_or b.slots p 0) m members has)),
+        (λ has. ⊎_elim (λ e. subst (Contains (exchanged members i (get_or b.slots p 0))) e (Contains-exchanged_new i (get_or b.slots p 0) members))
+            (λ old. Contains-exchanged_old i (get_or b.slots p 0) m members ((held.same m).1 old.0) old.1) (set_Contains b.slots p i m held.distinct inside has)),
       );
       size = r.same_length ∙ held.size ∙ ap (λ n. system.columns * (n + 1)) (sym count');
     })
   where
-    count' : length (set slots p i) ≡ length slots
-    count' = length-set slots p i
+    count' : length (set b.slots p i) ≡ length b.slots
+    count' = length-set b.slots p i
 
-    lacks : ¬ Contains slots i
+    lacks : ¬ Contains b.slots i
     lacks has = outside ((held.same i).1 has)
 
-    member : Contains members (get_or slots p 0)
-    member = (held.same (get_or slots p 0)).1 (member_at slots p inside)
+    member : Contains members (get_or b.slots p 0)
+    member = (held.same (get_or b.slots p 0)).1 (member_at b.slots p inside)
 
-    kj_is : number_beside slots numbers (get_or slots p 0) ≡ number_at numbers p
-    kj_is = beside_at slots numbers p held.distinct inside (omega arith)
+    kj_is : number_beside b.slots numbers (get_or b.slots p 0) ≡ number_at numbers p
+    kj_is = beside_at b.slots numbers p held.distinct inside (omega arith)
 
-    multiple : (t : ℕ) → t < system.columns → IsMultiple d (renewed (relation_of slots d numbers) i (get_or slots p 0) (column_relation slots d table t))
-        (column_relation (set slots p i) (size (number_beside slots numbers (get_or slots p 0))) table' t)
+    multiple : (t : ℕ) → t < system.columns → IsMultiple b.d (renewed (relation_of b.slots b.d numbers) i (get_or b.slots p 0) (column_relation b t))
+        (column_relation (record { slots = set b.slots p i; d = size (number_beside b.slots numbers (get_or b.slots p 0)); table = table' }) t)
     multiple t lt = subst
-        (λ n. IsMultiple d (renewed (relation_of slots d numbers) i (get_or slots p 0) (column_relation slots d table t))
-        (relation_of (set slots p i) (size (number_beside slots numbers (get_or slots p 0))) (row_at (n + 1) table' t))) (sym count')
-        (row_is_multiple slots d numbers pivot p i negative most held.distinct inside lacks width signed (row_at (length slots + 1) table t) (row_at (length slots + 1) table' t)
-        (length-row (length slots + 1) table system.columns t held.size lt) (r.rows t lt))
+        (λ n. IsMultiple b.d (renewed (relation_of b.slots b.d numbers) i (get_or b.slots p 0) (column_relation b t))
+        (relation_of (set b.slots p i) (size (number_beside b.slots numbers (get_or b.slots p 0))) (row_at (n + 1) table' t))) (sym count')
+        (row_is_multiple b.slots b.d numbers pivot p i negative most held.distinct inside lacks width signed (row_at (length b.slots + 1) b.table t) (row_at (length b.slots + 1) table' t)
+        (length-row (length b.slots + 1) b.table system.columns t held.size lt) (r.rows t lt))
 
 -- ---- small numbers
 
@@ -87,30 +88,30 @@ relation_within most slots d numbers small all inside = record { d = small; cons
 
 -- ---- the relation of a row
 
-module _ (system : LinearSystem) (members slots : List ℕ) (d : ℤ) (table : List ℤ) (held : IsHeld system members slots d table) where
-  width_of : (t : ℕ) → t < system.columns → length (row_at (length slots + 1) table t) ≡ length slots + 1
-  width_of t lt = length-row (length slots + 1) table system.columns t held.size lt
+module _ (system : LinearSystem) (members : List ℕ) (b : BasisState) (held : IsHeld system members b) where
+  width_of : (t : ℕ) → t < system.columns → length (row_at (length b.slots + 1) b.table t) ≡ length b.slots + 1
+  width_of t lt = length-row (length b.slots + 1) b.table system.columns t held.size lt
 
-  module _ (i : ℕ) (numbers : List ℤ) (are : AreRowNumbers system (length slots + 1) d table i numbers) where
-    coefficient_same : (m : ℕ) → number_beside slots numbers m ≡ sum_below system.columns (λ t. entry system i t *ℤ number_beside slots (row_at (length slots + 1) table t) m)
-    coefficient_same m = go (is_member slots m)
+  module _ (i : ℕ) (numbers : List ℤ) (are : AreRowNumbers system b i numbers) where
+    coefficient_same : (m : ℕ) → number_beside b.slots numbers m ≡ sum_below system.columns (λ t. entry system i t *ℤ number_beside b.slots (row_at (length b.slots + 1) b.table t) m)
+    coefficient_same m = go (is_member b.slots m)
       where
-        go : Contains slots m ⊎ ¬ Contains slots m → number_beside slots numbers m ≡ sum_below system.columns (λ t. entry system i t *ℤ number_beside slots (row_at (length slots + 1) table t) m)
+        go : Contains b.slots m ⊎ ¬ Contains b.slots m → number_beside b.slots numbers m ≡ sum_below system.columns (λ t. entry system i t *ℤ number_beside b.slots (row_at (length b.slots + 1) b.table t) m)
         go (inl (q, lt, at)) =
-            let is : get_or slots q 0 ≡ m = get_or_default slots q 0 m lt ∙ at in
-            subst (λ x. number_beside slots numbers x ≡ sum_below system.columns (λ t. entry system i t *ℤ number_beside slots (row_at (length slots + 1) table t) x)) is
-            (beside_at slots numbers q held.distinct lt (let e = are.same_length in omega arith)
+            let is : get_or b.slots q 0 ≡ m = get_or_default b.slots q 0 m lt ∙ at in
+            subst (λ x. number_beside b.slots numbers x ≡ sum_below system.columns (λ t. entry system i t *ℤ number_beside b.slots (row_at (length b.slots + 1) b.table t) x)) is
+            (beside_at b.slots numbers q held.distinct lt (let e = are.same_length in omega arith)
             ∙ are.coefficients q (omega arith)
             ∙ sum_below-same system.columns _ _
-            (λ t below. ap (λ z. entry system i t *ℤ z) (sym (beside_at slots (row_at (length slots + 1) table t) q held.distinct lt (let e = width_of t below in omega arith)))))
-        go (inr lacks) = beside_none slots numbers m lacks
-            ∙ sym (sum_below-zero system.columns _ (λ t below. ap (λ z. entry system i t *ℤ z) (beside_none slots (row_at (length slots + 1) table t) m lacks) ∙ *ℤ-zero (entry system i t)))
+            (λ t below. ap (λ z. entry system i t *ℤ z) (sym (beside_at b.slots (row_at (length b.slots + 1) b.table t) q held.distinct lt (let e = width_of t below in omega arith)))))
+        go (inr lacks) = beside_none b.slots numbers m lacks
+            ∙ sym (sum_below-zero system.columns _ (λ t below. ap (λ z. entry system i t *ℤ z) (beside_none b.slots (row_at (length b.slots + 1) b.table t) m lacks) ∙ *ℤ-zero (entry system i t)))
 
-    pub row_numbers_are : relation_of slots d numbers ≡ row_over system d (column_relation slots d table) i
-    row_numbers_are = λ e. record { d = d; constant = are.constant (length slots) refl e; coefficient = λ m. coefficient_same m e }
+    pub row_numbers_are : relation_of b.slots b.d numbers ≡ row_over system b.d (column_relation b) i
+    row_numbers_are = λ e. record { d = b.d; constant = are.constant e; coefficient = λ m. coefficient_same m e }
 
-    pub row_numbers_relation : i < length system.rows → IsRelationOf system members (row_variable system i) (relation_of slots d numbers)
-    row_numbers_relation lt = subst (IsRelationOf system members (row_variable system i)) (sym row_numbers_are) (row_follows system members d (column_relation slots d table) held.basis i lt)
+    pub row_numbers_relation : i < length system.rows → IsRelationOf system members (row_variable system i) (relation_of b.slots b.d numbers)
+    row_numbers_relation lt = subst (IsRelationOf system members (row_variable system i)) (sym row_numbers_are) (row_follows system members b.d (column_relation b) held.basis i lt)
 
 -- ---- a column that is a member
 
@@ -132,19 +133,19 @@ member_names_itself system members t k free member is m lt =
         let n = zero-*ℤ (s *ℤ pos 1) in
         omega (arith, ints)
 
-module _ (system : LinearSystem) (members slots : List ℕ) (d : ℤ) (table : List ℤ) (held : IsHeld system members slots d table) (t : ℕ) (below : t < system.columns) (here : get_or slots t 0 ≡ t) where
-  t_inside : t < length slots
+module _ (system : LinearSystem) (members : List ℕ) (b : BasisState) (held : IsHeld system members b) (t : ℕ) (below : t < system.columns) (here : get_or b.slots t 0 ≡ t) where
+  t_inside : t < length b.slots
   t_inside = let e = held.count in omega arith
 
   t_member : Contains members t
-  t_member = subst (Contains members) here ((held.same (get_or slots t 0)).1 (member_at slots t t_inside))
+  t_member = subst (Contains members) here ((held.same (get_or b.slots t 0)).1 (member_at b.slots t t_inside))
 
   -- the row of a column that is a member has d at its index, and 0 elsewhere
-  pub own_number : (s : ℕ) → s < length slots → number_at (row_at (length slots + 1) table t) s ≡ d *ℤ only (get_or slots s 0) (pos 1) t
+  pub own_number : (s : ℕ) → s < length b.slots → number_at (row_at (length b.slots + 1) b.table t) s ≡ b.d *ℤ only (get_or b.slots s 0) (pos 1) t
   own_number s lt =
-      sym (beside_at slots (row_at (length slots + 1) table t) s held.distinct lt (let e = length-row (length slots + 1) table system.columns t held.size below in omega arith))
-      ∙ member_names_itself system members t (column_relation slots d table t) held.basis.free t_member (held.basis.columns t below) (get_or slots s 0)
-      (held.basis.free.within (get_or slots s 0) ((held.same (get_or slots s 0)).1 (member_at slots s lt)))
+      sym (beside_at b.slots (row_at (length b.slots + 1) b.table t) s held.distinct lt (let e = length-row (length b.slots + 1) b.table system.columns t held.size below in omega arith))
+      ∙ member_names_itself system members t (column_relation b t) held.basis.free t_member (held.basis.columns t below) (get_or b.slots s 0)
+      (held.basis.free.within (get_or b.slots s 0) ((held.same (get_or b.slots s 0)).1 (member_at b.slots s lt)))
 
-  pub own_constant : number_at (row_at (length slots + 1) table t) (length slots) ≡ pos 0
-  own_constant = member_has_no_constant system members t (column_relation slots d table t) held.basis.free t_member (held.basis.columns t below)
+  pub own_constant : number_at (row_at (length b.slots + 1) b.table t) (length b.slots) ≡ pos 0
+  own_constant = member_has_no_constant system members t (column_relation b t) held.basis.free t_member (held.basis.columns t below)

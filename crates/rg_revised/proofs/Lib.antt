@@ -27,3 +27,4 @@ pub mod Primitives
 pub mod WalkStates
 pub mod FewIndices
 pub mod FewRenewed
+pub mod Telling

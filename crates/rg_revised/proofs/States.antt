@@ -10,21 +10,22 @@ use Rattle.rg_integers.proofs.Signs.{sign-times}
 use Rattle.rg_linear.specs.Exchange.{exchanged}
 use Rattle.rg_revised.specs.Rows.{TableWithin, TableRenewed}
 use Rattle.rg_revised.specs.Held.{IsHeld, IsPivot}
+use Rattle.rg_revised.specs.View.{BasisState}
 use Rattle.rg_revised.specs.State.{IsExchangeOf}
 use Rattle.rg_revised.proofs.Keeping.{held_exchanged}
 
 pub pivot_size : (numbers pivot : List ℤ) (p : ℕ) (negative : Bool) → IsPivot numbers pivot p negative → p < length numbers → number_at pivot p ≡ size (number_at numbers p)
 pivot_size numbers pivot p negative signed lt = signed.numbers_are p lt ∙ sign-times (number_at numbers p)
 
-pub exchange_of : (slots : List ℕ) (d : ℤ) (table table' numbers pivot : List ℤ) (p variable : ℕ) (negative : Bool) (most : ℕ) (z : ℤ) → p < length slots → length numbers ≡ length slots + 1
+pub exchange_of : (b : BasisState) (table' numbers pivot : List ℤ) (p variable : ℕ) (negative : Bool) (most : ℕ) (z : ℤ) → p < length b.slots → length numbers ≡ length b.slots + 1
     → number_at numbers p ≢ pos 0 → IsPivot numbers pivot p negative
-    → TableRenewed (length slots + 1) pivot table table' p negative d most (length slots) → z ≡ number_at pivot p → unsigned_abs z ≤ most
-    → IsExchangeOf slots d table numbers p variable most (set slots p variable) z table'
-exchange_of slots d table table' numbers pivot p variable negative most z inside width named signed r is small system members old lt outside relation = record {
-  held = subst (λ x. IsHeld system (exchanged members variable (get_or slots p 0)) (set slots p variable) x table') (sym (is ∙ pivot_size numbers pivot p negative signed (omega arith)))
-      (held_exchanged system members slots d table table' numbers pivot p variable negative most old.held lt outside relation width inside named signed
-      (subst (TableRenewed (length slots + 1) pivot table table' p negative d most) old.held.count r));
-  within = subst (λ n. TableWithin (n + 1) n most table') (sym (length-set slots p variable)) (λ t below. (r.rows t below).within);
+    → TableRenewed (length b.slots + 1) pivot b.table table' p negative b.d most (length b.slots) → z ≡ number_at pivot p → unsigned_abs z ≤ most
+    → IsExchangeOf b numbers p variable most (record { slots = set b.slots p variable; d = z; table = table' })
+exchange_of b table' numbers pivot p variable negative most z inside width named signed r is small system members old lt outside relation = record {
+  held = subst (λ x. IsHeld system (exchanged members variable (get_or b.slots p 0)) (record { slots = set b.slots p variable; d = x; table = table' })) (sym (is ∙ pivot_size numbers pivot p negative signed (omega arith)))
+      (held_exchanged system members b table' numbers pivot p variable negative most old.held lt outside relation width inside named signed
+      (subst (TableRenewed (length b.slots + 1) pivot b.table table' p negative b.d most) old.held.count r));
+  within = subst (λ n. TableWithin (n + 1) n most table') (sym (length-set b.slots p variable)) (λ t below. (r.rows t below).within);
   d_within = small;
 }
 

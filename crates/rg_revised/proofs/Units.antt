@@ -14,7 +14,8 @@ use Rattle.rg_linear.proofs.TableRows.{row_put, row_other, length-row}
 use Rattle.rg_revised.specs.Basis.{IsRelationOf, itself}
 use Rattle.rg_revised.specs.Rows.{row_at, TableWithin}
 use Rattle.rg_revised.specs.Held.{AreDistinct, relation_of, column_relation, IsHeld}
-use Rattle.rg_revised.specs.Starting.{IsUnitRow, IsUnitTable}
+use Rattle.rg_revised.specs.View.{BasisState}
+use Rattle.rg_revised.specs.Starting.{IsUnitRow, IsUnitTable, IsUnitBasis}
 use Rattle.rg_revised.specs.State.{IsSmallHeld}
 use Rattle.rg_revised.proofs.Rows.{columns_basis}
 use Rattle.rg_revised.proofs.Slots.{beside_none, beside_at}
@@ -60,9 +61,6 @@ numbers_distinct first zero = tt
 numbers_distinct first (suc n) = ((λ has. (let h = numbers_from-Contains (suc first) n first has in absurd (omega arith))), numbers_distinct (suc first) n)
 
 module _ (system : LinearSystem) (table : List ℤ) (size : length table ≡ system.columns * (system.columns + 1)) (unit : IsUnitTable (system.columns + 1) system.columns table) where
-  slots : List ℕ
-  slots = numbers_from 0 system.columns
-
   count : length (numbers_from 0 system.columns) ≡ system.columns
   count = length-numbers_from 0 system.columns
 
@@ -87,10 +85,10 @@ module _ (system : LinearSystem) (table : List ℤ) (size : length table ≡ sys
   itself_is : (t : ℕ) → t < system.columns → itself (pos 1) t ≡ relation_of (numbers_from 0 system.columns) (pos 1) (row_at (system.columns + 1) table t)
   itself_is t lt = λ e. record { d = pos 1; constant = sym (ap (number_at (row_at (system.columns + 1) table t)) count ∙ constant_is t lt) e; coefficient = λ m. sym (coefficient_is t lt m) e }
 
-  width_is : (t : ℕ) → relation_of (numbers_from 0 system.columns) (pos 1) (row_at (system.columns + 1) table t) ≡ column_relation (numbers_from 0 system.columns) (pos 1) table t
+  width_is : (t : ℕ) → relation_of (numbers_from 0 system.columns) (pos 1) (row_at (system.columns + 1) table t) ≡ column_relation (record { slots = numbers_from 0 system.columns; d = pos 1; table = table }) t
   width_is t = ap (λ n. relation_of (numbers_from 0 system.columns) (pos 1) (row_at (n + 1) table t)) (sym count)
 
-  unit_held : IsHeld system (numbers_from 0 system.columns) (numbers_from 0 system.columns) (pos 1) table
+  unit_held : IsHeld system (numbers_from 0 system.columns) (record { slots = numbers_from 0 system.columns; d = pos 1; table = table })
   unit_held =
       let b = columns_basis system in
       record {
@@ -106,7 +104,7 @@ module _ (system : LinearSystem) (table : List ℤ) (size : length table ≡ sys
         size = size ∙ ap (λ n. system.columns * (n + 1)) (sym count);
       }
 
-  pub units_held : (most : ℕ) → 1 ≤ most → IsSmallHeld system (numbers_from 0 system.columns) (numbers_from 0 system.columns) (pos 1) table most
+  pub units_held : (most : ℕ) → 1 ≤ most → IsSmallHeld system (numbers_from 0 system.columns) (record { slots = numbers_from 0 system.columns; d = pos 1; table = table }) most
   units_held most some = record {
     held = unit_held;
     within = subst (λ n. TableWithin (n + 1) n most table) (sym count) (λ t lt s less. subst (λ z. unsigned_abs z ≤ most) (sym (unit t lt s less)) (small (s == t)));
@@ -116,3 +114,11 @@ module _ (system : LinearSystem) (table : List ℤ) (size : length table ≡ sys
       small : (b : Bool) → unsigned_abs (if b then pos 1 else pos 0) ≤ most
       small true = some
       small false = omega arith
+
+pub unit_basis_held : (system : LinearSystem) (b : BasisState) (most columns : ℕ) → IsUnitBasis columns b → system.columns ≡ columns → 1 ≤ most
+    → IsSmallHeld system (numbers_from 0 system.columns) b most
+unit_basis_held system b most columns unit same some = subst (λ x. IsSmallHeld system (numbers_from 0 system.columns) x most) (sym is)
+    (units_held system b.table (subst (λ n. length b.table ≡ n * (n + 1)) (sym same) unit.size) (subst (λ n. IsUnitTable (n + 1) n b.table) (sym same) unit.unit) most some)
+  where
+    is : b ≡ record { slots = numbers_from 0 system.columns; d = pos 1; table = b.table }
+    is = λ e. record { slots = (unit.slots ∙ ap (numbers_from 0) (sym same)) e; d = unit.d e; table = b.table }

@@ -36,3 +36,7 @@ pub record IsVacant (columns : ℕ) (slots stack : List ℕ) (numbers : List ℤ
   pub within : p < length slots
   pub not_fixed : (s : ℕ) → Contains stack s → slice_index slots p ≢ columns + s
   pub named : number_at numbers p ≢ pos 0
+
+-- the constant of a row's relation, from the constants of the columns'
+abbrev pub constant_over : List ℤ → List ℤ → ℤ → ℤ → ℤ
+constant_over coeffs constants constant d = sum_below (length coeffs) (λ t. number_at coeffs t *ℤ number_at constants t) +ℤ (d *ℤ constant)

@@ -2,25 +2,18 @@
 use Rattle.std.specs.Prelude.{◌≡◌, ℕ, List, ◌∷◌, Some, ℤ, pos, ◌<ℤ◌, unsigned_abs}
 use Rattle.rg_fraction.specs.Rows.{IsRowGcd}
 use Rattle.rg_linear.specs.System.{LinearSystem, row_variable}
-use Rattle.rg_linear.specs.Descent.{Outcome.point, Outcome.refuted, DescentFromStart}
+use Rattle.rg_linear.specs.Descent.{Outcome.refuted, DescentFromStart}
 use Rattle.rg_revised.specs.Basis.{IsRelationOf}
 use Rattle.rg_revised.specs.Held.{relation_of}
-use Rattle.rg_revised.specs.State.{IsSmallHeld, HasRoom, HasConstants}
+use Rattle.rg_revised.specs.State.{IsTableauOf}
+use Rattle.rg_revised.specs.Ending.{IsPointAt}
 use Rattle.rg_revised.specs.View.{RevisedState}
 use Rattle.rg_revised.specs.declared.descent.Descent.{Descent}
 use Rattle.rg_revised.specs.declared.descent.Descent.TheVariants.{Point, Refuted, Large}
 
 -- the relations are those of the system's columns over the set
-pub record IsHeldOf (system : LinearSystem) (members : List ℕ) (r : RevisedState) : Type 0 where
-  pub most : ℕ
-  pub held : IsSmallHeld system members r.slots r.d r.table most
-  pub room : HasRoom system most
-  pub constants : HasConstants r.slots r.table r.constants r.named
-
--- the descent from the start ends with the point at which every member is 0
-pub record IsPointAt (system : LinearSystem) (members : List ℕ) (r : RevisedState) : Type 0 where
-  pub held : IsHeldOf system members r
-  pub outcome : DescentFromStart system (point members)
+abbrev pub IsHeldOf : LinearSystem → List ℕ → RevisedState → Type 0
+IsHeldOf system members r = IsTableauOf system members r.tableau
 
 -- the greatest number that divides d and all numbers
 pub record IsCommonFactor (d : ℤ) (numbers : List ℤ) (factor : ℤ) : Type 0 where
@@ -31,12 +24,12 @@ pub record IsCommonFactor (d : ℤ) (numbers : List ℤ) (factor : ℤ) : Type 0
 pub record IsRefutedAt (system : LinearSystem) (members : List ℕ) (i : ℕ) (r : RevisedState) : Type 0 where
   pub held : IsHeldOf system members r
   pub outcome : (fixed : List ℕ) × DescentFromStart system (refuted members i fixed)
-  pub relation : IsRelationOf system members (row_variable system i) (relation_of r.slots r.d r.numbers)
+  pub relation : IsRelationOf system members (row_variable system i) (relation_of r.tableau.basis.slots r.tableau.basis.d r.tableau.numbers)
   pub failing : r.failing ≡ Some i
-  pub common : IsCommonFactor r.d r.numbers r.factor
+  pub common : IsCommonFactor r.tableau.basis.d r.tableau.numbers r.factor
 
 -- what a descent comes to; nothing is said where a number is too large
 abbrev pub IsDescent : LinearSystem → RevisedState → Descent → Type 0
-IsDescent system r Point = (members : List ℕ) × IsPointAt system members r
+IsDescent system r Point = (members : List ℕ) × IsPointAt system members r.tableau
 IsDescent system r (Refuted i) = (members : List ℕ) × IsRefutedAt system members i r
 IsDescent system r Large = Unit {0}

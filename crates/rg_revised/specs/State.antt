@@ -1,52 +1,70 @@
 -- The state of a descent with a revised dictionary.
 use Rattle.std.specs.Prelude.{◌≡◌, ℕ, ◌+◌, ◌*◌, ◌^◌, ◌<◌, ◌≤◌, List, length, slice_index, Contains, ℤ, unsigned_abs}
-use Rattle.rg_linear.specs.System.{LinearSystem, variables, row_variable}
+use Rattle.rg_linear.specs.System.{LinearSystem, variables, row_variable, row_at as row_of}
 use Rattle.rg_linear.specs.Exchange.{exchanged, AllFit}
 use Rattle.rg_linear.specs.Descent.{IsSatisfied, IsStuck, Chooses}
 use Rattle.rg_revised.specs.Basis.{IsRelationOf, HasNorms}
 use Rattle.rg_revised.specs.Rows.{row_at, TableWithin}
 use Rattle.rg_revised.specs.Reading.{AreNamed}
 use Rattle.rg_integers.specs.Sum.{number_at}
+use Rattle.rg_revised.specs.View.{BasisState, TableauState}
 use Rattle.rg_revised.specs.Held.{relation_of, IsHeld}
 use Rattle.rg_revised.specs.declared.step.Step.{Step}
 use Rattle.rg_revised.specs.declared.step.Step.TheVariants.{Satisfied, Stuck, Exchanged, Large}
 
 -- the table is held, and no number of it passes most
-pub record IsSmallHeld (system : LinearSystem) (members slots : List ℕ) (d : ℤ) (table : List ℤ) (most : ℕ) : Type 0 where
-  pub held : IsHeld system members slots d table
-  pub within : TableWithin (length slots + 1) (length slots) most table
-  pub d_within : unsigned_abs d ≤ most
+pub record IsSmallHeld (system : LinearSystem) (members : List ℕ) (b : BasisState) (most : ℕ) : Type 0 where
+  pub held : IsHeld system members b
+  pub within : TableWithin (length b.slots + 1) (length b.slots) most b.table
+  pub d_within : unsigned_abs b.d ≤ most
 
 -- the exchange of a variable outside the set, whose relation has these numbers, with the variable of slot p
-abbrev pub IsExchangeOf : List ℕ → ℤ → List ℤ → List ℤ → ℕ → ℕ → ℕ → List ℕ → ℤ → List ℤ → Type 0
-IsExchangeOf slots d table numbers p variable most slots' d' table' = (system : LinearSystem) (members : List ℕ) → IsSmallHeld system members slots d table most → variable < variables system
-    → ¬ Contains members variable
-    → IsRelationOf system members variable (relation_of slots d numbers) → IsSmallHeld system (exchanged members variable (slice_index slots p)) slots' d' table' most
+abbrev pub IsExchangeOf : BasisState → List ℤ → ℕ → ℕ → ℕ → BasisState → Type 0
+IsExchangeOf before numbers p variable most after = (system : LinearSystem) (members : List ℕ) → IsSmallHeld system members before most → variable < variables system
+    → ¬ Contains members variable → IsRelationOf system members variable (relation_of before.slots before.d numbers)
+    → IsSmallHeld system (exchanged members variable (slice_index before.slots p)) after most
 
 -- the rows are so small that with numbers up to most in the table no term of an exchange is out of range
 abbrev pub HasRoom : LinearSystem → ℕ → Type 0
 HasRoom system most = (norm : ℕ) × HasNorms system norm × (1 ≤ most) × ((norm + 1) * most < 2 ^ 63)
 
--- row i, at the set of members, with the variables that are fixed, and what the slots and the table hold after the step
-abbrev pub StepTells : LinearSystem → List ℕ → List ℕ → ℕ → ℕ → List ℕ → ℤ → List ℤ → List ℤ → Step → Type 0
-StepTells system members fixed i most slots d table numbers Satisfied = IsSatisfied system members i × IsSmallHeld system members slots d table most
-StepTells system members fixed i most slots d table numbers Stuck = IsStuck system members fixed i × IsSmallHeld system members slots d table most
-    × IsRelationOf system members (row_variable system i) (relation_of slots d numbers)
-StepTells system members fixed i most slots d table numbers Exchanged = (j : ℕ) × Chooses system members fixed i j × AllFit system members (row_variable system i) j
-    × IsSmallHeld system (exchanged members (row_variable system i) j) slots d table most
-StepTells system members fixed i most slots d table numbers Large = Unit {0}
+-- row i of the system has these coefficients and this constant
+pub record IsRow (system : LinearSystem) (i : ℕ) (coeffs : List ℤ) (constant : ℤ) : Type 0 where
+  pub inside : i < length system.rows
+  pub coeffs_are : (row_of system i).coeffs ≡ coeffs
+  pub constant_is : (row_of system i).constant ≡ constant
+  pub each : length coeffs ≡ system.columns
+
+-- the row is one of a system whose relations are held, with numbers so small that no sum is out of range
+pub record CanRead (b : BasisState) (coeffs : List ℤ) (constant : ℤ) : Type 0 where
+  pub system : LinearSystem
+  pub members : List ℕ
+  pub most : ℕ
+  pub i : ℕ
+  pub small : IsSmallHeld system members b most
+  pub room : HasRoom system most
+  pub row : IsRow system i coeffs constant
 
 -- the constants of the columns' relations, and the columns where they aren't 0
-pub record HasConstants (slots : List ℕ) (table constants : List ℤ) (named : List ℕ) : Type 0 where
-  pub size : length constants ≡ length slots
-  pub values : (t : ℕ) → t < length slots → number_at constants t ≡ number_at (row_at (length slots + 1) table t) (length slots)
+pub record HasConstants (b : BasisState) (constants : List ℤ) (named : List ℕ) : Type 0 where
+  pub size : length constants ≡ length b.slots
+  pub values : (t : ℕ) → t < length b.slots → number_at constants t ≡ number_at (row_at (length b.slots + 1) b.table t) (length b.slots)
   pub named_are : AreNamed constants named
   pub inside : (t : ℕ) → Contains named t → t < length constants
   pub short : length named ≤ length constants
 
--- the step leaves a basis
-abbrev pub IsNotLarge : Step → Type 0
-IsNotLarge Satisfied = Unit {0}
-IsNotLarge Stuck = Unit {0}
-IsNotLarge Exchanged = Unit {0}
-IsNotLarge Large = ⊥
+-- the relations are those of the system's columns over the set
+pub record IsTableauOf (system : LinearSystem) (members : List ℕ) (t : TableauState) : Type 0 where
+  pub held : IsSmallHeld system members t.basis t.most
+  pub room : HasRoom system t.most
+  pub constants : HasConstants t.basis t.constants t.named
+  pub width : length t.numbers ≡ length t.basis.slots + 1
+
+-- row i, at the set of members, with the variables that are fixed, and what is held after the step
+abbrev pub StepTells : LinearSystem → List ℕ → List ℕ → ℕ → TableauState → Step → Type 0
+StepTells system members fixed i after Satisfied = IsSatisfied system members i × IsTableauOf system members after
+StepTells system members fixed i after Stuck = IsStuck system members fixed i × IsTableauOf system members after
+    × IsRelationOf system members (row_variable system i) (relation_of after.basis.slots after.basis.d after.numbers)
+StepTells system members fixed i after Exchanged = (j : ℕ) × Chooses system members fixed i j × AllFit system members (row_variable system i) j
+    × IsTableauOf system (exchanged members (row_variable system i) j) after
+StepTells system members fixed i after Large = Unit {0}

@@ -1,27 +1,43 @@
 -- What a revised dictionary shows.
-use Rattle.std.specs.Prelude.{◌≡◌, ℕ, ◌+◌, ◌*◌, ◌^◌, ◌<◌, ◌≤◌, List, length, Option, ℤ}
+use Rattle.std.specs.Prelude.{◌≡◌, ℕ, ◌+◌, ◌*◌, ◌^◌, ◌<◌, ◌≤◌, List, length, Option, ℤ, pos, ◌≤ℤ◌}
 use Rattle.rg_integers.specs.Range.{InRange}
 
--- the variable of each slot, the relations of the columns over d, the numbers of one row's relation, the constants of the columns and
--- the columns where they aren't 0; after a refutation the row that fails, counted among the rows, and the common factor of its numbers
-pub record RevisedState : Type 0 where
-  pub columns : ℕ
+-- the variable of each slot, and the relations of the columns over d
+pub record BasisState : Type 0 where
   pub slots : List ℕ
   pub d : ℤ
   pub table : List ℤ
-  pub numbers : List ℤ
+
+-- the table has a row for each column, with a number for each slot, and the constant
+pub record HasShape (b : BasisState) : Type 0 where
+  pub few : length b.slots < 2 ^ 32
+  pub size : length b.table ≡ length b.slots * (length b.slots + 1)
+
+-- a basis with the constants of its relations, the columns where they aren't 0, and the numbers of one row's relation; no number of the
+-- table passes most
+pub record TableauState : Type 0 where
+  pub basis : BasisState
   pub constants : List ℤ
   pub named : List ℕ
+  pub numbers : List ℤ
+  pub most : ℕ
+
+-- a constant for each column, room to name all columns, and a number for each slot and the constant
+pub record HasSizes (t : TableauState) (named_room : ℕ) (most : ℤ) : Type 0 where
+  pub few : length t.basis.slots < 2 ^ 32
+  pub constants : length t.constants ≡ length t.basis.slots
+  pub named_fits : length t.basis.slots ≤ named_room
+  pub numbers : length t.numbers ≡ length t.basis.slots + 1
+  pub not_negative : pos 0 ≤ℤ most
+
+-- the tableau; after a refutation the row that fails, counted among the rows, and the common factor of its numbers
+pub record RevisedState : Type 0 where
+  pub columns : ℕ
+  pub tableau : TableauState
   pub failing : Option ℕ
   pub factor : ℤ
 
--- memory for so many columns: the list of columns and the stack have room for so many
-pub record IsStored (r : RevisedState) (named_room stack_room : ℕ) : Type 0 where
-  pub few : r.columns < 2 ^ 32
-  pub slots_size : length r.slots ≡ r.columns
-  pub table_size : length r.table ≡ r.columns * (r.columns + 1)
-  pub numbers_size : length r.numbers ≡ r.columns + 1
-  pub constants_size : length r.constants ≡ r.columns
-  pub named_fits : r.columns ≤ named_room
+-- the stack has room for all columns
+pub record IsStored (r : RevisedState) (stack_room : ℕ) : Type 0 where
   pub stack_fits : r.columns < stack_room
   pub factor_in_range : InRange r.factor

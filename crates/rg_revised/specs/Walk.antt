@@ -1,27 +1,24 @@
 -- The walk over rows without constants, on which each row is taken once.
-use Rattle.std.specs.Prelude.{◌≡◌, ◌≢◌, ℕ, ◌+◌, ◌*◌, ◌^◌, ◌<◌, List, length, slice_index, ℤ, pos, ◌≤ℤ◌}
+use Rattle.std.specs.Prelude.{◌≡◌, ◌≢◌, ℕ, ◌+◌, ◌^◌, ◌<◌, List, length, slice_index, ℤ, pos, ◌≤ℤ◌}
 use Rattle.rg_integers.specs.Sum.{number_at}
 use Rattle.rg_linear.specs.System.{LinearSystem, row_variable}
 use Rattle.rg_linear.specs.Exchange.{exchanged, AllFit}
 use Rattle.rg_linear.specs.Cycle.{IsSkipped, Picks}
 use Rattle.rg_revised.specs.State.{IsSmallHeld, HasRoom}
+use Rattle.rg_revised.specs.View.{BasisState}
 use Rattle.rg_revised.specs.declared.walk.Taken.{Taken}
 use Rattle.rg_revised.specs.declared.walk.Taken.TheVariants.{Skipped, Exchanged, Large}
 
--- the members in order, the variable of each slot, and the relations of the columns over d, with numbers up to most
+-- the members in order, and the relations of the columns, with numbers up to most
 pub record WalkState : Type 0 where
   pub columns : ℕ
   pub members : List ℕ
-  pub slots : List ℕ
-  pub d : ℤ
-  pub table : List ℤ
+  pub basis : BasisState
   pub most : ℕ
 
 -- memory for so many columns
 pub record IsWalkStored (w : WalkState) (numbers : List ℤ) (slots : ℕ) (most : ℤ) : Type 0 where
   pub few : w.columns < 2 ^ 32
-  pub slots_size : length w.slots ≡ w.columns
-  pub table_size : length w.table ≡ w.columns * (w.columns + 1)
   pub numbers_size : length numbers ≡ w.columns + 1
   pub members_size : length w.members ≡ w.columns
   pub first_slots : slots ≡ w.columns
@@ -29,7 +26,7 @@ pub record IsWalkStored (w : WalkState) (numbers : List ℤ) (slots : ℕ) (most
 
 -- the relations are those of the system's columns over the members
 pub record IsWalkOf (system : LinearSystem) (w : WalkState) : Type 0 where
-  pub held : IsSmallHeld system w.members w.slots w.d w.table w.most
+  pub held : IsSmallHeld system w.members w.basis w.most
   pub room : HasRoom system w.most
 
 -- the variable of slot p is a column, and the numbers name it
@@ -37,13 +34,6 @@ pub record NamesColumn (columns : ℕ) (slots : List ℕ) (numbers : List ℤ) (
   pub within : p < length slots
   pub column : slice_index slots p < columns
   pub named : number_at numbers p ≢ pos 0
-
--- row i, at the set of members, and what the members, the slots and the table hold after the step
-abbrev pub TakenTells : LinearSystem → List ℕ → ℕ → ℕ → List ℕ → List ℕ → ℤ → List ℤ → Taken → Type 0
-TakenTells system members i most members' slots d table Skipped = (members' ≡ members) × IsSkipped system members i × IsSmallHeld system members' slots d table most
-TakenTells system members i most members' slots d table Exchanged = (j : ℕ) × Picks system members i j × AllFit system members (row_variable system i) j
-    × (members' ≡ exchanged members (row_variable system i) j) × IsSmallHeld system members' slots d table most
-TakenTells system members i most members' slots d table Large = Unit {0}
 
 -- what comes of row i at a walk
 abbrev pub WalkTells : LinearSystem → WalkState → ℕ → WalkState → Taken → Type 0

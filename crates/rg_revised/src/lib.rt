@@ -19,6 +19,7 @@ mod row;
 mod starting;
 mod step;
 mod table;
+mod tableau;
 mod value;
 mod walk;
 

@@ -4,8 +4,6 @@ ghost use Rattle.std.specs.Prelude.{◌≡◌, ℕ, ◌<◌, [], ◌∷◌, ◌+
 ghost use Rattle.std.specs.List.Sorted.{IsStrictlyIncreasing};
 ghost use Rattle.rg_linear.specs.Exchange.{exchanged};
 
-use crate::revised::slot_of;
-
 /// The members, and the slot at which each is looked for first.
 #[derive(Drop)]
 pub(crate) struct Members {
@@ -55,4 +53,17 @@ pub(crate) fn slot_from(slots: &[u32], first: u32, variable: u32) -> Option<usiz
         return Some(slot);
     }
     slot_of(slots, variable)
+}
+
+/// The slot of the variable.
+pub(crate) fn slot_of(slots: &[u32], variable: u32) -> Option<usize>
+    ensures found { IfSome result (λ s. (s < length slots.now) × (slice_index slots.now s ≡ variable)) }
+    ensures none { IfNone result (Contains slots.now variable → ⊥) }
+{
+    for (slot, &held) in slots.iter().enumerate() {
+        if held == variable {
+            return Some(slot);
+        }
+    }
+    None
 }

@@ -8,8 +8,7 @@ ghost use Rattle.rg_linear.specs.System.{LinearSystem, row_at as row_of};
 ghost use Rattle.rg_linear.specs.Dictionary.{numbers_from};
 ghost use Rattle.rg_linear.specs.Table.{ShowsRow};
 ghost use Rattle.rg_revised.specs.Basis.{HasNorms};
-ghost use Rattle.rg_revised.specs.State.{IsSmallHeld, HasRoom};
-ghost use Rattle.rg_revised.specs.Walk.{IsWalkOf, NamesColumn, TakenTells, WalkTells};
+ghost use Rattle.rg_revised.specs.Walk.{IsWalkOf, NamesColumn, WalkTells};
 
 use crate::basis::Basis;
 use crate::choosing::is_less;
@@ -39,6 +38,7 @@ pub enum Taken {
 pub struct RevisedWalk {
     basis: Basis,
     members: Members,
+    numbers: Vec<i64>,
     most: i64,
 }
 
@@ -48,9 +48,10 @@ impl Model for RevisedWalk {
 
     ghost Value = { WalkState };
 
-    ghost view = { λ a. record { columns = length a.basis.slots.items; members = a.members.variables.items; slots = a.basis.slots.items; d = a.basis.d; table = a.basis.table.items; most = unsigned_abs a.most } };
+    ghost view = { λ a. record { columns = length a.basis.slots; members = a.members.variables.items; basis = a.basis; most = unsigned_abs a.most } };
 
-    ghost invariant = { λ a. IsWalkStored (record { columns = length a.basis.slots.items; members = a.members.variables.items; slots = a.basis.slots.items; d = a.basis.d; table = a.basis.table.items; most = unsigned_abs a.most }) a.basis.numbers.items (length a.members.slots.items) a.most };
+    ghost invariant = { λ a. IsWalkStored (record { columns = length a.basis.slots; members = a.members.variables.items; basis = a.basis; most = unsigned_abs a.most })
+        a.numbers.items (length a.members.slots.items) a.most };
 }
 
 // Whether a member is a column. Members are in order.
@@ -86,75 +87,21 @@ fn least_column(columns: u32, slots: &[u32], numbers: &[i64]) -> Option<usize>
     best
 }
 
-// Takes row `i`, which has these coefficients.
-fn take_vector(
-    basis: &mut Basis,
-    members: &mut Members,
-    coeffs: &[i128],
-    columns: u32,
-    i: u32,
-    most: i64,
-) -> Taken
-    requires whole { (system : LinearSystem) × IsSmallHeld system members.old.variables.items basis.old.slots.items basis.old.d basis.old.table.items (unsigned_abs most)
-        × HasRoom system (unsigned_abs most) × (i < length system.rows) × ((row_of system i).coeffs ≡ coeffs.now) × ((row_of system i).constant ≡ pos 0) }
-    requires ahead { (m : ℕ) → Contains members.old.variables.items m → m < columns + i }
-    requires slots { length members.old.slots.items ≡ length members.old.variables.items }
-    requires columns { length basis.old.slots.items ≡ columns }
-    requires width { length basis.old.numbers.items ≡ length basis.old.slots.items + 1 }
-    requires each { length coeffs.now ≡ columns }
-    requires few { columns + i < 2 ^ 32 }
-    requires not_negative { pos 0 ≤ℤ most }
-    ensures told { (system : LinearSystem) → IsSmallHeld system members.old.variables.items basis.old.slots.items basis.old.d basis.old.table.items (unsigned_abs most)
-        → HasRoom system (unsigned_abs most) → i < length system.rows → (row_of system i).coeffs ≡ coeffs.now → (row_of system i).constant ≡ pos 0
-        → TakenTells system members.old.variables.items i (unsigned_abs most) members.new.variables.items basis.new.slots.items basis.new.d basis.new.table.items result }
-    ensures members { length members.new.variables.items ≡ length members.old.variables.items }
-    ensures slots { length members.new.slots.items ≡ length members.old.slots.items }
-    ensures columns { length basis.new.slots.items ≡ length basis.old.slots.items }
-    ensures width { length basis.new.numbers.items ≡ length basis.old.numbers.items }
-    ensures size { length basis.new.table.items ≡ length basis.old.table.items }
-{
-    if !has_column(&members.variables, columns) {
-        return Taken::Skipped;
-    }
-    basis.read(coeffs, 0);
-    let Some(p) = least_column(columns, &basis.slots, &basis.numbers) else {
-        return Taken::Skipped;
-    };
-    let leaves = basis.slots[p];
-    if !basis.exchange(p, columns + i, most) {
-        return Taken::Large;
-    }
-    members.replace(leaves, columns + i, p as u32);
-    Taken::Exchanged
-}
-
 impl RevisedWalk {
     /// One for systems of so many columns. It takes all memory that a walk needs. Returns `AllocError` if memory runs out.
     pub fn new(alloc: Global, columns: u32) -> Result<RevisedWalk, AllocError>
         ensures { IfOk result (λ w. w.columns ≡ columns) }
     {
-        let width = columns as usize + 1;
-        let Some(size) = width.checked_mul(columns as usize) else {
-            return Err(AllocError);
-        };
-        let slots = vec![in alloc; 0u32; columns as usize]?;
+        let basis = Basis::new(alloc, columns)?;
         let members = Members {
             variables: vec![in alloc; 0u32; columns as usize]?,
             slots: vec![in alloc; 0u32; columns as usize]?,
         };
-        let table = vec![in alloc; 0i64; size]?;
-        let numbers = vec![in alloc; 0i64; width]?;
-        let basis = Basis {
-            d: 1,
-            slots,
-            table,
-            numbers,
-            constants: Vec::new(alloc),
-            named: Vec::new(alloc),
-        };
+        let numbers = vec![in alloc; 0i64; columns as usize + 1]?;
         Ok(RevisedWalk {
             basis,
             members,
+            numbers,
             most: 0,
         })
     }
@@ -186,22 +133,30 @@ impl RevisedWalk {
         ensures told { (system : LinearSystem) → IsWalkOf system self.old → i < length system.rows → (row_of system i).coeffs ≡ coeffs.now → (row_of system i).constant ≡ pos 0 → WalkTells system self.old i self.new result }
         ensures columns { self.new.columns ≡ self.old.columns }
     {
-        let columns = self.basis.slots.len() as u32;
-        take_vector(
-            &mut self.basis,
-            &mut self.members,
-            coeffs,
-            columns,
-            i,
-            self.most,
-        )
+        let columns = self.basis.columns();
+        if !has_column(&self.members.variables, columns) {
+            return Taken::Skipped;
+        }
+        self.basis.read(coeffs, 0, &mut self.numbers);
+        let Some(p) = least_column(columns, self.basis.slots(), &self.numbers) else {
+            return Taken::Skipped;
+        };
+        let leaves = self.basis.slots()[p];
+        if !self
+            .basis
+            .exchange(p, columns + i, &mut self.numbers, self.most)
+        {
+            return Taken::Large;
+        }
+        self.members.replace(leaves, columns + i, p as u32);
+        Taken::Exchanged
     }
 
     /// How many columns the systems have.
     pub fn columns(&self) -> u32
         ensures { result ≡ self.now.columns }
     {
-        self.basis.slots.len() as u32
+        self.basis.columns()
     }
 
     /// The members of the set, in order.
@@ -221,15 +176,13 @@ impl RevisedWalk {
         ensures length { IfOk result (λ v. length v.items ≡ self.now.columns + 2) }
         ensures in_range { IfOk result (λ v. (n : ℕ) → InRange (number_at v.items n)) }
     {
-        let width = self.basis.slots.len() + 1;
-        let start = t as usize * width;
         primitive_numbers(
             alloc,
             &self.members.variables,
             &self.members.slots,
-            &self.basis.slots,
-            self.basis.d,
-            &self.basis.table[start..start + width],
+            self.basis.slots(),
+            self.basis.d(),
+            self.basis.row(t),
         )
     }
 }

@@ -106,12 +106,14 @@ returns c =
     let same = ap length c.deref-9.ensures.value in
     let numbers : (s : ℕ) → s < length c.in_ok-ends.ends.items → AreNumbers (map (λ r. r.items) c.in_ok-reached.reached.items) (tuple_of (map (λ e. e.items) c.in_ok-ends.ends.items) s) (tuple_of (map (λ t. t.items) c.in_ok-tuples.tuples.items) s) =
     subst (λ xs. (s : ℕ) → s < length xs → AreNumbers (map (λ r. r.items) c.in_ok-reached.reached.items) (tuple_of (map (λ e. e.items) xs) s) (tuple_of (map (λ t. t.items) c.in_ok-tuples.tuples.items) s)) c.deref-9.ensures.value
-    (subst (λ xs. (s : ℕ) → s < length c.deref-9.result.now → AreNumbers (map (λ r. r.items) xs) (tuple_of (map (λ e. e.items) c.deref-9.result.now) s) (tuple_of (map (λ t. t.items) c.in_ok-tuples.tuples.items) s)) c.deref-8.ensures.value c.in_ok-tuples.ensures.numbers) in
-    record {
-      parted = parted;
-      many = choices_are (map (λ r. r.items) c.in_ok-reached.reached.items) ∙ sym (ap product_of sizes) ∙ c.if-not-make.ensures.yes refl ∙ c.states.ensures.value;
-      end_each = length-map c.in_ok-ends.ends.items (λ e. e.items) ∙ long;
-      one_each = length-map c.in_ok-tuples.tuples.items (λ t. t.items) ∙ c.in_ok-tuples.ensures.long ∙ same ∙ long;
-      splits = splits;
-      numbers = λ s lt. numbers s (omega arith);
-    }
+    (subst (λ xs. (s : ℕ) → s < length c.deref-9.result.now → AreNumbers (map (λ r. r.items) xs) (tuple_of (map (λ e. e.items) c.deref-9.result.now) s) (tuple_of (map (λ t. t.items) c.in_ok-tuples.tuples.items) s)) c.deref-8.ensures.value c.in_ok-tuples.ensures.numbers) in (
+      map (λ e. e.items) c.in_ok-ends.ends.items,
+      record {
+        parted = parted;
+        many = choices_are (map (λ r. r.items) c.in_ok-reached.reached.items) ∙ sym (ap product_of sizes) ∙ c.if-not-make.ensures.yes refl ∙ c.states.ensures.value;
+        end_each = length-map c.in_ok-ends.ends.items (λ e. e.items) ∙ long;
+        one_each = length-map c.in_ok-tuples.tuples.items (λ t. t.items) ∙ c.in_ok-tuples.ensures.long ∙ same ∙ long;
+        splits = splits;
+        numbers = λ s lt. numbers s (omega arith);
+      },
+    )

@@ -1,10 +1,15 @@
-use Rattle.std.proofs.Common.{◌<◌, length, ap, subst, sym, ◌∙◌}
+use Rattle.std.proofs.Common.{length, ◌<◌, subst, sym}
 use Rattle.rg_revised.specs.View.{RevisedState}
 use Rattle.rg_revised.specs.Settling.{IsHeldOf}
 use Rattle.rg_revised.proofs.revised.Revised.column.Goals as goal
 
+pub column_value-requires-clause-whole : goal.column_value-requires-clause-whole
+column_value-requires-clause-whole c =
+    let (system, members, held) = c.requires.held in
+    (system, members, subst (λ (r : RevisedState). IsHeldOf system members r) (sym c.self.view_is) held)
+
+pub column_value-requires-clause-column : goal.column_value-requires-clause-column
+column_value-requires-clause-column c = subst (λ (r : RevisedState). c.args.t < length r.tableau.basis.slots) (sym c.self.view_is) c.requires.column
+
 pub returns : goal.returns
-returns c = λ system members held scale v basic.
-    let at = subst (λ (r : RevisedState). IsHeldOf system members r) (sym c.self.view_is) held in
-    c.column_value.ensures system members at.most at.held (subst (λ n. c.args.t < n) (ap (λ (r : RevisedState). length r.slots) (sym c.self.view_is) ∙ at.held.held.count) c.requires.column) scale
-    v basic
+returns c = λ system members held. c.column_value.ensures system members (subst (λ (r : RevisedState). IsHeldOf system members r) (sym c.self.view_is) held)

@@ -1,10 +1,9 @@
-use Rattle.std.proofs.Common.{rules, ◌≡◌, ◌+◌, ◌<◌, length, Contains, refl, subst, sym, ◌∙◌}
+use Rattle.std.proofs.Common.{rules, ◌<◌, Contains, subst, sym}
 use Rattle.std.specs.Prelude.{FitsSigned}
 use Rattle.std.specs.Int.{w64}
 use Rattle.std.proofs.lemmas.Int.{to_z-of_z}
 use Rattle.std.proofs.lemmas.Result.{IfOk-weaker}
 use Rattle.rg_linear.specs.Table.{ShowsRow}
-use Rattle.rg_linear.proofs.TableRows.{part_is}
 use Rattle.rg_revised.specs.Walk.{WalkState, IsWalkOf}
 use Rattle.rg_revised.proofs.Walking.{column_shown}
 use Rattle.rg_revised.proofs.walk.RevisedWalk.numbers.Goals as goal
@@ -13,20 +12,17 @@ pub primitive_numbers-requires-clause-members : goal.primitive_numbers-requires-
 primitive_numbers-requires-clause-members c =
     let (system, is) = c.requires.held in
     let at = subst (λ (w : WalkState). IsWalkOf system w) (sym c.self.view_is) is in
-    rw (c.deref.ensures.value, c.deref-3.ensures.value) (λ m has. (at.held.held.same m).0 has)
+    rw (c.deref.ensures.value, c.slots.ensures) (λ m has. (at.held.held.same m).0 has)
 
 pub returns-clause-shows : goal.returns-clause-shows
 returns-clause-shows c =
-    let b = c.self.inside.basis in
-    let fits : FitsSigned w64 c.self.inside.basis.d = search rules in
-    let count : c.len-width.result ≡ length c.self.inside.basis.slots.items = c.len-width.ensures ∙ c.self.inside.basis.slots.ok.0 in
-    let row = part_is (length b.slots.items + 1) b.table.items b.table.items c.args.t refl in
-    let numbers = rw (c.deref.ensures.value, c.deref-3.ensures.value, c.deref-4.ensures.value, count, to_z-of_z w64 c.self.inside.basis.d fits, row) at c.primitive_numbers.ensures.numbers in
+    let fits : FitsSigned w64 c.d.result = search rules in
+    let numbers = rw (c.deref.ensures.value, c.slots.ensures, to_z-of_z w64 c.d.result fits, c.d.ensures, c.row.ensures.numbers) at c.primitive_numbers.ensures.numbers in
     let lt = subst (λ (w : WalkState). c.args.t < w.columns) (sym c.self.view_is) c.requires.column in
     let lacks = subst (λ (w : WalkState). ¬ Contains w.members c.args.t) (sym c.self.view_is) c.requires.outside in
     IfOk-weaker c.primitive_numbers.result _ _
     (λ v shown system is.
     (let at = subst (λ (w : WalkState). IsWalkOf system w) (sym c.self.view_is) is in
     subst (λ (w : WalkState). ShowsRow system w.members c.args.t v.items) c.self.view_is
-    (column_shown system c.self.inside.members.variables.items b.slots.items b.d b.table.items _ c.args.t v.items at.held lt lacks shown)))
+    (column_shown system c.self.inside.members.variables.items c.self.inside.basis _ c.args.t v.items at.held lt lacks shown)))
     numbers

@@ -1,34 +1,58 @@
-use Rattle.std.proofs.Common.{rules, ◌≡◌, ◌+◌, ◌<◌, ℕ, length, Contains, refl, subst, sym, ◌∙◌}
+use Rattle.std.proofs.Common.{rules, ◌≡◌, length, false, refl, subst, sym, ◌∙◌}
 use Rattle.std.specs.Prelude.{FitsSigned, unsigned_abs}
 use Rattle.std.specs.Int.{w64}
 use Rattle.std.proofs.lemmas.Int.{to_z-of_z}
-use Rattle.rg_revised.specs.Walk.{WalkState, IsWalkOf, WalkTells}
-use Rattle.rg_revised.proofs.WalkStates.{walk_told}
+use Rattle.std.proofs.lemmas.Bool.{false≢true}
+use Rattle.rg_revised.specs.Walk.{IsWalkOf}
+use Rattle.rg_revised.proofs.WalkStates.{takes, walk_can_read, walk_has_none, walk_passes, walk_leaves, walk_exchanged}
 use Rattle.rg_revised.proofs.walk.RevisedWalk.take.Goals as goal
 
-pub take_vector-requires-clause-ahead : goal.take_vector-requires-clause-ahead
-take_vector-requires-clause-ahead c =
-    let count : c.len-columns.result ≡ length c.self.inside.basis.slots.items = c.len-columns.ensures ∙ c.self.inside.basis.slots.ok.0 in
-    rw count (subst (λ (w : WalkState). (m : ℕ) → Contains w.members m → m < w.columns + c.args.i) (sym c.self.view_is) c.requires.ahead)
+pub read-requires-clause-row : goal.read-requires-clause-row
+read-requires-clause-row c =
+    let (system, is, lt, coeffs, constant) = c.requires.whole in
+    walk_can_read _ _ _ _ (takes _ _ _ _ _ c.self.view_is refl is lt coeffs constant c.requires.each c.requires.ahead)
+
+pub exchange-requires-clause-held : goal.exchange-requires-clause-held
+exchange-requires-clause-held c =
+    let fm : FitsSigned w64 c.self.inside.most = search rules in
+    let (system, is, lt, coeffs, constant) = c.requires.whole in
+    let at = subst (IsWalkOf system) (sym c.self.view_is) is in
+    rw (to_z-of_z w64 c.self.inside.most fm) (system, c.self.inside.members.variables.items, at.held)
+
+pub replace-requires-clause-member : goal.replace-requires-clause-member
+replace-requires-clause-member c =
+    let (system, is, lt, coeffs, constant) = c.requires.whole in
+    let named = rw (c.columns-columns.ensures, c.slots.ensures, c.deref-2.ensures.value) at c.in-Some.ensures.is in
+    let t = takes _ _ _ _ _ c.self.view_is refl is lt coeffs constant c.requires.each c.requires.ahead in
+    rw c.slots-2.ensures (walk_leaves _ _ _ _ t _ c.read.ensures.read c.in-Some.p named)
+
+pub replace-requires-clause-last : goal.replace-requires-clause-last
+replace-requires-clause-last c =
+    let (system, is, lt, coeffs, constant) = c.requires.whole in
+    let t = takes _ _ _ _ _ c.self.view_is refl is lt coeffs constant c.requires.each c.requires.ahead in
+    rw c.columns-columns.ensures t.ahead
+
+pub returns-then-not-has_column-clause-told : goal.returns-then-not-has_column-clause-told
+returns-then-not-has_column-clause-told c = λ system is lt coeffs constant.
+    let no : c.has_column.result ≡ false = search rules in
+    let test = rw (c.deref.ensures.value, c.columns-columns.ensures) at c.has_column.ensures in
+    let t = takes _ _ _ _ _ c.self.view_is refl is lt coeffs constant c.requires.each c.requires.ahead in
+    rw (← c.self.view_is) (walk_has_none _ _ _ _ t (λ has. false≢true (sym no ∙ test.1 has)))
+
+pub returns-in_default-clause-told : goal.returns-in_default-clause-told
+returns-in_default-clause-told c = λ system is lt coeffs constant.
+    let none = rw (c.columns-columns.ensures, c.slots.ensures, c.deref-2.ensures.value) at c.in_default.ensures.none in
+    let t = takes _ _ _ _ _ c.self.view_is refl is lt coeffs constant c.requires.each c.requires.ahead in
+    rw (← c.self.view_is) (walk_passes _ _ _ _ t _ c.read.ensures.read none)
 
 pub returns-clause-told : goal.returns-clause-told
 returns-clause-told c = λ system is lt coeffs constant.
-    let fits : FitsSigned w64 c.self.inside.most = search rules in
-    let m = to_z-of_z w64 c.self.inside.most fits in
-    let at = subst (λ (w : WalkState). IsWalkOf system w) (sym c.self.view_is) is in
-    let tells = rw m at c.take_vector.ensures.told in
-    let told = tells system at.held at.room lt coeffs constant in
-    let b = c.take_vector.new.basis in
-    let ms = c.take_vector.new.members in
-    subst (λ (w : WalkState). WalkTells system w c.args.i
-    (record { columns = length b.slots.items; members = ms.variables.items; slots = b.slots.items; d = b.d; table = b.table.items; most = unsigned_abs c.self.inside.most }) c.take_vector.result) c.self.view_is
-    (walk_told system (record {
-      columns = length c.self.inside.basis.slots.items;
-      members = c.self.inside.members.variables.items;
-      slots = c.self.inside.basis.slots.items;
-      d = c.self.inside.basis.d;
-      table = c.self.inside.basis.table.items;
-      most = unsigned_abs c.self.inside.most;
-    })
-    (record { columns = length b.slots.items; members = ms.variables.items; slots = b.slots.items; d = b.d; table = b.table.items; most = unsigned_abs c.self.inside.most }) c.args.i c.take_vector.result refl
-    at.room told)
+    let fm : FitsSigned w64 c.self.inside.most = search rules in
+    let named = rw (c.columns-columns.ensures, c.slots.ensures, c.deref-2.ensures.value) at c.in-Some.ensures.is in
+    let least = rw (c.columns-columns.ensures, c.slots.ensures, c.deref-2.ensures.value) at c.in-Some.ensures.least in
+    let exchange = rw (to_z-of_z w64 c.self.inside.most fm, c.columns-columns.ensures) at c.if-not-exchange.ensures.exchanged refl in
+    let members = rw (c.slots-2.ensures, c.columns-columns.ensures) at c.replace.ensures.exchanged in
+    let t = takes _ _ _ _ _ c.self.view_is refl is lt coeffs constant c.requires.each c.requires.ahead in
+    rw (← c.self.view_is) (walk_exchanged _ _ _ _ t _ c.read.ensures.read c.in-Some.p named least
+    (record { columns = length c.exchange.new.self.slots; members = c.replace.new.self.variables.items; basis = c.exchange.new.self; most = unsigned_abs c.self.inside.most })
+    exchange refl members)

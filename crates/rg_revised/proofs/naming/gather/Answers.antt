@@ -1,0 +1,11 @@
+use Rattle.std.proofs.Common.{◌∙◌}
+use Rattle.rg_revised.proofs.naming.gather.Goals as goal
+
+pub returns-clause-constants : goal.returns-clause-constants
+returns-clause-constants c = record {
+  size = c.copy_constants.ensures.same_length ∙ c.requires.columns;
+  values = c.copy_constants.ensures.values;
+  named_are = c.list_named.ensures.named;
+  inside = c.list_named.ensures.inside;
+  short = c.list_named.ensures.short;
+}
