@@ -14,9 +14,9 @@ ghost use Rattle.rg_grammar.specs.declared.fault.ItemFault.TheVariants.{NoMemory
 
 use crate::position::{
     Position, Section, from_entry, from_list, from_second, from_section, from_start, from_third,
-    from_type, from_word, wanted,
+    from_type, from_word, want_at,
 };
-use rg_grammar::{FoundSetting, ItemFault, ListPosition, Reader, completed, text_of, value_of};
+use rg_grammar::{FoundSetting, ItemFault, ListPosition, Reader, setting_of, text_of, value_of};
 use rg_lexer::{Kind, Token, Want};
 use std::alloc::Global;
 
@@ -171,7 +171,7 @@ impl Found {
             ≡ adds (in_list (section_in section) (list_position_in bytes.now position)) (lexeme bytes.now token) (found_in bytes.now self.old) }
         ensures names { HoldsNames bytes.now self.old → HoldsNames bytes.now self.new }
     {
-        match completed(position, token) {
+        match setting_of(position, token) {
             Some(setting) => {
                 let mark = marks(bytes, setting);
                 self.mark(section, mark);
@@ -260,11 +260,11 @@ impl Reader for Found {
                 Kind::Name => ItemFault::WrongType(token.from),
                 _ => ItemFault::Expected(token.from, Want::Name),
             },
-            _ => ItemFault::Expected(token.from, wanted(position)),
+            _ => ItemFault::Expected(token.from, want_at(position)),
         }
     }
 
     fn end_refusal(position: Position, end: u32) -> ItemFault {
-        ItemFault::Expected(end, wanted(position))
+        ItemFault::Expected(end, want_at(position))
     }
 }

@@ -33,7 +33,7 @@ pub enum Position {
 }
 
 /// What is wanted at a position.
-pub fn wanted(position: Position) -> Want
+pub fn want_at(position: Position) -> Want
     ensures { (bytes : List ℕ) → result ≡ wanted (position_in bytes position) }
 {
     match position {

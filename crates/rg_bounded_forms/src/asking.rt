@@ -48,7 +48,7 @@ fn are_times(numbers: &[i128], factor: i128, others: &[i128]) -> bool
 
 // The scale times a bound, where it is in range.
 #[tactic(auto, using(rg_integers::proofs::Casts::casts))]
-fn scaled(scale: i128, bound: i64) -> Option<i128>
+fn scale_bound(scale: i128, bound: i64) -> Option<i128>
     ensures value { IfSome result (λ z. z ≡ scale *ℤ bound) }
     ensures in_range { IfSome result InRange }
 {
@@ -59,7 +59,7 @@ fn scaled(scale: i128, bound: i64) -> Option<i128>
 fn fits(scale: i128, bound: i64) -> bool
     ensures { IsTrue result → InRange (scale *ℤ bound) }
 {
-    match scaled(scale, bound) {
+    match scale_bound(scale, bound) {
         Some(_) => true,
         None => false,
     }
@@ -102,7 +102,7 @@ fn is_low(system: &System, form: &Bounded) -> bool
     let Ok(product) = whole_product(form.times, rows[form.row as usize].constant) else {
         return false;
     };
-    let Some(low) = scaled(form.scale, form.low) else {
+    let Some(low) = scale_bound(form.scale, form.low) else {
         return false;
     };
     let most = -low;
@@ -118,7 +118,7 @@ fn is_top(system: &System, form: &Bounded, top: Top) -> bool
         return false;
     }
     let row = &rows[top.row as usize];
-    let Some(high) = scaled(form.scale, form.high) else {
+    let Some(high) = scale_bound(form.scale, form.high) else {
         return false;
     };
     let Ok(most) = whole_product(top.times, high) else {

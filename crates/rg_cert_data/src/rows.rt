@@ -39,7 +39,7 @@ fn of_event(lts: &Lts, class: Class, s: u32, t: u32, above: &[Side], name: RowNa
         RowName::Empty => one(Minus(Tokens(s)), 0),
         RowName::Full(q) => one(Plus(Tokens(q)), -1),
         RowName::Keep => one(Minus(Effect(t)), 0),
-        _ => shared(lts, class, above, name),
+        _ => expression_of_shared(lts, class, above, name),
     }
 }
 
@@ -57,7 +57,7 @@ fn of_states(
 {
     match name {
         RowName::Apart => apart(s, other, order),
-        _ => shared(lts, class, above, name),
+        _ => expression_of_shared(lts, class, above, name),
     }
 }
 
@@ -73,7 +73,7 @@ fn apart(s: u32, other: u32, order: u32) -> Expression
 }
 
 // The rows that speak of no problem.
-fn shared(lts: &Lts, class: Class, above: &[Side], name: RowName) -> Expression
+fn expression_of_shared(lts: &Lts, class: Class, above: &[Side], name: RowName) -> Expression
     ensures { expression_of result ≡ shared_expression lts.now class above.now name }
 {
     match name {

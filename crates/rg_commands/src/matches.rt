@@ -16,7 +16,7 @@ pub(crate) fn command_in(words: &[String]) -> Result<Command, Usage>
     let Some(name) = words.first() else {
         return Err(Usage::NoCommand);
     };
-    Command::named(name.as_str()).ok_or(Usage::UnknownCommand)
+    Command::from_name(name.as_str()).ok_or(Usage::UnknownCommand)
 }
 
 // What `clap` makes of the words of the command, of which the first is its name.

@@ -23,7 +23,7 @@ pub(crate) enum Command {
 
 impl Command {
     // The command of this name.
-    pub(crate) fn named(name: &str) -> Option<Command>
+    pub(crate) fn from_name(name: &str) -> Option<Command>
         ensures { result ≡ command_named name.now }
     {
         match name {

@@ -9,7 +9,7 @@ ghost use Rattle.rg_integers.specs.Term.{term_value, FitsTerm};
 ghost use Rattle.rg_dictionary.specs.Renewal.{RowInRange, RowIsShort, ShortBetween, IsSigned, AreNamedIndices, RenewsBetween, FirstBetween, renewal_term, IsRenewed, FirstOfRow, moved, IsExchangedRow, IsTurned};
 
 use rg_fraction::reduce;
-use rg_integers::{Wide, negated};
+use rg_integers::{Wide, negate};
 
 /// An index of a row whose term is out of range, or the term's number, and its four numbers.
 #[derive(Clone, Copy, PartialEq, Eq, Debug)]
@@ -216,7 +216,7 @@ fn renew_last(row: &mut [i128], pivot: &[i128], p: usize) -> Result<(), RowWide>
     ensures others { (n : ℕ) → n ≢ p → number_at row.new n ≡ number_at row.old n }
     ensures in_range { RowInRange row.new }
 {
-    let c = negated(pivot[0]);
+    let c = negate(pivot[0]);
     let last = Wide {
         a: 0,
         b: pivot[p],
@@ -349,7 +349,7 @@ fn turn(row: &mut [i128], pivot: &[i128], p: usize)
     ensures in_range { RowInRange row.new }
 {
     for n in 0..row.len() {
-        let z = negated(pivot[n]);
+        let z = negate(pivot[n]);
         row[n] = z;
     }
     row[0] = pivot[p];

@@ -17,13 +17,13 @@ pub(crate) fn divide_numbers(
     ensures parts { IfOk result (λ v. IsParts (numbers.now ++ more.now) v.items) }
     ensures in_range { IfOk result (λ v. All InRange v.items) }
 {
-    let mut parts = joined(alloc, numbers, more)?;
+    let mut parts = chain_numbers(alloc, numbers, more)?;
     reduce(&mut parts);
     Ok(parts)
 }
 
 // The numbers of both lists.
-fn joined(alloc: Global, numbers: &[i128], more: &[i128]) -> Result<Vec<i128>, AllocError>
+fn chain_numbers(alloc: Global, numbers: &[i128], more: &[i128]) -> Result<Vec<i128>, AllocError>
     ensures { IfOk result (λ v. v.items ≡ numbers.now ++ more.now) }
 {
     numbers.iter().chain(more).copied().collect(alloc)

@@ -9,7 +9,7 @@ ghost use Rattle.rg_integers.specs.Term.{term_value};
 
 use crate::divisor::{quotient, split};
 use crate::order::compare;
-use rg_integers::{Wide, difference, negated, product};
+use rg_integers::{Wide, difference, negate, product};
 use std::cmp::Ordering;
 
 /// A rational number: a numerator and a denominator in range, without a common factor, the
@@ -42,8 +42,8 @@ fn from_reduced(top: i128, bottom: i128) -> Fraction
     ensures { ((result.numerator ≡ top) × (result.denominator ≡ bottom)) ⊎ ((result.numerator ≡ neg_ℤ top) × (result.denominator ≡ neg_ℤ bottom)) }
 {
     if bottom < 0 {
-        let numerator = negated(top);
-        let denominator = negated(bottom);
+        let numerator = negate(top);
+        let denominator = negate(bottom);
         return Fraction {
             numerator,
             denominator,
@@ -125,7 +125,7 @@ impl Fraction {
         requires second { InRange m }
         ensures { IsSum n (pos 1) m (pos 1) result }
     {
-        let c = negated(m);
+        let c = negate(m);
         match difference(n, c) {
             Some(z) => Ok(Fraction::whole(z)),
             None => Err(Wide {
@@ -165,7 +165,7 @@ impl Fraction {
             return Fraction::whole_sum(self.numerator, o.numerator);
         }
         let (d, e) = split(self.denominator, o.denominator);
-        let m = negated(o.numerator);
+        let m = negate(o.numerator);
         Fraction::over(
             Wide {
                 a: self.numerator,
@@ -194,7 +194,7 @@ impl Fraction {
         ensures top { numerator_of result ≡ neg_ℤ (numerator_of self) }
         ensures bottom { denominator_of result ≡ denominator_of self }
     {
-        let numerator = negated(self.numerator);
+        let numerator = negate(self.numerator);
         Fraction {
             numerator,
             denominator: self.denominator,

@@ -20,7 +20,7 @@ pub(crate) enum Form<'a> {
 }
 
 // The line up to its comment.
-fn uncommented(line: &[u8]) -> &[u8]
+fn without_comment(line: &[u8]) -> &[u8]
     ensures { result.now ≡ uncommented line.entry.now }
 {
     &line[..len_before(line, b'#')]
@@ -31,7 +31,7 @@ pub(crate) fn space_braces(alloc: Global, line: &[u8]) -> Result<Vec<u8>, AllocE
     ensures { IfOk result (λ text. text.items ≡ flat_map apart (uncommented line.now)) }
 {
     let mut text = Vec::new(alloc);
-    for b in uncommented(line) {
+    for b in without_comment(line) {
         push_apart(&mut text, *b)?;
     }
     Ok(text)

@@ -139,7 +139,7 @@ fn alone(key: Token, token: Token) -> Option<FoundSetting>
 }
 
 // The option that a token completes after `=`.
-fn valued(key: Token, token: Token) -> Option<FoundSetting>
+fn setting_of_value(key: Token, token: Token) -> Option<FoundSetting>
     ensures setting { (bytes : List ℕ) → option_map (setting_in bytes) result ≡ completed (table.value (lexeme bytes key)) (lexeme bytes token) }
     ensures holds { (bytes : List ℕ) → IsTokenOf bytes token → IsNameOf bytes key → IfSome result (HoldsSetting bytes) }
 {
@@ -151,7 +151,7 @@ fn valued(key: Token, token: Token) -> Option<FoundSetting>
 }
 
 /// The option that a token completes at a position of an option list, if it completes one.
-pub fn completed(position: ListPosition, token: Token) -> Option<FoundSetting>
+pub fn setting_of(position: ListPosition, token: Token) -> Option<FoundSetting>
     ensures setting { (bytes : List ℕ) → option_map (setting_in bytes) result ≡ completed (list_position_in bytes position) (lexeme bytes token) }
     ensures holds { (bytes : List ℕ) → IsTokenOf bytes token → HoldsKey bytes position → IfSome result (HoldsSetting bytes) }
 {
@@ -159,7 +159,7 @@ pub fn completed(position: ListPosition, token: Token) -> Option<FoundSetting>
         ListPosition::FirstKey => None,
         ListPosition::NextKey => None,
         ListPosition::AfterKey(key) => alone(key, token),
-        ListPosition::Value(key) => valued(key, token),
+        ListPosition::Value(key) => setting_of_value(key, token),
         ListPosition::AfterValue => None,
     }
 }

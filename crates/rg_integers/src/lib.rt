@@ -11,7 +11,7 @@ ghost use Rattle.rg_integers.specs.Divisor.{gcd_of, int_gcd, IsGcdBelow};
 ghost use Rattle.rg_integers.specs.Value.{SameValue, IsReducedForm};
 ghost use Rattle.rg_integers.specs.Sum.{number_at, dot, sum_below};
 
-pub use term::{Wide, difference, negated, product, value};
+pub use term::{Wide, difference, negate, product, value};
 
 /// The greatest number in range, `2^127 - 1`.
 pub const GREATEST: i128 = i128::MAX;

@@ -45,7 +45,7 @@ fn short_product(a: i64, b: i64) -> i128
 
 /// The negative, which is in range too.
 #[inline(always)]
-pub fn negated(z: i128) -> i128
+pub fn negate(z: i128) -> i128
     requires { InRange z }
     ensures value { result ≡ neg_ℤ z }
     ensures in_range { InRange result }

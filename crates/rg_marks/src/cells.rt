@@ -19,7 +19,7 @@ pub(crate) fn finer(
     if are_same_within(cells, tokens) {
         return Ok(None);
     }
-    let refined = refined(alloc, cells, tokens)?;
+    let refined = refine_cells(alloc, cells, tokens)?;
     if refined.as_slice() == cells {
         return Ok(None);
     }
@@ -42,7 +42,7 @@ fn are_same_within(cells: &[u32], tokens: &[u128]) -> bool
 }
 
 // The cells after the tokens of one more place: each is numbered by the first of its states.
-fn refined(alloc: Global, cells: &[u32], tokens: &[u128]) -> Result<Vec<u32>, AllocError>
+fn refine_cells(alloc: Global, cells: &[u32], tokens: &[u128]) -> Result<Vec<u32>, AllocError>
     requires same { length cells.now ≡ length tokens.now }
     requires few { length cells.now < 4294967296 }
     ensures { IfOk result (λ refined. AreRefined cells.now tokens.now refined.items) }

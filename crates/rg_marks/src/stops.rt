@@ -14,13 +14,13 @@ pub(crate) fn no_marks(alloc: Global, lts: &Lts) -> Result<Vec<Vec<bool>>, Alloc
 {
     let mut rows = Vec::new(alloc);
     for _ in 0..lts.labels() {
-        rows.push(unmarked(alloc, lts.states())?)?;
+        rows.push(empty_row(alloc, lts.states())?)?;
     }
     Ok(rows)
 }
 
 // So many states without marks.
-fn unmarked(alloc: Global, states: u32) -> Result<Vec<bool>, AllocError>
+fn empty_row(alloc: Global, states: u32) -> Result<Vec<bool>, AllocError>
     ensures { IfOk result (λ row. row.items ≡ replicate states false) }
 {
     vec![in alloc; false; states as usize]

@@ -19,8 +19,8 @@ pub fn same_text(alloc: Global, a: &Lts, b: &Lts, same: &Same) -> Result<Vec<u8>
 {
     match same {
         Same::Map(states) => map_text(alloc, a, b, states),
-        Same::Label(file, t) => label_text(alloc, *file, numbered(a, b, *file), *t),
-        Same::Step(file, s, t) => single_step_text(alloc, *file, numbered(a, b, *file), *s, *t),
+        Same::Label(file, t) => label_text(alloc, *file, system_of(a, b, *file), *t),
+        Same::Step(file, s, t) => single_step_text(alloc, *file, system_of(a, b, *file), *s, *t),
         Same::Target(s, t) => target_text(alloc, a, *s, *t),
     }
 }
@@ -31,7 +31,7 @@ pub fn comparison_has_names()
 {}
 
 // Of two systems the one of the file with this number.
-fn numbered<'l>(a: &'l Lts, b: &'l Lts, file: u8) -> &'l Lts
+fn system_of<'l>(a: &'l Lts, b: &'l Lts, file: u8) -> &'l Lts
     ensures { result.now ≡ numbered_of a.now b.now file }
 {
     if file == 1 { a } else { b }

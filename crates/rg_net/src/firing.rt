@@ -58,7 +58,7 @@ pub fn fire(alloc: Global, net: &Net, marking: &[u128], t: u32) -> Result<Vec<u1
     if let Some(p) = first_passed(net, marking, t) {
         return Err(FireStop::Passes(p));
     }
-    Ok(moved(alloc, net, marking, t)?)
+    Ok(marking_after(alloc, net, marking, t)?)
 }
 
 // The first place that would get more tokens than are in range.
@@ -72,7 +72,7 @@ fn first_passed(net: &Net, marking: &[u128], t: u32) -> Option<u32>
 {
     let places = net.places();
     for (i, place) in places.iter().enumerate() {
-        if left(place, marking[i], t) > GREATEST as u128 {
+        if tokens_after(place, marking[i], t) > GREATEST as u128 {
             return Some(i as u32);
         }
     }
@@ -80,7 +80,12 @@ fn first_passed(net: &Net, marking: &[u128], t: u32) -> Option<u32>
 }
 
 // The marking after the firing, which stays in range.
-fn moved(alloc: Global, net: &Net, marking: &[u128], t: u32) -> Result<Vec<u128>, AllocError>
+fn marking_after(
+    alloc: Global,
+    net: &Net,
+    marking: &[u128],
+    t: u32,
+) -> Result<Vec<u128>, AllocError>
     requires enabled { IsEnabled net.now marking.now t }
     requires places { length marking.now ≡ length net.now.places }
     requires label { t < net.now.labels }
@@ -92,13 +97,13 @@ fn moved(alloc: Global, net: &Net, marking: &[u128], t: u32) -> Result<Vec<u128>
     let places = net.places();
     let mut after = Vec::with_capacity(alloc, places.len())?;
     for (i, place) in places.iter().enumerate() {
-        after.push(left(place, marking[i], t))?;
+        after.push(tokens_after(place, marking[i], t))?;
     }
     Ok(after)
 }
 
 // What a firing of the label leaves on a place with so many tokens.
-fn left(place: &Place, tokens: u128, t: u32) -> u128
+fn tokens_after(place: &Place, tokens: u128, t: u32) -> u128
     requires place { IsPlaceInRange (shown_place place.now) }
     requires pre { t < length place.now.pre.items }
     requires post { t < length place.now.post.items }

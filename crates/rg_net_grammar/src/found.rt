@@ -14,10 +14,10 @@ ghost use Rattle.rg_grammar.specs.declared.fault.ItemFault.TheVariants.{NoMemory
 
 use crate::position::{
     Position, Section, from_before_set, from_entry, from_flow_name, from_flows, from_list,
-    from_pre, from_section, from_start, from_type, from_word, wanted,
+    from_pre, from_section, from_start, from_type, from_word, want_at,
 };
 use crate::set_position::{SetPosition, Side, from_set, set_refusal};
-use rg_grammar::{FoundSetting, ItemFault, ListPosition, Reader, completed, text_of};
+use rg_grammar::{FoundSetting, ItemFault, ListPosition, Reader, setting_of, text_of};
 use rg_lexer::{Kind, Token, Want};
 use std::alloc::Global;
 
@@ -103,7 +103,7 @@ fn alone(name: Token, token: Token) -> Option<FoundMember>
 }
 
 // The member that a token completes after its number and `*`.
-fn counted_member(number: Token, token: Token) -> Option<FoundMember>
+fn member_of_count(number: Token, token: Token) -> Option<FoundMember>
     ensures member { (bytes : List ℕ) → option_map (member_in bytes) result ≡ member_by (table.after_star (lexeme bytes number)) token.kind (lexeme bytes token) }
     ensures holds { (bytes : List ℕ) → IsTokenOf bytes token → IsNumberOf bytes number → IfSome result (IsMemberOf bytes) }
 {
@@ -117,13 +117,13 @@ fn counted_member(number: Token, token: Token) -> Option<FoundMember>
 }
 
 // The member that a token completes at a position of a set, if it completes one.
-fn completed_member(position: SetPosition, token: Token) -> Option<FoundMember>
+fn member_of(position: SetPosition, token: Token) -> Option<FoundMember>
     ensures member { (bytes : List ℕ) → option_map (member_in bytes) result ≡ member_by (set_position_in bytes position) token.kind (lexeme bytes token) }
     ensures holds { (bytes : List ℕ) → IsTokenOf bytes token → HoldsMember bytes position → IfSome result (IsMemberOf bytes) }
 {
     match position {
         SetPosition::AfterName(name) => alone(name, token),
-        SetPosition::AfterStar(number) => counted_member(number, token),
+        SetPosition::AfterStar(number) => member_of_count(number, token),
         _ => None,
     }
 }
@@ -232,7 +232,7 @@ impl Found {
             ≡ adds (table.in_list (section_in section) (list_position_in bytes.now position)) (lexeme bytes.now token) (progress_in bytes.now self.old) }
         ensures names { HoldsNames bytes.now self.old → HoldsNames bytes.now self.new }
     {
-        match completed(position, token) {
+        match setting_of(position, token) {
             Some(setting) => self.option(bytes, section, setting),
             None => {}
         }
@@ -266,7 +266,7 @@ impl Found {
         ensures names { OnOk result ((bytes : List ℕ) → IsTokenOf bytes token → HoldsMember bytes position → HoldsNames bytes self.old → HoldsNames bytes self.new) }
         ensures err { IfErr result (λ e. e ≡ NoMemory) }
     {
-        match completed_member(position, token) {
+        match member_of(position, token) {
             Some(member) => self.member(side, member)?,
             None => {}
         }
@@ -362,11 +362,11 @@ impl Reader for Found {
                 _ => ItemFault::Expected(token.from, Want::Name),
             },
             Position::InSet(_, position) => set_refusal(position, token),
-            _ => ItemFault::Expected(token.from, wanted(position)),
+            _ => ItemFault::Expected(token.from, want_at(position)),
         }
     }
 
     fn end_refusal(position: Position, end: u32) -> ItemFault {
-        ItemFault::Expected(end, wanted(position))
+        ItemFault::Expected(end, want_at(position))
     }
 }

@@ -33,7 +33,7 @@ pub(crate) fn row_after(alloc: Global, flow: &[Flow], row: &[u128]) -> Result<Ve
 {
     let mut after = Vec::from_slice(alloc, row)?;
     for f in flow {
-        let tokens = left(f, row);
+        let tokens = tokens_after(f, row);
         if tokens > GREATEST as u128 {
             return Err(FireStop::Passes(f.place));
         }
@@ -58,7 +58,7 @@ pub(crate) fn leads(flow: &[Flow], from: &[u128], to: &[u128]) -> bool
         if from[place] < f.pre {
             return false;
         }
-        if to[place] != left(f, from) {
+        if to[place] != tokens_after(f, from) {
             return false;
         }
         start = place + 1;
@@ -77,7 +77,7 @@ fn are_same(from: &[u128], to: &[u128], start: usize, end: usize) -> bool
 }
 
 // What a firing leaves on a place of the list.
-fn left(f: &Flow, row: &[u128]) -> u128
+fn tokens_after(f: &Flow, row: &[u128]) -> u128
     requires place { f.now.place < length row.now }
     requires enough { f.now.pre ≤ slice_index row.now f.now.place }
     requires tokens { slice_index row.now f.now.place ≤ greatest }

@@ -109,14 +109,14 @@ fn fire_along(
         Ok(row) => Ok(row),
         Err(FireStop::NoMemory) => Err(Halt::Stop(CheckStop::NoMemory)),
         Err(FireStop::Passes(place)) => {
-            let wide = shown(net, source, a, place);
+            let wide = wide_of(net, source, a, place);
             Err(Halt::Stop(CheckStop::Wide(wide)))
         }
     }
 }
 
 // What is shown of the firing that passes on the place.
-fn shown(net: &Net, source: &[u128], a: &Arc, place: u32) -> CheckWide
+fn wide_of(net: &Net, source: &[u128], a: &Arc, place: u32) -> CheckWide
     requires enabled { IsEnabled net.now source.now a.now.label }
     requires places { length source.now ≡ length net.now.places }
     requires label { a.now.label < net.now.labels }

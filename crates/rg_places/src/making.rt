@@ -17,9 +17,9 @@ ghost use Rattle.rg_case_parts.specs.SettingViews.{shown_setting};
 
 use crate::columns::columns_with;
 use crate::effects::effects;
-use crate::numbers::{along_tree, shifted};
-use crate::weights::{put, sizes, taken, whole_sizes};
-use crate::whole::made_whole;
+use crate::numbers::{along_tree, shift_and_lift};
+use crate::weights::{post_weights, pre_weights, sizes, whole_sizes};
+use crate::whole::make_whole;
 use rg_case_parts::{Setting, has_start, used_labels};
 use rg_fraction::{FoldStop, Fraction};
 use rg_lts::Lts;
@@ -61,7 +61,7 @@ pub fn make_place(
     let Setting { lts, class, .. } = setting;
     let found = found_numbers(alloc, setting, point)?;
     let numbers = along_tree(alloc, lts, setting.tree.arcs(), &found)?;
-    let numbers = shifted(alloc, lts, class, problem, numbers)?;
+    let numbers = shift_and_lift(alloc, lts, class, problem, numbers)?;
     place_of(alloc, lts, class, problem, &found, &numbers)
 }
 
@@ -88,7 +88,7 @@ fn found_numbers(
     let columns = columns_with(alloc, lts, basis, &used, values)?;
     let mut numbers = effects(alloc, lts, basis, &used, &columns)?;
     numbers.push(start)?;
-    made_whole(alloc, class, numbers)
+    make_whole(alloc, class, numbers)
 }
 
 // Start, and the values of the free labels.
@@ -119,8 +119,8 @@ fn place_of(
     ensures comes { Comes (weights_fold lts.now class problem (ratios_of found.now) (ratios_of numbers.now)) (λ r. shown_place r.place) result }
     ensures tokens { IfOk result (λ r. r.tokens.items ≡ map (λ n. unsigned_abs n.top) (ratios_of numbers.now)) }
 {
-    let taken = taken(alloc, lts, class, problem, numbers, found)?;
-    let put = put(alloc, &taken, found)?;
+    let taken = pre_weights(alloc, lts, class, problem, numbers, found)?;
+    let put = post_weights(alloc, &taken, found)?;
     let pre = sizes(alloc, &taken)?;
     let post = sizes(alloc, &put)?;
     let tokens = whole_sizes(alloc, numbers)?;

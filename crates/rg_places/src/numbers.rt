@@ -41,7 +41,7 @@ pub(crate) fn along_tree(
 
 // The numbers, moved so that the least is 0 where the class asks that, and then moved back where the start has to be a
 // multiple.
-pub(crate) fn shifted(
+pub(crate) fn shift_and_lift(
     alloc: Global,
     lts: &Lts,
     class: Class,
@@ -51,20 +51,24 @@ pub(crate) fn shifted(
     requires { length numbers.items ≡ states lts.now }
     ensures { Comes (shift_fold lts.now class problem (ratios_of numbers.items)) (λ shifted. ratios_of shifted.items) result }
 {
-    let moved = moved(alloc, class, numbers)?;
+    let moved = shift_by_least(alloc, class, numbers)?;
     lift(alloc, lts, class, problem, moved)
 }
 
 // In a class that isn't bounded, and is plain or not pure, the numbers less the least of them, and in others the
 // numbers.
-fn moved(alloc: Global, class: Class, numbers: Vec<Fraction>) -> Result<Vec<Fraction>, FoldStop>
+fn shift_by_least(
+    alloc: Global,
+    class: Class,
+    numbers: Vec<Fraction>,
+) -> Result<Vec<Fraction>, FoldStop>
     ensures { Comes (either (is_shifted class) (each (λ m. add m (negated (least_of (ratios_of numbers.items)))) (ratios_of numbers.items)) (gives (ratios_of numbers.items))) (λ moved. ratios_of moved.items) result }
 {
     if !is_shifted(class) {
         return Ok(numbers);
     }
     let by = least(&numbers);
-    lowered(alloc, &numbers, by)
+    subtract_from_each(alloc, &numbers, by)
 }
 
 // In a problem of two states of a plain class without bound the numbers and what is missing at the start, which is to
@@ -84,7 +88,7 @@ fn lift(
     }
     let start = numbers[lts.initial() as usize].numerator().unsigned_abs();
     let by = missing(class.marking.unwrap_or(1), start);
-    raised(alloc, &numbers, whole_number(by))
+    add_to_each(alloc, &numbers, whole_number(by))
 }
 
 // Whether the start has to be moved back to a multiple: in a problem of two states of a plain class without bound.
@@ -123,7 +127,11 @@ fn is_shifted(class: Class) -> bool
 }
 
 // Each number less so much.
-fn lowered(alloc: Global, numbers: &[Fraction], by: Fraction) -> Result<Vec<Fraction>, FoldStop>
+fn subtract_from_each(
+    alloc: Global,
+    numbers: &[Fraction],
+    by: Fraction,
+) -> Result<Vec<Fraction>, FoldStop>
     ensures { Comes (each (λ m. add m (negated (ratio_of by))) (ratios_of numbers.now)) (λ lowered. ratios_of lowered.items) result }
 {
     let mut lowered = Vec::with_capacity(alloc, numbers.len())?;
@@ -135,7 +143,7 @@ fn lowered(alloc: Global, numbers: &[Fraction], by: Fraction) -> Result<Vec<Frac
 }
 
 // Each number and so much.
-fn raised(alloc: Global, numbers: &[Fraction], by: Fraction) -> Result<Vec<Fraction>, FoldStop>
+fn add_to_each(alloc: Global, numbers: &[Fraction], by: Fraction) -> Result<Vec<Fraction>, FoldStop>
     ensures { Comes (each (λ m. add m (ratio_of by)) (ratios_of numbers.now)) (λ raised. ratios_of raised.items) result }
 {
     let mut raised = Vec::with_capacity(alloc, numbers.len())?;

@@ -20,7 +20,7 @@ use std::alloc::{AllocError, Global};
 
 // What each label takes: as much as its effect takes away, and the event's label as much as stops it. `numbers` has
 // the tokens of the states, `found` the effects of the labels.
-pub(crate) fn taken(
+pub(crate) fn pre_weights(
     alloc: Global,
     lts: &Lts,
     class: Class,
@@ -36,7 +36,7 @@ pub(crate) fn taken(
 {
     let mut taken = take_by_effects(alloc, &found[..lts.labels() as usize])?;
     if let Problem::Event(_, t) = problem {
-        taken[t as usize] = taken_to_stop(alloc, lts, class, numbers, found[t as usize], t)?;
+        taken[t as usize] = pre_weight_to_stop(alloc, lts, class, numbers, found[t as usize], t)?;
     }
     Ok(taken)
 }
@@ -45,11 +45,11 @@ pub(crate) fn taken(
 fn take_by_effects(alloc: Global, effects: &[Fraction]) -> Result<Vec<i128>, AllocError>
     ensures { IfOk result (λ pre. pre.items ≡ map (λ e. taken_by_effect (numerator_of e)) effects.now) }
 {
-    effects.iter().map(|e| taken_by_effect(*e)).collect(alloc)
+    effects.iter().map(|e| pre_weight(*e)).collect(alloc)
 }
 
 // What a label with this effect takes at least.
-fn taken_by_effect(effect: Fraction) -> i128
+fn pre_weight(effect: Fraction) -> i128
     ensures value { result ≡ taken_by_effect (numerator_of effect) }
     ensures in_range { InRange result }
 {
@@ -58,7 +58,7 @@ fn taken_by_effect(effect: Fraction) -> i128
 }
 
 // What the event's label t with this effect takes.
-fn taken_to_stop(
+fn pre_weight_to_stop(
     alloc: Global,
     lts: &Lts,
     class: Class,
@@ -101,7 +101,11 @@ fn numbers_left(
 }
 
 // What each label puts: what it takes, and its effect.
-pub(crate) fn put(alloc: Global, taken: &[i128], found: &[Fraction]) -> Result<Vec<i128>, FoldStop>
+pub(crate) fn post_weights(
+    alloc: Global,
+    taken: &[i128],
+    found: &[Fraction],
+) -> Result<Vec<i128>, FoldStop>
     requires lengths { length taken.now ≤ length found.now }
     requires in_range { All InRange taken.now }
     ensures { Comes (each (λ u. whole_sum (number_at taken.now u) (top_at (ratios_of found.now) u)) (all_numbers (length taken.now))) (λ post. post.items) result }

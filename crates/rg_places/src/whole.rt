@@ -12,7 +12,7 @@ use std::alloc::Global;
 
 // In a class that is neither plain nor bounded the numbers times their least common denominator, and then times the
 // marking that the class asks, and in others the numbers.
-pub(crate) fn made_whole(
+pub(crate) fn make_whole(
     alloc: Global,
     class: Class,
     numbers: Vec<Fraction>,

@@ -64,7 +64,7 @@ impl Divisor {
         }
         match self.product_quotient(n) {
             Some(quotient) => Some(quotient),
-            None => divided(n, self.value),
+            None => divide_exactly(n, self.value),
         }
     }
 
@@ -98,7 +98,7 @@ impl Divisor {
 }
 
 // The quotient by division, where there is no rest.
-fn divided(n: i64, by: i64) -> Option<i64>
+fn divide_exactly(n: i64, by: i64) -> Option<i64>
     requires positive { pos 0 <ℤ by }
     requires above_least { unsigned_abs n < 2 ^ 63 }
     ensures value { IfSome result (λ q. by *ℤ q ≡ n) }

@@ -32,7 +32,7 @@ fn joint_factor(number: i64, factor: i128) -> i128
 }
 
 /// The quotient of a number by a factor that divides it.
-pub(crate) fn divided(number: i64, factor: i128) -> i128
+pub(crate) fn divide_by_factor(number: i64, factor: i128) -> i128
     requires positive { pos 0 <ℤ factor }
     requires divides { unsigned_abs factor ∣ unsigned_abs number }
     requires in_range { InRange factor }

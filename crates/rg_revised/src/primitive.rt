@@ -9,7 +9,7 @@ ghost use Rattle.rg_linear.specs.Table.{numbers_of};
 ghost use Rattle.rg_revised.specs.Held.{AreDistinct, relation_of};
 ghost use Rattle.rg_revised.specs.Settling.{IsCommonFactor};
 
-use crate::factor::{common_factor, divided};
+use crate::factor::{common_factor, divide_by_factor};
 use crate::members::slot_from;
 use std::alloc::{AllocError, Global};
 
@@ -32,7 +32,7 @@ fn primitive_number(
     let Some(slot) = slot_from(slots, first, variable) else {
         unreachable!()
     };
-    divided(row[slot], factor)
+    divide_by_factor(row[slot], factor)
 }
 
 /// The numbers of the primitive relation: `d`, the constant, and those of the members in order, where the row has a number for
@@ -55,8 +55,8 @@ pub(crate) fn primitive_numbers(
 {
     let factor = common_factor(d, row);
     let mut numbers = Vec::new(alloc);
-    numbers.push(divided(d, factor))?;
-    numbers.push(divided(row[slots.len()], factor))?;
+    numbers.push(divide_by_factor(d, factor))?;
+    numbers.push(divide_by_factor(row[slots.len()], factor))?;
     for (index, &member) in members.iter().enumerate() {
         let first = firsts[index];
         let number = primitive_number(member, first, slots, d, row, factor);

@@ -13,7 +13,7 @@ ghost use Rattle.rg_revised.specs.State.{HasRoom};
 ghost use Rattle.rg_revised.specs.Settling.{IsHeldOf, IsRefutedAt, IsDescent};
 
 use crate::descent::{Descent, descend};
-use crate::factor::divided;
+use crate::factor::divide_by_factor;
 use crate::tableau::Tableau;
 use crate::value::{column_value, row_value};
 use rg_fraction::Fraction;
@@ -161,10 +161,10 @@ impl Revised {
             unreachable!()
         };
         if row == failing {
-            return divided(self.tableau.d(), self.factor);
+            return divide_by_factor(self.tableau.d(), self.factor);
         }
         match self.tableau.number_of(self.tableau.columns() + row) {
-            Some(number) => -divided(number, self.factor),
+            Some(number) => -divide_by_factor(number, self.factor),
             None => 0,
         }
     }

@@ -22,7 +22,7 @@ fn short_term(a: i64, b: i64, c: i64, d: i64) -> i128
 }
 
 // The number, where its size is at most `most`.
-fn kept_within(z: i128, most: i64) -> Option<i64>
+fn keep_in_range(z: i128, most: i64) -> Option<i64>
     requires in_range { InRange z }
     requires not_negative { pos 0 ≤ℤ most }
     ensures value { IfSome result (λ q. q ≡ z) }
@@ -95,7 +95,7 @@ fn long_divided_term(a: i64, b: i64, c: i64, d: i64, by: Divisor, most: i64) -> 
     ensures within { IfSome result (λ q. unsigned_abs q ≤ unsigned_abs most) }
 {
     match by.exact_quotient(short_term(a, b, c, d)) {
-        Some(q) => match kept_within(q, most) {
+        Some(q) => match keep_in_range(q, most) {
             Some(z) => Some(z),
             None => None,
         },
@@ -104,7 +104,7 @@ fn long_divided_term(a: i64, b: i64, c: i64, d: i64, by: Divisor, most: i64) -> 
 }
 
 // (a*b - c*d) / by, where there is no rest and the size is at most `most`. Numbers that are short are multiplied in 64 bits.
-fn divided_term(a: i64, b: i64, c: i64, d: i64, by: Divisor, most: i64) -> Option<i64>
+fn divide_term(a: i64, b: i64, c: i64, d: i64, by: Divisor, most: i64) -> Option<i64>
     requires positive { pos 0 <ℤ by.value }
     requires not_negative { pos 0 ≤ℤ most }
     ensures value { IfSome result (λ q. by.value *ℤ q ≡ (a *ℤ b) -ℤ (c *ℤ d)) }
@@ -118,7 +118,7 @@ fn divided_term(a: i64, b: i64, c: i64, d: i64, by: Divisor, most: i64) -> Optio
 }
 
 // The same, where the size of `a` is at most `most` already: nothing is computed where it stays.
-fn renewed_number(a: i64, b: i64, c: i64, d: i64, by: Divisor, most: i64) -> Option<i64>
+fn renew_number(a: i64, b: i64, c: i64, d: i64, by: Divisor, most: i64) -> Option<i64>
     requires positive { pos 0 <ℤ by.value }
     requires not_negative { pos 0 ≤ℤ most }
     requires small { unsigned_abs a ≤ unsigned_abs most }
@@ -128,11 +128,11 @@ fn renewed_number(a: i64, b: i64, c: i64, d: i64, by: Divisor, most: i64) -> Opt
     if c == 0 && b == by.value {
         return Some(a);
     }
-    divided_term(a, b, c, d, by, most)
+    divide_term(a, b, c, d, by, most)
 }
 
 // The number, or its negative.
-fn signed(z: i64, negative: bool, most: i64) -> i64
+fn with_sign(z: i64, negative: bool, most: i64) -> i64
     requires small { unsigned_abs z ≤ unsigned_abs most }
     requires not_negative { pos 0 ≤ℤ most }
     ensures value { result ≡ (if negative then neg_ℤ z else z) }
@@ -160,12 +160,12 @@ fn renew_each(
     let size = pivot[p];
     let leaving = row[p];
     for n in 0..row.len() {
-        match renewed_number(row[n], size, pivot[n], leaving, d, most) {
+        match renew_number(row[n], size, pivot[n], leaving, d, most) {
             Some(q) => row[n] = q,
             None => return false,
         }
     }
-    row[p] = signed(leaving, negative, most);
+    row[p] = with_sign(leaving, negative, most);
     true
 }
 
@@ -207,7 +207,7 @@ fn renew_few(row: &mut [i64], few: &Few, pivot: &[i64], leaving: i64, d: Divisor
 {
     for k in 0..few.count {
         let n = few.indices[k];
-        match divided_term(row[n], d.value, pivot[n], leaving, d, most) {
+        match divide_term(row[n], d.value, pivot[n], leaving, d, most) {
             Some(q) => row[n] = q,
             None => return false,
         }
@@ -234,6 +234,6 @@ pub(crate) fn renew_row_at(row: &mut [i64], pivot: &Pivot, d: Divisor, most: i64
     if !renew_few(row, &pivot.few, pivot.numbers, leaving, d, most) {
         return false;
     }
-    row[pivot.p] = signed(leaving, pivot.negative, most);
+    row[pivot.p] = with_sign(leaving, pivot.negative, most);
     true
 }

@@ -108,7 +108,7 @@ fn rows(
     for number in 0..kind.rows(setting.lts, setting.class) {
         let expression = kind.expression(setting.lts, setting.class, number);
         let name = kind.name(number);
-        rows.push(written(row(alloc, setting, columns, name, &expression))?)?;
+        rows.push(wide_or_no_memory(row(alloc, setting, columns, name, &expression))?)?;
     }
     Ok(rows)
 }
@@ -128,13 +128,13 @@ fn terms(
     let mut terms = Vec::new(alloc);
     for number in 0..kind.forms(setting.lts, setting.class) {
         let expression = kind.expression(setting.lts, setting.class, number);
-        terms.push(written(form_terms(alloc, setting, columns, &expression))?)?;
+        terms.push(wide_or_no_memory(form_terms(alloc, setting, columns, &expression))?)?;
     }
     Ok(terms)
 }
 
 // What was written, or the step out of range that it came to; an error where there is no memory.
-fn written<T: Drop>(fold: Result<T, FoldStop>) -> Result<Result<T, Wide>, AllocError>
+fn wide_or_no_memory<T: Drop>(fold: Result<T, FoldStop>) -> Result<Result<T, Wide>, AllocError>
     ensures { IfOk result (λ w. fold ≡ or_wide w) }
 {
     match fold {

@@ -20,7 +20,7 @@ ghost use Rattle.rg_cert_meaning.specs.declared.Form.TheVariants as split_form;
 use crate::case_row::CaseRow;
 use crate::common::Common;
 use crate::form_terms::FormTerms;
-use crate::held_row::{HeldRow, said};
+use crate::held_row::{HeldRow, case_expression};
 use crate::named_form::NamedForm;
 use crate::rewriting::form_terms;
 use rg_case_parts::CaseSetting;
@@ -186,7 +186,7 @@ fn terms_in_case(
         Some(Ok(terms)) => Ok(share_terms(terms)?),
         Some(Err(wide)) => Err(FoldStop::Wide(*wide)),
         None => {
-            let said = said(c, name);
+            let said = case_expression(c, name);
             form_terms(alloc, c.setting, &common.columns, &said)
         }
     }

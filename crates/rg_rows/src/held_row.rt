@@ -57,7 +57,7 @@ pub(crate) fn row_in_case<'a>(
         Some(Ok(row)) => Ok(HeldRow::Common(row)),
         Some(Err(wide)) => Err(FoldStop::Wide(*wide)),
         None => {
-            let said = said(c, name);
+            let said = case_expression(c, name);
             let own = row(alloc, c.setting, &common.columns, name, &said)?;
             Ok(HeldRow::Own(own))
         }
@@ -65,7 +65,7 @@ pub(crate) fn row_in_case<'a>(
 }
 
 // What the named row says in the case.
-pub(crate) fn said(c: CaseSetting<'_>, name: RowName) -> Expression
+pub(crate) fn case_expression(c: CaseSetting<'_>, name: RowName) -> Expression
     ensures { expression_of result ≡ row_expression c.entry.setting.lts.now c.entry.setting.class c.entry.problem c.entry.number [] name }
 {
     expression(c.setting.lts, c.problem_case(), &[], name)

@@ -49,7 +49,7 @@ pub(crate) fn row(
     let scaled = over_columns(alloc, setting, columns, expression)?;
     let multiple = Fraction::new(scaled.multiple, 1);
     let constant = Fraction::new(expression.constant, 1).mul(multiple)?;
-    divided(alloc, name, scaled, constant.numerator())
+    divide_by_common(alloc, name, scaled, constant.numerator())
 }
 
 // The terms over the columns, without denominators: in whole numbers if the relations of their labels allow it.
@@ -147,7 +147,7 @@ fn with_numbers(scaled: Scaled) -> Result<FormTerms, AllocError>
 }
 
 // The numbers and the constant, divided by their greatest common divisor; zeros are not divided.
-fn divided(
+fn divide_by_common(
     alloc: Global,
     name: RowName,
     scaled: Scaled,
@@ -162,7 +162,7 @@ fn divided(
     numbers.push(constant)?;
     let divisor = row_gcd(&numbers);
     reduce(&mut numbers);
-    let (coeffs, constant) = parted(alloc, &numbers)?;
+    let (coeffs, constant) = split_constant(alloc, &numbers)?;
     let norm = norm(&coeffs, constant);
     let idle = always_holds(&coeffs, constant);
     let numbers = RowNumbers::new(numbers)?;
@@ -185,7 +185,7 @@ fn always_holds(coeffs: &[i128], constant: i128) -> bool
 }
 
 // All numbers but the last, and the last.
-fn parted(alloc: Global, numbers: &[i128]) -> Result<(ArcSlice<i128>, i128), AllocError>
+fn split_constant(alloc: Global, numbers: &[i128]) -> Result<(ArcSlice<i128>, i128), AllocError>
     requires { 0 < length numbers.now }
     ensures { IfOk result (λ r. arc_slice_items r.0 ++ r.1 ∷ [] ≡ numbers.now) }
 {

@@ -11,8 +11,8 @@ ghost use Rattle.rg_separate.specs.Deciding.{CaseTells, CaseComesTo};
 ghost use Rattle.rg_separate.specs.View.{shown_of};
 ghost use Rattle.rg_separate.specs.Passing.{passed_at, pivot_at};
 
-use crate::placing::placed;
-use crate::refuting::refuted;
+use crate::placing::place_answer;
+use crate::refuting::refutation_answer;
 use crate::sides::named_triples;
 use crate::workspace::Workspace;
 use rg_branch::{Bounded, BranchStop, Solver, Whole};
@@ -50,7 +50,7 @@ pub(crate) fn solve_case(
         Ok(named) => branch_on_forms(alloc, &mut workspace.solver, c, &named),
         Err(FoldStop::Wide(wide)) => {
             let above = Vec::new(alloc);
-            Ok(CaseAnswer::Wide(passed(alloc, Stage::Row, c, above, wide)))
+            Ok(CaseAnswer::Wide(wide_case(alloc, Stage::Row, c, above, wide)))
         }
         Err(FoldStop::NoMemory) => Err(AllocError),
     }
@@ -70,10 +70,10 @@ fn branch_on_forms(
     ensures comes { IfOk result (CaseComesTo c.entry) }
     ensures columns { solver.new ≡ solver.old }
 {
-    let forms = bounded(alloc, named)?;
+    let forms = bounded_forms(alloc, named)?;
     match solver.solve_whole(alloc, &named.system, &forms) {
-        Ok(Whole::Point(point, above)) => placed(alloc, c, named, &point, &above),
-        Ok(Whole::Tree(nodes)) => refuted(alloc, c, named, &nodes),
+        Ok(Whole::Point(point, above)) => place_answer(alloc, c, named, &point, &above),
+        Ok(Whole::Tree(nodes)) => refutation_answer(alloc, c, named, &nodes),
         Err(
             BranchStop::Wide {
                 above,
@@ -82,14 +82,14 @@ fn branch_on_forms(
             },
         ) => {
             let above = named_triples(alloc, &named.forms, &above)?;
-            Ok(CaseAnswer::Wide(stopped(c, above, members, wide)))
+            Ok(CaseAnswer::Wide(wide_pivot(c, above, members, wide)))
         }
         Err(BranchStop::NoMemory) => Err(AllocError),
     }
 }
 
 // The forms as a branching takes them.
-fn bounded(alloc: Global, named: &NamedSystem) -> Result<Vec<Bounded>, AllocError>
+fn bounded_forms(alloc: Global, named: &NamedSystem) -> Result<Vec<Bounded>, AllocError>
     requires { AreFormsOf named.now.system named.now.forms.items }
     ensures forms { IfOk result (λ v. forms_of v.items ≡ forms_in named.now) }
     ensures can { IfOk result (λ v. CanBranch named.now.system v.items) }
@@ -109,7 +109,7 @@ fn bounded(alloc: Global, named: &NamedSystem) -> Result<Vec<Bounded>, AllocErro
 }
 
 // The first step of a fold that is out of range, below these sides.
-pub(crate) fn passed(
+pub(crate) fn wide_case(
     alloc: Global,
     stage: Stage,
     c: CaseSetting<'_>,
@@ -133,7 +133,7 @@ pub(crate) fn passed(
 }
 
 // The term of an exchange that is out of range, below these sides and at this set.
-fn stopped(
+fn wide_pivot(
     c: CaseSetting<'_>,
     above: Vec<(Form, i64, bool)>,
     members: Vec<u32>,

@@ -4,7 +4,7 @@ ghost use Rattle.rg_branch.specs.Answer.{IsFoundPoint, IsWholeSolution};
 ghost use Rattle.rg_separate.specs.Casing.{IsCase, IsNamedSystem, forms_in};
 ghost use Rattle.rg_separate.specs.Deciding.{CaseTells, CaseComesTo};
 
-use crate::case::{CaseAnswer, passed};
+use crate::case::{CaseAnswer, wide_case};
 use crate::sides::named_triples;
 use rg_branch_trees::Side;
 use rg_case_parts::CaseSetting;
@@ -15,7 +15,7 @@ use rg_rows::NamedSystem;
 use std::alloc::{AllocError, Global};
 
 // The place of the point at which the branching has ended, below these splits.
-pub(crate) fn placed(
+pub(crate) fn place_answer(
     alloc: Global,
     c: CaseSetting<'_>,
     named: &NamedSystem,
@@ -33,7 +33,7 @@ pub(crate) fn placed(
         Ok(region) => Ok(CaseAnswer::Place(region)),
         Err(FoldStop::Wide(wide)) => {
             let above = named_triples(alloc, &named.forms, above)?;
-            Ok(CaseAnswer::Wide(passed(alloc, Stage::Place, c, above, wide)))
+            Ok(CaseAnswer::Wide(wide_case(alloc, Stage::Place, c, above, wide)))
         }
         Err(FoldStop::NoMemory) => Err(AllocError),
     }

@@ -10,7 +10,7 @@ ghost use Rattle.rg_branch.specs.Answer.{IsSplitTree};
 ghost use Rattle.rg_separate.specs.Casing.{IsCase, IsNamedSystem, forms_in, VisitStands, next_sides, IsMadeOf, LeafPasses};
 ghost use Rattle.rg_separate.specs.Deciding.{CaseTells, CaseComesTo};
 
-use crate::case::{CaseAnswer, passed};
+use crate::case::{CaseAnswer, wide_case};
 use crate::shares::shares;
 use crate::sides::{named_sides, named_triples};
 use rg_branch::RawNode;
@@ -23,7 +23,7 @@ use rg_rows::NamedSystem;
 use std::alloc::{AllocError, Global};
 
 // The tree with which the branching has ended, node by node in preorder.
-pub(crate) fn refuted(
+pub(crate) fn refutation_answer(
     alloc: Global,
     c: CaseSetting<'_>,
     named: &NamedSystem,
@@ -42,7 +42,7 @@ pub(crate) fn refuted(
             Ok(node) => made.push(node)?,
             Err(FoldStop::Wide(wide)) => {
                 let above = named_triples(alloc, &named.forms, &above)?;
-                return Ok(CaseAnswer::Wide(passed(alloc, Stage::Spread, c, above, wide)));
+                return Ok(CaseAnswer::Wide(wide_case(alloc, Stage::Spread, c, above, wide)));
             }
             Err(FoldStop::NoMemory) => return Err(AllocError),
         }

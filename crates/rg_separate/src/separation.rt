@@ -121,9 +121,9 @@ pub fn separate_with_firsts<R: Threads + Sync, G: Gate + Sync>(
                 class,
             };
             let common = Common::new(alloc, setting)?;
-            separated(rt, alloc, setting, common, jobs, gate)
+            separate_setting(rt, alloc, setting, common, jobs, gate)
         }
-        Err(Stop::Wide(wide)) => Ok(SeparationWithFirsts::TooWide(stopped(alloc, wide))),
+        Err(Stop::Wide(wide)) => Ok(SeparationWithFirsts::TooWide(wide_cycle(alloc, wide))),
         Err(Stop::NoMemory) => Err(NoMemory),
     }
 }
@@ -142,7 +142,7 @@ impl SeparationWithFirsts {
 }
 
 // What all problems come to.
-fn separated<R: Threads + Sync, G: Gate + Sync>(
+fn separate_setting<R: Threads + Sync, G: Gate + Sync>(
     rt: &R,
     alloc: Global,
     setting: Setting<'_>,
@@ -186,7 +186,7 @@ fn separated<R: Threads + Sync, G: Gate + Sync>(
     match outcome {
         SeparationOutcome::Separated => Ok(SeparationWithFirsts::Places(kept.places, kept.firsts)),
         SeparationOutcome::Unsolvable(refuted) => certify(problems, &mut workspace, refuted, proof),
-        SeparationOutcome::TooWide(left) => shown(problems, &mut workspace, left),
+        SeparationOutcome::TooWide(left) => solve_again(problems, &mut workspace, left),
     }
 }
 
@@ -212,11 +212,11 @@ fn certify(
             }));
         }
     }
-    shown(problems, workspace, problem)
+    solve_again(problems, workspace, problem)
 }
 
 // The certificate of a refuted problem, or the term that a problem shows: it is solved once more, and comes to the same.
-fn shown(
+fn solve_again(
     problems: Problems<'_>,
     workspace: &mut Workspace,
     problem: Problem,
@@ -238,7 +238,7 @@ fn shown(
 }
 
 // The term of the walk over the chords.
-fn stopped(alloc: Global, wide: CycleWide) -> WideAt
+fn wide_cycle(alloc: Global, wide: CycleWide) -> WideAt
     ensures { shown_of result ≡ cycle_passed wide }
 {
     WideAt {

@@ -2,7 +2,7 @@
 ghost use Rattle.std.specs.Prelude.{IfOk};
 ghost use Rattle.rg_spanning.specs.Spanning.{AreArcsOf};
 
-use crate::growth::{Growth, grown};
+use crate::growth::{Growth, grow_tree};
 use rg_lts::Lts;
 use rg_memory::NoMemory;
 use rg_theory::Arc;
@@ -26,7 +26,7 @@ impl TreeArcs {
             order: _,
             arcs,
             entries: parents,
-        } = grown(alloc, lts)?;
+        } = grow_tree(alloc, lts)?;
         Ok(TreeArcs { arcs, parents })
     }
 }

@@ -18,7 +18,7 @@ pub(crate) struct Growth {
 }
 
 // The whole tree of the system.
-pub(crate) fn grown(alloc: Global, lts: &Lts) -> Result<Growth, AllocError>
+pub(crate) fn grow_tree(alloc: Global, lts: &Lts) -> Result<Growth, AllocError>
     ensures growing { IfOk result (λ g. IsGrowing lts.now g.order.items g.arcs.items g.entries.items) }
     ensures tree { IfOk result (λ g. IsTree lts.now g.arcs.items) }
 {

@@ -8,7 +8,7 @@ ghost use Rattle.rg_spanning.specs.declared.tree.GrowStop.TheVariants as stop;
 
 use crate::chords::beside;
 use crate::counts::count_rows;
-use crate::growth::{Growth, first_unmet, grown};
+use crate::growth::{Growth, first_unmet, grow_tree};
 use crate::table::Table;
 use rg_lts::Lts;
 use rg_theory::Arc;
@@ -72,7 +72,7 @@ impl Tree {
         ensures all_reachable { IfOk result (λ _. IsAllReachable lts.now) }
         ensures unreachable { (s : ℕ) → IsErrOf result (stop.Unreachable s) → IsLeastUnreachable lts.now s }
     {
-        let growth = grown(alloc, lts)?;
+        let growth = grow_tree(alloc, lts)?;
         if let Some(s) = first_unmet(lts, &growth) {
             return Err(GrowStop::Unreachable(s));
         }

@@ -2,7 +2,7 @@
 ghost use Rattle.std.specs.Prelude.{◌<◌};
 
 use rg_grammar::{
-    FoundSetting, ListPosition, ListStep, completed, list_lead, list_wanted, name_of, text_of,
+    FoundSetting, ListPosition, ListStep, list_lead, list_wanted, name_of, setting_of, text_of,
     value_of,
 };
 use rg_lexer::{Kind, Token, Want, tokens};
@@ -44,6 +44,6 @@ fn option_lists(rt: HostRuntime) {
     );
     assert!(rt; list_lead(ListPosition::NextKey, comma) == None);
     assert!(rt; list_wanted(ListPosition::NextKey) == Want::Key);
-    assert!(rt; completed(ListPosition::AfterKey(key), comma) == Some(FoundSetting::Alone(key)));
-    assert!(rt; completed(ListPosition::Value(key), key) == Some(FoundSetting::Valued(key, key)));
+    assert!(rt; setting_of(ListPosition::AfterKey(key), comma) == Some(FoundSetting::Alone(key)));
+    assert!(rt; setting_of(ListPosition::Value(key), key) == Some(FoundSetting::Valued(key, key)));
 }

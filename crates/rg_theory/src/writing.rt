@@ -14,7 +14,7 @@ pub fn class_text(alloc: Global, class: Class) -> Result<Vec<u8>, NoMemory>
     ensures { IfOk result (λ text. text.items ≡ class_text class) }
 {
     let mut text = Vec::new(alloc);
-    let conditions = asked(class);
+    let conditions = condition_list(class);
     for condition in &conditions {
         if let Some(condition) = condition {
             push_condition(&mut text, *condition)?;
@@ -28,7 +28,7 @@ pub fn class_text(alloc: Global, class: Class) -> Result<Vec<u8>, NoMemory>
 }
 
 // What the class asks, in the order of its text.
-fn asked(class: Class) -> [Option<Condition>; 5]
+fn condition_list(class: Class) -> [Option<Condition>; 5]
     ensures { result ≡ asked class }
 {
     [

@@ -56,14 +56,14 @@ pub fn run<R: Threads + Sync, H: Shelf, O: Sink, E: Sink, G: Gate + Sync>(
         Err(Stop::NoMemory) => return Status::NoMemory,
     };
     match output_of(alloc, made) {
-        Ok(Output::Out(status, text)) => written(out, status, &text),
-        Ok(Output::Err(status, line)) => written(err, status, &line),
+        Ok(Output::Out(status, text)) => write_output(out, status, &text),
+        Ok(Output::Err(status, line)) => write_output(err, status, &line),
         Err(_) => Status::NoMemory,
     }
 }
 
 // Writes the bytes, and returns the status, or that a write failed.
-fn written<S: Sink>(sink: &mut S, status: Status, bytes: &[u8]) -> Status
+fn write_output<S: Sink>(sink: &mut S, status: Status, bytes: &[u8]) -> Status
     ensures { IsWritten (writes S.taken S.faults S.gives sink.old sink.new) bytes.now status result }
 {
     match write_all(sink, bytes) {

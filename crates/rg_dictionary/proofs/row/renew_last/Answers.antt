@@ -14,8 +14,8 @@ returns-in-Ok-clause-last c =
     let s = back (number_at c.args.pivot.now c.args.p) (c.requires.pivot_in_range c.args.p (omega arith)) in
     let l = back (number_at c.args.row.now c.args.p) (c.requires.in_range c.args.p c.requires.index) in
     let k = back (number_at c.args.pivot.now 0) (c.requires.pivot_in_range 0 (omega arith)) in
-    let n = back c.negated-c.result c.negated-c.ensures.in_range in
-    let v = rw k at c.negated-c.ensures.value in
+    let n = back c.negate-c.result c.negate-c.ensures.in_range in
+    let v = rw k at c.negate-c.ensures.value in
     let h = rw (s, n, l, v) at (c.in-Ok.ensures {u = tt}) in
     let fits : InRange c.in-Ok.z = subst InRange (sym h.1) h.0.difference in
     let z = back c.in-Ok.z fits in
@@ -26,7 +26,7 @@ pub returns-in-Ok-clause-in_range : goal.returns-in-Ok-clause-in_range
 returns-in-Ok-clause-in_range c =
     let s = back (number_at c.args.pivot.now c.args.p) (c.requires.pivot_in_range c.args.p (omega arith)) in
     let l = back (number_at c.args.row.now c.args.p) (c.requires.in_range c.args.p c.requires.index) in
-    let n = back c.negated-c.result c.negated-c.ensures.in_range in
+    let n = back c.negate-c.result c.negate-c.ensures.in_range in
     let h = rw (s, n, l) at (c.in-Ok.ensures {u = tt}) in
     let fits : InRange c.in-Ok.z = subst InRange (sym h.1) h.0.difference in
     let z = back c.in-Ok.z fits in
@@ -37,8 +37,8 @@ returns-in-Err-clause-last c =
     let s = back (number_at c.args.pivot.now c.args.p) (c.requires.pivot_in_range c.args.p (omega arith)) in
     let l = back (number_at c.args.row.now c.args.p) (c.requires.in_range c.args.p c.requires.index) in
     let k = back (number_at c.args.pivot.now 0) (c.requires.pivot_in_range 0 (omega arith)) in
-    let n = back c.negated-c.result c.negated-c.ensures.in_range in
-    let v = rw k at c.negated-c.ensures.value in
+    let n = back c.negate-c.result c.negate-c.ensures.in_range in
+    let v = rw k at c.negate-c.ensures.value in
     let h = rw (s, n, l, v) at (c.in-Err.ensures {u = tt}) in
     let e = last_number c.args.pivot.now c.args.row.now c.args.p c.requires.after_constant c.requires.index in
     (omega arith, (λ f. h.0 (subst FitsTerm h.1 f)), h.1 ∙ sym e)

@@ -10,12 +10,12 @@ use Rattle.rg_dictionary.proofs.row.turn.Goals as goal
 pub loop-n-preserved : goal.loop-n-preserved
 loop-n-preserved c =
     let x = back (number_at c.args.pivot.now c.loop-n.n) (c.requires.pivot_in_range c.loop-n.n (omega arith)) in
-    let z = back c.negated-z.result c.negated-z.ensures.in_range in
-    let e = rw x at c.negated-z.ensures.value in
+    let z = back c.negate-z.result c.negate-z.ensures.in_range in
+    let e = rw x at c.negate-z.ensures.value in
     let lt : c.loop-n.n < length c.loop-n.row = omega arith in
     record {
       done = below_set (λ k v. v ≡ neg_ℤ (number_at c.args.pivot.now k)) c.loop-n.row c.loop-n.n _ lt c.loop-n.invariant.done (rw z e);
-      in_range = below_set (λ k v. InRange v) c.loop-n.row c.loop-n.n _ lt c.loop-n.invariant.in_range (rw z c.negated-z.ensures.in_range);
+      in_range = below_set (λ k v. InRange v) c.loop-n.row c.loop-n.n _ lt c.loop-n.invariant.in_range (rw z c.negate-z.ensures.in_range);
     }
 
 pub returns-clause-turned : goal.returns-clause-turned

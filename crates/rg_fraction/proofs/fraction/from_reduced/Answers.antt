@@ -15,14 +15,14 @@ pub invariant_of-result : goal.invariant_of-result
 invariant_of-result c =
     let t = back c.args.top c.requires.top_in_range in
     let b = back c.args.bottom c.requires.bottom_in_range in
-    let x = back c.negated-numerator.result c.negated-numerator.ensures.in_range in
-    let y = back c.negated-denominator.result c.negated-denominator.ensures.in_range in
-    let m = rw t at c.negated-numerator.ensures.value in
-    let n = rw b at c.negated-denominator.ensures.value in
+    let x = back c.negate-numerator.result c.negate-numerator.ensures.in_range in
+    let y = back c.negate-denominator.result c.negate-denominator.ensures.in_range in
+    let m = rw t at c.negate-numerator.ensures.value in
+    let n = rw b at c.negate-denominator.ensures.value in
     let h = rw b at c.if-bottom-lt0.true in
     record {
-      numerator_in_range = rw x c.negated-numerator.ensures.in_range;
-      denominator_in_range = rw y c.negated-denominator.ensures.in_range;
+      numerator_in_range = rw x c.negate-numerator.ensures.in_range;
+      denominator_in_range = rw y c.negate-denominator.ensures.in_range;
       positive = rw (y, n) (turned c.args.bottom h);
       reduced = rw (x, y, m, n) (IsGcd-neg c.args.top c.args.bottom 1 c.requires.reduced);
     }

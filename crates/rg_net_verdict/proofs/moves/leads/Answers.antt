@@ -13,7 +13,7 @@ pub loop-f-preserved : goal.loop-f-preserved
 loop-f-preserved c =
     agree_more c.args.flow.now c.args.from.now c.args.to.now c.requires.listed c.loop-f.f-index c.loop-f.start c.loop-f.invariant no_flow c.loop-f-test.true
     (c.are_same.ensures.0 c.if-not-are_same.false) c.if-from-place.false
-    (c.if-to-place.false ∙ c.left.ensures)
+    (c.if-to-place.false ∙ c.tokens_after.ensures)
 
 pub returns : goal.returns
 returns c = (

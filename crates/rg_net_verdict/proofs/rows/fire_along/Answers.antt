@@ -6,8 +6,8 @@ use Rattle.rg_net_verdict.proofs.rows.fire_along.Goals as goal
 pub row_after-requires-clause-tokens : goal.row_after-requires-clause-tokens
 row_after-requires-clause-tokens c = tokens_of c.args.net.now c.args.a.now.label c.args.flow.now c.requires.flow c.args.source.now c.requires.enabled
 
-pub shown-wide-requires-clause-passed : goal.shown-wide-requires-clause-passed
-shown-wide-requires-clause-passed c =
+pub wide_of-wide-requires-clause-passed : goal.wide_of-wide-requires-clause-passed
+wide_of-wide-requires-clause-passed c =
     let was : c.row_after.result ≡ Err (Passes c.in-Err-Passes.place) = cc in
     passed_by c.args.net.now c.args.a.now.label c.args.flow.now c.requires.flow c.args.source.now c.in-Err-Passes.place c.requires.in_range c.requires.places (c.row_after.ensures.passes c.in-Err-Passes.place was)
 

@@ -34,7 +34,7 @@ returns-clause-comes c =
     let made = rw c.deref-3.ensures.value at c.in_ok-numbers.ensures in
     let numbers = ap ratios_of c.in_ok-push.ensures.items ∙ map-append ratio_of c.in_ok-numbers.numbers.items _ ∙ ap (λ r. effects ++ r ∷ []) c.start_and_values.ensures.start in
     comes_by (made_whole s.class (ratios_of c.push.new.self.items)) (found_fold s.lts s.basis s.class start values) (λ (v : Vec Fraction Global). ratios_of v.items)
-    c.made_whole.result c.made_whole.ensures
+    c.make_whole.result c.make_whole.ensures
     (λ r h. effects_make s.lts s.basis s.class start values effects
     (subst (λ f. each (effect_fold s.lts s.basis f) (all_numbers (labels s.lts)) (Ok effects)) value made) r
     (subst (λ l. made_whole s.class l r) numbers h))
@@ -44,5 +44,5 @@ returns-clause-length c =
     let s = shown_setting c.args.setting in
     let start = point_start s.class c.args.point.now in
     let values = point_value s.lts s.basis s.class c.args.point.now in
-    comes_value (found_fold s.lts s.basis s.class start values) (λ (v : Vec Fraction Global). ratios_of v.items) _ c.made_whole.result (returns-clause-comes c)
+    comes_value (found_fold s.lts s.basis s.class start values) (λ (v : Vec Fraction Global). ratios_of v.items) _ c.make_whole.result (returns-clause-comes c)
     (λ v h. sym (length-map v.items ratio_of) ∙ found_length s.lts s.basis s.class start values (ratios_of v.items) h)

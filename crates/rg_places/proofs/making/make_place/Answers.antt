@@ -92,8 +92,8 @@ returns-clause-region c =
     (λ r h t live solves. region_made s c.args.problem c.args.point.now r (ratios_of c.in_ok-numbers-2.numbers.items) c.requires.columns live solves made h t count)
     (comes_value (place_fold s c.args.problem start values) (λ (r : RegionPlace). shown_place r.place) _ c.place_of.result (returns-clause-comes c) (λ r h. h)) tokens
 
-pub shifted-requires : goal.shifted-requires
-shifted-requires c =
+pub shift_and_lift-requires : goal.shift_and_lift-requires
+shift_and_lift-requires c =
     let s = shown_setting c.args.setting in
     let start = point_start s.class c.args.point.now in
     let values = point_value s.lts s.basis s.class c.args.point.now in

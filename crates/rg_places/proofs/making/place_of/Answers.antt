@@ -9,8 +9,8 @@ use Rattle.rg_case_folds.proofs.Comes.{comes_unless}
 use Rattle.rg_places.proofs.WeightSteps.{tokens_at, tokens_are, pre_length, put_fails, place_done}
 use Rattle.rg_places.proofs.making.place_of.Goals as goal
 
-pub put-requires-clause-lengths : goal.put-requires-clause-lengths
-put-requires-clause-lengths c =
+pub post_weights-requires-clause-lengths : goal.post_weights-requires-clause-lengths
+post_weights-requires-clause-lengths c =
     let pre = pre_length c.args.lts.now c.args.class c.args.problem (ratios_of c.args.found.now) (ratios_of c.args.numbers.now) c.in_ok-taken.taken.items c.in_ok-taken.ensures.value in
     let found = c.requires.found in
     let le : length c.in_ok-taken.taken.items ≤ length c.args.found.now = omega arith in

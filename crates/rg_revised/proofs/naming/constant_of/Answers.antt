@@ -17,16 +17,16 @@ overflow_cast-constant c =
     let fk : FitsSigned w128 c.args.constant = search rules in
     rw (to_z-of_z w128 c.args.constant fk) (constant_fits norm most c.args.coeffs.now c.args.constant small)
 
-pub added-sum-requires-clause-product : goal.added-sum-requires-clause-product
-added-sum-requires-clause-product c =
+pub add_product-sum-requires-clause-product : goal.add_product-sum-requires-clause-product
+add_product-sum-requires-clause-product c =
     let (norm, most, small, within, dw) = c.requires.small in
     let fk : FitsSigned w128 c.args.constant = search rules in
     let fd : FitsSigned w64 c.args.d = search rules in
     rw (to_z-of_z w128 c.args.constant fk, to_z-of_z w64 c.args.constant (constant_fits norm most c.args.coeffs.now c.args.constant small), to_z-of_z w64 c.args.d fd)
     (first_fits norm most c.args.coeffs.now c.args.constants.now c.args.constant c.args.d c.args.named.now small c.requires.named c.requires.columns within dw)
 
-pub added-sum-requires-clause-sum : goal.added-sum-requires-clause-sum
-added-sum-requires-clause-sum c =
+pub add_product-sum-requires-clause-sum : goal.add_product-sum-requires-clause-sum
+add_product-sum-requires-clause-sum c =
     let (norm, most, small, within, dw) = c.requires.small in
     let fk : FitsSigned w128 c.args.constant = search rules in
     let fd : FitsSigned w64 c.args.d = search rules in
@@ -38,11 +38,11 @@ loop-k-init c =
     let (norm, most, small, within, dw) = c.requires.small in
     let fk : FitsSigned w128 c.args.constant = search rules in
     let fd : FitsSigned w64 c.args.d = search rules in
-    let fz : FitsSigned w64 c.added-sum.result = search rules in
+    let fz : FitsSigned w64 c.add_product-sum.result = search rules in
     let k = to_z-of_z w128 c.args.constant fk in
     let d = to_z-of_z w64 c.args.d fd in
-    rw (to_z-of_z w64 c.added-sum.result fz, k, d)
-    (rw (k, to_z-of_z w64 c.args.constant (constant_fits norm most c.args.coeffs.now c.args.constant small), d) at c.added-sum.ensures)
+    rw (to_z-of_z w64 c.add_product-sum.result fz, k, d)
+    (rw (k, to_z-of_z w64 c.args.constant (constant_fits norm most c.args.coeffs.now c.args.constant small), d) at c.add_product-sum.ensures)
 
 pub bounds-coeffs-t : goal.bounds-coeffs-t
 bounds-coeffs-t c = subst (λ n. get_or c.args.named.now c.loop-k.k 0 < n) c.requires.columns
@@ -60,8 +60,8 @@ overflow_cast-coeffs c =
     rw (to_z-of_z w128 (number_at c.args.coeffs.now (get_or c.args.named.now c.loop-k.k 0)) fa)
     (coefficient_fits norm most c.args.coeffs.now c.args.constant small (get_or c.args.named.now c.loop-k.k 0) lt)
 
-pub added-sum-requires-in-loop-k-clause-product : goal.added-sum-requires-in-loop-k-clause-product
-added-sum-requires-in-loop-k-clause-product c =
+pub add_product-sum-requires-in-loop-k-clause-product : goal.add_product-sum-requires-in-loop-k-clause-product
+add_product-sum-requires-in-loop-k-clause-product c =
     let (norm, most, small, within, dw) = c.requires.small in
     let inside = c.requires.inside (get_or c.args.named.now c.loop-k.k 0) (member_at c.args.named.now c.loop-k.k c.loop-k-test.true) in
     let lt = subst (λ n. get_or c.args.named.now c.loop-k.k 0 < n) c.requires.columns inside in
@@ -75,8 +75,8 @@ added-sum-requires-in-loop-k-clause-product c =
     )
     (term_fits norm most c.args.coeffs.now c.args.constant small (get_or c.args.named.now c.loop-k.k 0) _ lt (within (get_or c.args.named.now c.loop-k.k 0) inside))
 
-pub added-sum-requires-in-loop-k-clause-sum : goal.added-sum-requires-in-loop-k-clause-sum
-added-sum-requires-in-loop-k-clause-sum c =
+pub add_product-sum-requires-in-loop-k-clause-sum : goal.add_product-sum-requires-in-loop-k-clause-sum
+add_product-sum-requires-in-loop-k-clause-sum c =
     let (norm, most, small, within, dw) = c.requires.small in
     let inside = c.requires.inside (get_or c.args.named.now c.loop-k.k 0) (member_at c.args.named.now c.loop-k.k c.loop-k-test.true) in
     let lt = subst (λ n. get_or c.args.named.now c.loop-k.k 0 < n) c.requires.columns inside in
@@ -100,7 +100,7 @@ loop-k-preserved c =
     let lt = subst (λ n. get_or c.args.named.now c.loop-k.k 0 < n) c.requires.columns inside in
     let fk : FitsSigned w128 c.args.constant = search rules in
     let fd : FitsSigned w64 c.args.d = search rules in
-    let fz : FitsSigned w64 c.added-sum-in-loop-k.result = search rules in
+    let fz : FitsSigned w64 c.add_product-sum-in-loop-k.result = search rules in
     let fa : FitsSigned w128 (number_at c.args.coeffs.now (get_or c.args.named.now c.loop-k.k 0)) = search rules in
     let fx : FitsSigned w64 (number_at c.args.constants.now (get_or c.args.named.now c.loop-k.k 0)) = search rules in
     let short = coefficient_fits norm most c.args.coeffs.now c.args.constant small (get_or c.args.named.now c.loop-k.k 0) lt in
@@ -111,8 +111,8 @@ loop-k-preserved c =
       to_z-of_z w128 (number_at c.args.coeffs.now (get_or c.args.named.now c.loop-k.k 0)) fa,
       to_z-of_z w64 (number_at c.args.coeffs.now (get_or c.args.named.now c.loop-k.k 0)) short,
       to_z-of_z w64 (number_at c.args.constants.now (get_or c.args.named.now c.loop-k.k 0)) fx,
-    ) at c.added-sum-in-loop-k.ensures in
-    rw (to_z-of_z w64 c.added-sum-in-loop-k.result fz, k, d)
+    ) at c.add_product-sum-in-loop-k.ensures in
+    rw (to_z-of_z w64 c.add_product-sum-in-loop-k.result fz, k, d)
     (total ∙ next_total (λ t. number_at c.args.coeffs.now t *ℤ number_at c.args.constants.now t) c.args.named.now c.loop-k.k _ _ (c.args.constant *ℤ c.args.d) c.loop-k-test.true before refl)
 
 pub returns-clause-value : goal.returns-clause-value

@@ -6,8 +6,8 @@ use Rattle.rg_integers.specs.Sum.{number_at}
 use Rattle.rg_integers.proofs.Casts.{back}
 use Rattle.rg_revised.proofs.primitive.primitive_number.Goals as goal
 
-pub divided-requires-clause-divides : goal.divided-requires-clause-divides
-divided-requires-clause-divides c =
+pub divide_by_factor-requires-clause-divides : goal.divide_by_factor-requires-clause-divides
+divide_by_factor-requires-clause-divides c =
     let fits : FitsSigned w64 (number_at c.args.row.now c.in-Some.slot) = search rules in
     let lt = c.in-Some.ensures.found.0 in
     let width = c.requires.row in

@@ -9,14 +9,14 @@ use Rattle.rg_integers.proofs.Casts.{back}
 use Rattle.rg_revised.proofs.Primitives.{d_shown, constant_shown, member_shown, first_shown, range_two, shown_more, range_more, length_more}
 use Rattle.rg_revised.proofs.primitive.primitive_numbers.Goals as goal
 
-pub divided-requires-clause-divides : goal.divided-requires-clause-divides
-divided-requires-clause-divides c =
+pub divide_by_factor-requires-clause-divides : goal.divide_by_factor-requires-clause-divides
+divide_by_factor-requires-clause-divides c =
     let fits : FitsSigned w64 c.args.d = search rules in
     let common = rw (to_z-of_z w64 c.args.d fits) at c.common_factor-factor.ensures.factor in
     rw (back c.common_factor-factor.result c.common_factor-factor.ensures.in_range, to_z-of_z w64 c.args.d fits) (common.greatest.divides 0 (omega arith))
 
-pub divided-requires-2-clause-divides : goal.divided-requires-2-clause-divides
-divided-requires-2-clause-divides c =
+pub divide_by_factor-requires-2-clause-divides : goal.divide_by_factor-requires-2-clause-divides
+divide_by_factor-requires-2-clause-divides c =
     let fits : FitsSigned w64 c.args.d = search rules in
     let fr : FitsSigned w64 (number_at c.args.row.now (length c.args.slots.now)) = search rules in
     let common = rw (to_z-of_z w64 c.args.d fits) at c.common_factor-factor.ensures.factor in
@@ -31,19 +31,19 @@ loop-index-init c =
     let fr : FitsSigned w64 (number_at c.args.row.now (length c.args.slots.now)) = search rules in
     let common = rw d at c.common_factor-factor.ensures.factor in
     let factor = back c.common_factor-factor.result c.common_factor-factor.ensures.in_range in
-    let a = back c.divided.result c.divided.ensures.in_range in
-    let b = back c.divided-2.result c.divided-2.ensures.in_range in
-    let first = rw (factor, d) at c.divided.ensures.value in
-    let second = rw (factor, to_z-of_z w64 (number_at c.args.row.now (length c.args.slots.now)) fr) at c.divided-2.ensures.value in
+    let a = back c.divide_by_factor.result c.divide_by_factor.ensures.in_range in
+    let b = back c.divide_by_factor-2.result c.divide_by_factor-2.ensures.in_range in
+    let first = rw (factor, d) at c.divide_by_factor.ensures.value in
+    let second = rw (factor, to_z-of_z w64 (number_at c.args.row.now (length c.args.slots.now)) fr) at c.divide_by_factor-2.ensures.value in
     let one = rw a at c.in_ok-push.ensures.items in
     let two = rw b at c.in_ok-push-2.ensures.items in
-    let items = first_shown c.new-numbers.result.items c.push.new.self.items c.push-2.new.self.items c.divided.result c.divided-2.result c.new-numbers.ensures.items one two in
+    let items = first_shown c.new-numbers.result.items c.push.new.self.items c.push-2.new.self.items c.divide_by_factor.result c.divide_by_factor-2.result c.new-numbers.ensures.items one two in
     record {
       size = ap (λ (xs : List ℤ). length xs) items;
-      in_range = range_two c.push-2.new.self.items c.divided.result c.divided-2.result items c.divided.ensures.in_range c.divided-2.ensures.in_range;
+      in_range = range_two c.push-2.new.self.items c.divide_by_factor.result c.divide_by_factor-2.result items c.divide_by_factor.ensures.in_range c.divide_by_factor-2.ensures.in_range;
       shown = rw d (λ k distinct reduced. items ∙ ap₂ (λ (x : ℤ) (y : ℤ). x ∷ y ∷ [])
-          (d_shown c.args.slots.now c.args.d c.args.row.now c.requires.row c.common_factor-factor.result common k distinct reduced c.divided.result first)
-          (constant_shown c.args.slots.now c.args.d c.args.row.now c.requires.row c.common_factor-factor.result common k distinct reduced c.divided-2.result second));
+          (d_shown c.args.slots.now c.args.d c.args.row.now c.requires.row c.common_factor-factor.result common k distinct reduced c.divide_by_factor.result first)
+          (constant_shown c.args.slots.now c.args.d c.args.row.now c.requires.row c.common_factor-factor.result common k distinct reduced c.divide_by_factor-2.result second));
     }
 
 pub primitive_number-number-requires-clause-slot : goal.primitive_number-number-requires-clause-slot

@@ -8,8 +8,8 @@ use Rattle.rg_revised.specs.Rows.{row_at}
 use Rattle.rg_revised.proofs.Sizes.{own_at, own_added}
 use Rattle.rg_revised.proofs.reading.add_column.Goals as goal
 
-pub added-requires-clause-product : goal.added-requires-clause-product
-added-requires-clause-product c =
+pub add_product-requires-clause-product : goal.add_product-requires-clause-product
+add_product-requires-clause-product c =
     let here : slice_index c.args.slots.now c.args.t ≡ c.args.t = search rules in
     let fb : FitsSigned w64 c.args.by = search rules in
     let fd : FitsSigned w64 c.args.d = search rules in
@@ -21,8 +21,8 @@ added-requires-clause-product c =
     let lt : c.args.t < length c.args.numbers.now = omega arith in
     rw (b, d) (subst (λ z. FitsSigned w64 (c.args.by *ℤ z)) (own_at (row_at (length c.args.numbers.now) c.args.table.now c.args.t) c.args.t c.args.d (own here) (omega arith)) (products c.args.t lt))
 
-pub added-requires-clause-sum : goal.added-requires-clause-sum
-added-requires-clause-sum c =
+pub add_product-requires-clause-sum : goal.add_product-requires-clause-sum
+add_product-requires-clause-sum c =
     let here : slice_index c.args.slots.now c.args.t ≡ c.args.t = search rules in
     let fb : FitsSigned w64 c.args.by = search rules in
     let fd : FitsSigned w64 c.args.d = search rules in
@@ -43,13 +43,13 @@ returns-then-slots-t c =
     let fb : FitsSigned w64 c.args.by = search rules in
     let fd : FitsSigned w64 c.args.d = search rules in
     let fx : FitsSigned w64 (number_at c.args.numbers.now c.args.t) = search rules in
-    let fz : FitsSigned w64 c.added.result = search rules in
+    let fz : FitsSigned w64 c.add_product.result = search rules in
     let b = to_z-of_z w64 c.args.by fb in
     let d = to_z-of_z w64 c.args.d fd in
     let x = to_z-of_z w64 (number_at c.args.numbers.now c.args.t) fx in
-    let z = to_z-of_z w64 c.added.result fz in
+    let z = to_z-of_z w64 c.add_product.result fz in
     let own = c.requires.own in
-    let is = rw (x, b, d) at c.added.ensures in
+    let is = rw (x, b, d) at c.add_product.ensures in
     let size = length-row (length c.args.numbers.now) c.args.table.now (length c.args.slots.now) c.args.t c.requires.size c.requires.column in
     let lt : c.args.t < length c.args.numbers.now = omega arith in
-    rw z (own_added c.args.by c.args.d (row_at (length c.args.numbers.now) c.args.table.now c.args.t) c.args.numbers.now c.args.t c.added.result (own here) size lt is)
+    rw z (own_added c.args.by c.args.d (row_at (length c.args.numbers.now) c.args.table.now c.args.t) c.args.numbers.now c.args.t c.add_product.result (own here) size lt is)

@@ -11,17 +11,17 @@ loop-s-preserved c =
     let fb : FitsSigned w64 c.args.by = search rules in
     let fx : FitsSigned w64 (number_at c.loop-s.numbers c.loop-s.s) = search rules in
     let fy : FitsSigned w64 (number_at c.args.row.now c.loop-s.s) = search rules in
-    let fz : FitsSigned w64 c.added.result = search rules in
+    let fz : FitsSigned w64 c.add_product.result = search rules in
     let b = to_z-of_z w64 c.args.by fb in
     let x = to_z-of_z w64 (number_at c.loop-s.numbers c.loop-s.s) fx in
     let y = to_z-of_z w64 (number_at c.args.row.now c.loop-s.s) fy in
-    let z = to_z-of_z w64 c.added.result fz in
+    let z = to_z-of_z w64 c.add_product.result fz in
     let lt : c.loop-s.s < length c.loop-s.numbers = omega arith in
     let same = c.loop-s.invariant.left c.loop-s.s (le_refl c.loop-s.s) in
-    let is = rw (x, b, y, same) at c.added.ensures in
+    let is = rw (x, b, y, same) at c.add_product.ensures in
     let done = rw b at c.loop-s.invariant.done in
     record {
       same_length = length-set c.loop-s.numbers c.loop-s.s _ ∙ c.loop-s.invariant.same_length;
-      done = rw (b, z) (below_set (λ k v. v ≡ number_at c.args.numbers.now k +ℤ (c.args.by *ℤ number_at c.args.row.now k)) c.loop-s.numbers c.loop-s.s c.added.result lt done is);
+      done = rw (b, z) (below_set (λ k v. v ≡ number_at c.args.numbers.now k +ℤ (c.args.by *ℤ number_at c.args.row.now k)) c.loop-s.numbers c.loop-s.s c.add_product.result lt done is);
       left = λ k ge. let ne : k ≢ c.loop-s.s = omega arith in get_or-set_other c.loop-s.numbers c.loop-s.s k _ (pos 0) ne ∙ c.loop-s.invariant.left k (omega arith);
     }

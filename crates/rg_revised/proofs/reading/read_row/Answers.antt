@@ -65,16 +65,16 @@ overflow_cast-constant c =
     let fw : FitsSigned w128 c.args.constant = search rules in
     rw (to_z-of_z w128 c.args.constant fw) (constant_fits norm most c.args.coeffs.now c.args.constant small)
 
-pub added-requires-clause-product : goal.added-requires-clause-product
-added-requires-clause-product c =
+pub add_product-requires-clause-product : goal.add_product-requires-clause-product
+add_product-requires-clause-product c =
     let (norm, most, small, within, dw) = c.requires.small in
     let fw : FitsSigned w128 c.args.constant = search rules in
     let fd : FitsSigned w64 c.args.d = search rules in
     rw (to_z-of_z w128 c.args.constant fw, to_z-of_z w64 c.args.constant (constant_fits norm most c.args.coeffs.now c.args.constant small), to_z-of_z w64 c.args.d fd)
     (share_fits norm most c.args.coeffs.now c.args.constant small c.args.d dw)
 
-pub added-requires-clause-sum : goal.added-requires-clause-sum
-added-requires-clause-sum c =
+pub add_product-requires-clause-sum : goal.add_product-requires-clause-sum
+add_product-requires-clause-sum c =
     let (norm, most, small, within, dw) = c.requires.small in
     let fw : FitsSigned w128 c.args.constant = search rules in
     let fd : FitsSigned w64 c.args.d = search rules in
@@ -100,7 +100,7 @@ returns c =
     let fw : FitsSigned w128 c.args.constant = search rules in
     let fd : FitsSigned w64 c.args.d = search rules in
     let fx : FitsSigned w64 (number_at c.loop-t.numbers (length c.loop-t.numbers - 1)) = search rules in
-    let fz : FitsSigned w64 c.added.result = search rules in
+    let fz : FitsSigned w64 c.add_product.result = search rules in
     let same : length c.loop-t.numbers ≡ length c.args.numbers.now = c.loop-t.invariant.same_length in
     let end : c.loop-t.t ≡ length c.args.coeffs.now = omega arith in
     let is = rw (
@@ -109,6 +109,6 @@ returns c =
       to_z-of_z w64 c.args.d fd,
       to_z-of_z w64
           (number_at c.loop-t.numbers (length c.loop-t.numbers - 1)) fx,
-    ) at c.added.ensures in
-    rw (to_z-of_z w64 c.added.result fz) (read_whole (length c.args.numbers.now) c.args.coeffs.now c.args.constant c.args.table.now c.args.d c.loop-t.numbers c.added.result same (omega arith)
+    ) at c.add_product.ensures in
+    rw (to_z-of_z w64 c.add_product.result fz) (read_whole (length c.args.numbers.now) c.args.coeffs.now c.args.constant c.args.table.now c.args.d c.loop-t.numbers c.add_product.result same (omega arith)
     (λ s lt. c.loop-t.invariant.sums s lt ∙ ap (λ n. column_sum (length c.args.numbers.now) c.args.coeffs.now c.args.table.now n s) end) is)

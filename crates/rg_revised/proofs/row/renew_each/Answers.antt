@@ -41,17 +41,17 @@ returns c =
     let fp : FitsSigned w64 (number_at c.args.pivot.now c.args.p) = search rules in
     let fl : FitsSigned w64 (number_at c.args.row.now c.args.p) = search rules in
     let fm : FitsSigned w64 c.args.most = search rules in
-    let fz : FitsSigned w64 c.signed.result = search rules in
+    let fz : FitsSigned w64 c.with_sign.result = search rules in
     let p = to_z-of_z w64 (number_at c.args.pivot.now c.args.p) fp in
     let l = to_z-of_z w64 (number_at c.args.row.now c.args.p) fl in
     let m = to_z-of_z w64 c.args.most fm in
-    let z = to_z-of_z w64 c.signed.result fz in
+    let z = to_z-of_z w64 c.with_sign.result fz in
     let end : length c.args.row.now ≤ c.loop-n.n = omega arith in
     let done = rw (p, l) at c.loop-n.invariant.done in
     let within = rw m at c.loop-n.invariant.within in
-    let is = rw l at c.signed.ensures.value in
-    let small = rw m at c.signed.ensures.within in
+    let is = rw l at c.with_sign.ensures.value in
+    let small = rw m at c.with_sign.ensures.within in
     record {
-      renewed = λ yes. rw z (renewed_row c.args.pivot.now c.args.row.now c.loop-n.row c.args.p c.args.negative c.args.d.value (unsigned_abs c.args.most) c.signed.result c.loop-n.invariant.same_length
+      renewed = λ yes. rw z (renewed_row c.args.pivot.now c.args.row.now c.loop-n.row c.args.p c.args.negative c.args.d.value (unsigned_abs c.args.most) c.with_sign.result c.loop-n.invariant.same_length
           c.requires.index (λ k lt. done k (omega arith)) within is small);
     }

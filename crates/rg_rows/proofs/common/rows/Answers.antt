@@ -17,10 +17,10 @@ loop-number-preserved c =
     let rows = c.loop-number.rows.items in
     let name = c.name-name.result in
     let e = expression_of c.expression-expression.result in
-    let written = c.in_ok-written.field-0 in
+    let written = c.in_ok-wide_or_no_memory.field-0 in
     let pushed = c.in_ok-push.ensures.items in
     let share_terms = row_shared s name e (c.expression-expression.ensures ∙ ap (shared_expression s.lts s.class []) (sym c.name-name.ensures))
-    c.row.result written c.in_ok-written.ensures c.row.ensures.comes c.row.ensures.one_each in
+    c.row.result written c.in_ok-wide_or_no_memory.ensures c.row.ensures.comes c.row.ensures.one_each in
     let here = subst (λ n. IsSharedRow s (row_of_kind kind n) written) (sym c.loop-number.invariant.many) (subst (λ n. IsSharedRow s n written) c.name-name.ensures share_terms) in
     record {
       many = ap length pushed ∙ length-append rows (written ∷ []) ∙ ap (λ n. n + 1) c.loop-number.invariant.many;

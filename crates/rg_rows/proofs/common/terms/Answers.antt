@@ -14,11 +14,11 @@ loop-number-preserved c =
     let s = shown_setting c.args.setting in
     let kind = c.args.kind in
     let terms = c.loop-number.terms.items in
-    let written = c.in_ok-written.field-0 in
+    let written = c.in_ok-wide_or_no_memory.field-0 in
     let pushed = c.in_ok-push.ensures.items in
     let here = subst (λ n. AreSharedTerms s (row_of_kind kind n) written) (sym c.loop-number.invariant.many)
     (terms_shared s (row_of_kind kind c.loop-number.number) (expression_of c.expression-expression.result) c.expression-expression.ensures
-    c.form_terms.result written c.in_ok-written.ensures
+    c.form_terms.result written c.in_ok-wide_or_no_memory.ensures
     c.form_terms.ensures.comes c.form_terms.ensures.one_each) in
     record {
       many = ap length pushed ∙ length-append terms (written ∷ []) ∙ ap (λ n. n + 1) c.loop-number.invariant.many;

@@ -34,5 +34,5 @@ returns-in-Some-Err-clause-comes c =
 
 pub returns-in-None-clause-comes : goal.returns-in-None-clause-comes
 returns-in-None-clause-comes c =
-    subst (λ (x : Expression). Comes (terms_fold (shown_setting c.args.c.setting) x.terms) terms_of c.form_terms.result) c.said-said.ensures
+    subst (λ (x : Expression). Comes (terms_fold (shown_setting c.args.c.setting) x.terms) terms_of c.form_terms.result) c.case_expression-said.ensures
     c.form_terms.ensures.comes

@@ -35,10 +35,10 @@ pub returns-in_err-own-in-None-clause-comes : goal.returns-in_err-own-in-None-cl
 returns-in_err-own-in-None-clause-comes c =
     let result : c.from_residual.result ≡ Err c.in_err-own-in-None.field-0.0 = search rules in
     rw result (comes_unless (fold_of (shown_case c.args.c) c.args.name) (λ (r : HeldRow). kept_row (row_in r)) c.in_err-own-in-None.field-0.0
-    (λ w is. subst (λ x. row_fold (shown_setting c.args.c.setting) c.args.name x (Err w)) c.said-said.ensures
+    (λ w is. subst (λ x. row_fold (shown_setting c.args.c.setting) c.args.name x (Err w)) c.case_expression-said.ensures
     (rw is at c.in_err-own-in-None.ensures.comes)))
 
 pub returns-in_ok-own-in-None-clause-comes : goal.returns-in_ok-own-in-None-clause-comes
 returns-in_ok-own-in-None-clause-comes c =
-    subst (λ x. row_fold (shown_setting c.args.c.setting) c.args.name x (Ok (kept_row c.in_ok-own-in-None.own))) c.said-said.ensures
+    subst (λ x. row_fold (shown_setting c.args.c.setting) c.args.name x (Ok (kept_row c.in_ok-own-in-None.own))) c.case_expression-said.ensures
     c.in_ok-own-in-None.ensures.comes

@@ -46,9 +46,9 @@ returns-clause-comes c =
     let by = subst (λ z. IsValue c.new-multiple.result z (pos 1)) (back scaled.multiple scaled.multiple_in_range) c.new-multiple.ensures in
     let product = whole_step c.new.result c.new-multiple.result number scaled.multiple c.mul.result own by c.mul.ensures.product in
     let top = back c.numerator.result c.numerator.ensures.in_range ∙ c.numerator.ensures.value in
-    comes_by _ _ kept_row c.divided.result (rw top at c.divided.ensures.comes)
+    comes_by _ _ kept_row c.divide_by_common.result (rw top at c.divide_by_common.ensures.comes)
     (row_made s name sum (scaled_of scaled) c.in_ok-scaled.ensures.comes (ratio_of c.in_ok-constant.constant) (rw c.in_ok-constant.was at product))
 
 pub returns-clause-one_each : goal.returns-clause-one_each
 returns-clause-one_each c =
-    if_ok_more c.divided.result (λ r. length (arc_slice_items r.coeffs) ≡ length c.in_ok-scaled.scaled.numbers.items) _ (λ r h. h ∙ c.in_ok-scaled.ensures.one_each) c.divided.ensures.one_each
+    if_ok_more c.divide_by_common.result (λ r. length (arc_slice_items r.coeffs) ≡ length c.in_ok-scaled.scaled.numbers.items) _ (λ r h. h ∙ c.in_ok-scaled.ensures.one_each) c.divide_by_common.ensures.one_each

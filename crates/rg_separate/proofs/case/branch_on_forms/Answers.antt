@@ -43,7 +43,7 @@ returns-in-Err-Wide-clause-tells c =
     ∙ ap (λ (fs : List NamedForm). sides_among (map split_of fs) c.deref-in-Err-Wide-2.result.now) c.deref-in-Err-Wide.ensures.value
     ∙ ap (λ above. sides_among (map split_of named.forms.items) above) c.deref-in-Err-Wide-2.ensures.value
     ∙ ap (λ fs. sides_among fs sides) c.requires.system.by_name in
-    subst (λ (w : Shown). ShownWide lts class w) (sym (c.stopped.ensures ∙ ap (λ (ss : List Side). pivot_at c.args.c ss c.in-Err-Wide.members.items c.in-Err-Wide.wide) by_name))
+    subst (λ (w : Shown). ShownWide lts class w) (sym (c.wide_pivot.ensures ∙ ap (λ (ss : List Side). pivot_at c.args.c ss c.in-Err-Wide.members.items c.in-Err-Wide.wide) by_name))
     (pivot_shown c.args.c named sides c.in-Err-Wide.members.items c.in-Err-Wide.wide c.requires.case c.requires.system ends)
 
 pub returns-in-Err-Wide-clause-comes : goal.returns-in-Err-Wide-clause-comes
@@ -60,5 +60,5 @@ returns-in-Err-Wide-clause-comes c =
     ∙ ap (λ (fs : List NamedForm). sides_among (map split_of fs) c.deref-in-Err-Wide-2.result.now) c.deref-in-Err-Wide.ensures.value
     ∙ ap (λ above. sides_among (map split_of named.forms.items) above) c.deref-in-Err-Wide-2.ensures.value
     ∙ ap (λ fs. sides_among fs sides) c.requires.system.by_name in
-    subst (λ (w : Shown). CaseComes (shown_case c.args.c) (passes w)) (sym (c.stopped.ensures ∙ ap (λ (ss : List Side). pivot_at c.args.c ss c.in-Err-Wide.members.items c.in-Err-Wide.wide) by_name))
+    subst (λ (w : Shown). CaseComes (shown_case c.args.c) (passes w)) (sym (c.wide_pivot.ensures ∙ ap (λ (ss : List Side). pivot_at c.args.c ss c.in-Err-Wide.members.items c.in-Err-Wide.wide) by_name))
     (pivot_comes c.args.c named sides at c.requires.system ends)

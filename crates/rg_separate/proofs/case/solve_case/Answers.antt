@@ -12,12 +12,12 @@ use Rattle.rg_cert_meaning.specs.Sides.{side_of}
 
 pub returns-in-Err-Wide-clause-comes : goal.returns-in-Err-Wide-clause-comes
 returns-in-Err-Wide-clause-comes c =
-    subst (λ (w : Shown). CaseComes (shown_case c.args.c) (passes w)) (sym (c.passed.ensures
+    subst (λ (w : Shown). CaseComes (shown_case c.args.c) (passes w)) (sym (c.wide_case.ensures
     ∙ ap (λ (above : List (Form × ℤ × Bool)). passed_at Row c.args.c (map side_of above) c.in-Err-Wide.wide) c.new-above.ensures.items))
     (row_passes c.in-Err-Wide.wide (c.in-Err-Wide.ensures.wide c.in-Err-Wide.wide (ap Err c.in-Err-Wide.field-0-is)))
 
 pub returns-in-Err-Wide-clause-tells : goal.returns-in-Err-Wide-clause-tells
 returns-in-Err-Wide-clause-tells c =
-    subst (λ (w : Shown). ShownWide c.args.c.setting.lts.now c.args.c.setting.class w) (sym (c.passed.ensures
+    subst (λ (w : Shown). ShownWide c.args.c.setting.lts.now c.args.c.setting.class w) (sym (c.wide_case.ensures
     ∙ ap (λ (above : List (Form × ℤ × Bool)). passed_at Row c.args.c (map side_of above) c.in-Err-Wide.wide) c.new-above.ensures.items))
     (row_shown c.args.c c.in-Err-Wide.wide c.requires.case (c.in-Err-Wide.ensures.wide c.in-Err-Wide.wide (ap Err c.in-Err-Wide.field-0-is)))

@@ -15,7 +15,7 @@ shown o c =
     (c.in-Err-Wide.ensures.wide c.in-Err-Wide.wide (ap Err c.in-Err-Wide.field-0-is))
 
 pub returns-in-Err-Wide-clause-too_wide : goal.returns-in-Err-Wide-clause-too_wide
-returns-in-Err-Wide-clause-too_wide o c = subst (λ (w : Shown). ShownWide c.args.lts.now c.args.class w) (sym (c.stopped.ensures ∙ ap cycle_passed c.in-Err-Wide.wide-is)) (shown o c)
+returns-in-Err-Wide-clause-too_wide o c = subst (λ (w : Shown). ShownWide c.args.lts.now c.args.class w) (sym (c.wide_cycle.ensures ∙ ap cycle_passed c.in-Err-Wide.wide-is)) (shown o c)
 
 pub returns-in-Err-Wide-clause-searched : goal.returns-in-Err-Wide-clause-searched
-returns-in-Err-Wide-clause-searched o c = cycle_searched c.args.lts.now c.args.class c.stopped.result c.in-Err-Wide.wide (c.stopped.ensures ∙ ap cycle_passed c.in-Err-Wide.wide-is) (shown o c)
+returns-in-Err-Wide-clause-searched o c = cycle_searched c.args.lts.now c.args.class c.wide_cycle.result c.in-Err-Wide.wide (c.wide_cycle.ensures ∙ ap cycle_passed c.in-Err-Wide.wide-is) (shown o c)

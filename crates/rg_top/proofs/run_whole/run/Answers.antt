@@ -32,30 +32,30 @@ returns-in-Ok-Out-clause-ends g c =
     let end = end_of c.in-Ok.made in
     let output = subst (IsOutputOf end) c.in-Ok-Out.field-0-is c.in-Ok-Out.ensures in
     let status = c.in-Ok-Out.status in
-    let sink = writes g.O.Sink.taken g.O.Sink.faults g.O.Sink.gives c.args.out.now c.written.new.sink in
-    let wrote = subst (λ (b : List ℕ). IsWritten sink b status c.written.result) c.deref.ensures.value c.written.ensures in
-    out_ends _ end c.in-Ok-Out.text.items status c.written.result c.in-Ok.ensures.says output.0 output.1 wrote (record { taken = refl; offered = done c.args.err.now })
+    let sink = writes g.O.Sink.taken g.O.Sink.faults g.O.Sink.gives c.args.out.now c.write_output.new.sink in
+    let wrote = subst (λ (b : List ℕ). IsWritten sink b status c.write_output.result) c.deref.ensures.value c.write_output.ensures in
+    out_ends _ end c.in-Ok-Out.text.items status c.write_output.result c.in-Ok.ensures.says output.0 output.1 wrote (record { taken = refl; offered = done c.args.err.now })
 
 pub returns-in-Ok-Out-clause-exactly : goal.returns-in-Ok-Out-clause-exactly
 returns-in-Ok-Out-clause-exactly g c = λ due decided is.
     (let end = end_of c.in-Ok.made in
     let output = subst (IsOutputOf end) c.in-Ok-Out.field-0-is c.in-Ok-Out.ensures in
     let has = c.answers_are_one.ensures.due (map string_bytes c.args.words.now) (g.H.Shelf.files c.args.shelf.now) end due decided c.in-Ok.ensures.says is in
-    or_mishap (IsTheOne due) c.in-Ok-Out.status c.written.result c.written.ensures (same_status end c.in-Ok-Out.status due output.0 has))
+    or_mishap (IsTheOne due) c.in-Ok-Out.status c.write_output.result c.write_output.ensures (same_status end c.in-Ok-Out.status due output.0 has))
 
 pub returns-in-Ok-Out-clause-passed : goal.returns-in-Ok-Out-clause-passed
 returns-in-Ok-Out-clause-passed g c = λ w decided is.
     (let end = end_of c.in-Ok.made in
     let output = subst (IsOutputOf end) c.in-Ok-Out.field-0-is c.in-Ok-Out.ensures in
     let same = c.answers_are_one.ensures.term (map string_bytes c.args.words.now) (g.H.Shelf.files c.args.shelf.now) w end decided c.in-Ok.ensures.says is in
-    or_mishap (ShowsTerm w) c.in-Ok-Out.status c.written.result c.written.ensures (subst (λ e. HasStatus e c.in-Ok-Out.status) same output.0))
+    or_mishap (ShowsTerm w) c.in-Ok-Out.status c.write_output.result c.write_output.ensures (subst (λ e. HasStatus e c.in-Ok-Out.status) same output.0))
 
 pub returns-in-Ok-Err-clause-ends : goal.returns-in-Ok-Err-clause-ends
 returns-in-Ok-Err-clause-ends g c =
     let end = end_of c.in-Ok.made in
     let output = subst (IsOutputOf end) c.in-Ok-Err.field-0-is c.in-Ok-Err.ensures in
     let status = c.in-Ok-Err.status in
-    let made = c.written-in-Ok-Err in
+    let made = c.write_output-in-Ok-Err in
     let sink = writes g.E.Sink.taken g.E.Sink.faults g.E.Sink.gives c.args.err.now made.new.sink in
     let wrote = subst (λ (b : List ℕ). IsWritten sink b status made.result) c.deref-in-Ok-Err.ensures.value made.ensures in
     err_ends _ end c.in-Ok-Err.line.items status made.result c.in-Ok.ensures.says output.0 output.1 (record { taken = refl; offered = done c.args.out.now }) wrote
@@ -65,11 +65,11 @@ returns-in-Ok-Err-clause-exactly g c = λ due decided is.
     (let end = end_of c.in-Ok.made in
     let output = subst (IsOutputOf end) c.in-Ok-Err.field-0-is c.in-Ok-Err.ensures in
     let has = c.answers_are_one.ensures.due (map string_bytes c.args.words.now) (g.H.Shelf.files c.args.shelf.now) end due decided c.in-Ok.ensures.says is in
-    or_mishap (IsTheOne due) c.in-Ok-Err.status c.written-in-Ok-Err.result c.written-in-Ok-Err.ensures (same_status end c.in-Ok-Err.status due output.0 has))
+    or_mishap (IsTheOne due) c.in-Ok-Err.status c.write_output-in-Ok-Err.result c.write_output-in-Ok-Err.ensures (same_status end c.in-Ok-Err.status due output.0 has))
 
 pub returns-in-Ok-Err-clause-passed : goal.returns-in-Ok-Err-clause-passed
 returns-in-Ok-Err-clause-passed g c = λ w decided is.
     (let end = end_of c.in-Ok.made in
     let output = subst (IsOutputOf end) c.in-Ok-Err.field-0-is c.in-Ok-Err.ensures in
     let same = c.answers_are_one.ensures.term (map string_bytes c.args.words.now) (g.H.Shelf.files c.args.shelf.now) w end decided c.in-Ok.ensures.says is in
-    or_mishap (ShowsTerm w) c.in-Ok-Err.status c.written-in-Ok-Err.result c.written-in-Ok-Err.ensures (subst (λ e. HasStatus e c.in-Ok-Err.status) same output.0))
+    or_mishap (ShowsTerm w) c.in-Ok-Err.status c.write_output-in-Ok-Err.result c.write_output-in-Ok-Err.ensures (subst (λ e. HasStatus e c.in-Ok-Err.status) same output.0))

@@ -22,10 +22,10 @@ returns c =
     let e = back c.args.o.denominator c.args.o.denominator_in_range in
     let x = back c.split-d.result.0 c.split-d.ensures.first_in_range in
     let y = back c.split-d.result.1 c.split-d.ensures.second_in_range in
-    let z = back c.negated-m.result c.negated-m.ensures.in_range in
+    let z = back c.negate-m.result c.negate-m.ensures.in_range in
     let vx = rw (d, e) at c.split-d.ensures.first in
     let vy = rw (d, e) at c.split-d.ensures.second in
-    let vz = rw m at c.negated-m.ensures.value in
+    let vz = rw m at c.negate-m.ensures.value in
     let h = rw (n, y, z, x, e, vy, vz, vx) at c.over.ensures in
     sum_formed c.args.self.numerator c.args.self.denominator c.args.o.numerator c.args.o.denominator c.over.result
     c.args.self.positive c.args.o.positive h

@@ -1,7 +1,0 @@
-use Rattle.rg_case_folds.specs.Fold.{add, ratio_of}
-use Rattle.rg_places.specs.PointValues.{ratios_of}
-use Rattle.rg_places.proofs.FoldSteps.{EachLeads}
-use Rattle.rg_places.proofs.numbers.raised.Given as goal
-
-abbrev pub invariant-loop-number : goal.invariant-loop-number
-invariant-loop-number l = EachLeads (λ m. add m (ratio_of l.by)) (ratios_of l.numbers) l.number-index (ratios_of l.raised.items)

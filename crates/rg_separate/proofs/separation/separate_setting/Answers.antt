@@ -1,0 +1,54 @@
+use Rattle.std.proofs.Common.{map, refl, subst}
+use Rattle.rg_net.specs.Shown.{shown_place}
+use Rattle.rg_outcome.specs.Coming.{Separation.places}
+use Rattle.rg_case_parts.specs.SettingViews.{shown_setting}
+use Rattle.rg_blocks.specs.Separating.{IsSeparationOutcome}
+use Rattle.rg_separate.proofs.Keeping.{notable}
+use Rattle.rg_separate.proofs.Ending.{comes_of, places_separate, separated_tells, separated_searched, ends_refuted, ends_wide}
+use Rattle.rg_separate.proofs.separation.separate_setting.Goals as goal
+
+pub separate_all-requires-clause-can : goal.separate_all-requires-clause-can
+separate_all-requires-clause-can o c = λ lives within. record {
+  some = c.requires.some;
+  reachable = c.requires.setting.reachable;
+  asked = λ problem has. (record { setting = c.requires.setting; columns = c.column_count-columns.ensures (shown_setting c.args.setting) c.requires.common refl }, has);
+  separating = places_separate c.args.setting c.requires.setting;
+  keepable = record { each = λ r is. (c.args.setting.class, is) };
+  notable = notable c.args.setting.lts.now c.args.setting.class c.requires.setting.reachable;
+}
+
+pub certify-requires-clause-shows : goal.certify-requires-clause-shows
+certify-requires-clause-shows o c =
+    let kept = map shown_place c.separate_all.new.progress.kept.places.items in
+    ends_refuted c.args.setting c.requires.setting kept c.in-Unsolvable.refuted (subst (IsSeparationOutcome c.args.setting.lts.now (comes_of c.args.setting) kept) c.in-Unsolvable.is c.in_ok-outcome.ensures.comes)
+
+pub solve_again-requires-clause-shows : goal.solve_again-requires-clause-shows
+solve_again-requires-clause-shows o c =
+    let kept = map shown_place c.separate_all.new.progress.kept.places.items in
+    ends_wide c.args.setting c.requires.setting kept c.in-TooWide.left (subst (IsSeparationOutcome c.args.setting.lts.now (comes_of c.args.setting) kept) c.in-TooWide.is c.in_ok-outcome.ensures.comes)
+
+pub returns-in-Separated-clause-tells : goal.returns-in-Separated-clause-tells
+returns-in-Separated-clause-tells o c =
+    let kept = c.separate_all.new.progress.kept in (
+      separated_tells c.args.setting c.requires.setting c.is_well_formed.ensures kept.places.items kept.firsts.items kept.separated c.in_ok-outcome.ensures.searching.kept
+          (subst (IsSeparationOutcome c.args.setting.lts.now (comes_of c.args.setting) (map shown_place kept.places.items)) c.in-Separated.is
+          c.in_ok-outcome.ensures.comes),
+      c.in_ok-outcome.ensures.searching.kept.firsts,
+    )
+
+pub returns-in-Separated-clause-searched : goal.returns-in-Separated-clause-searched
+returns-in-Separated-clause-searched o c =
+    let kept = c.separate_all.new.progress.kept in
+    record {
+      o = places (map shown_place kept.places.items);
+      searched = separated_searched c.args.setting c.requires.setting c.is_well_formed.ensures kept.places.items kept.firsts.items kept.separated c.in_ok-outcome.ensures.searching.kept
+          (subst (IsSeparationOutcome c.args.setting.lts.now (comes_of c.args.setting) (map shown_place kept.places.items)) c.in-Separated.is
+          c.in_ok-outcome.ensures.comes);
+      shows = refl;
+    }
+
+pub certify-requires-clause-can : goal.certify-requires-clause-can
+certify-requires-clause-can o c = record { setting = c.requires.setting; columns = c.column_count-columns.ensures (shown_setting c.args.setting) c.requires.common refl }
+
+pub solve_again-requires-clause-can : goal.solve_again-requires-clause-can
+solve_again-requires-clause-can o c = record { setting = c.requires.setting; columns = c.column_count-columns.ensures (shown_setting c.args.setting) c.requires.common refl }
