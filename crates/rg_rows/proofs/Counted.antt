@@ -14,7 +14,7 @@ module _ {A X : Type 0} (make make' : A → Result X Wide → Type 0) where
   below_first : (a : A) (items : List A) (b : A) → Contains items b → Contains (a ∷ items) b
   below_first a items b (k, lt, e) = (suc k, omega arith, e)
 
-  each_same : (items : List A) → ((a : A) → Contains items a → (r : Result X Wide) → make a r → make' a r) → (r : Result (List X) Wide) → each make items r → each make' items r
+  pub each_same : (items : List A) → ((a : A) → Contains items a → (r : Result X Wide) → make a r → make' a r) → (r : Result (List X) Wide) → each make items r → each make' items r
   each_same [] same r h = h
   each_same (a ∷ items) same (Ok ys) (x, made, (xs, rest, e)) = (x, same a (0, omega arith, refl) (Ok x) made, (xs, each_same items (λ b has. same b (below_first a items b has)) (Ok xs) rest, e))
   each_same (a ∷ items) same (Err w) (inl made) = inl (same a (0, omega arith, refl) (Err w) made)

@@ -1,5 +1,6 @@
 -- The forms in the order of the named rows are those of the case.
 use Rattle.std.proofs.Common.{◌≡◌, ℕ, ◌<◌, ◌==◌, ◌&&◌, ◌||◌, IsTrue, Contains, not, is_some, Bool, true, false, if◌then◌else◌, Option, Some, None, List, [], ◌∷◌, ◌++◌, map, refl, ap, ap₂, subst, sym, ◌∙◌, arith}
+use Rattle.std.specs.Prelude.{IsFalse}
 use Rattle.std.proofs.lemmas.Bool.{true≢false}
 use Rattle.std.proofs.lemmas.List.{append-nil}
 use Rattle.std.proofs.lemmas.List.Elements.{Contains-append_left, Contains-append_right}
@@ -14,6 +15,8 @@ use Rattle.rg_case_folds.specs.Rewriting.{numbers_where, has_label, used_labels,
 use Rattle.rg_case_folds.proofs.Forms.{start_of_bound}
 use Rattle.rg_case_folds.proofs.Lists.{Contains-map, where_has}
 use Rattle.rg_rows.specs.Forms.{form_in, put_form, forms_in, case_forms}
+use Rattle.rg_rows.specs.Sharing.{shared_names}
+use Rattle.rg_rows.proofs.Joining.{names_alone}
 use Rattle.rg_cert_meaning.specs.declared.RowName.TheVariants as row_name
 use Rattle.rg_cert_meaning.specs.declared.Form.TheVariants as split_form
 
@@ -108,6 +111,19 @@ named_forms lts class problem number =
 
 pub forms_are : (lts : System) (class : Class) (problem : Problem) (number : ℕ) → case_forms class problem (names_of lts class problem number) ≡ split_forms lts class problem
 forms_are lts class problem number = ap (λ l. l ++ (if splits_start class problem then (split_form.Start ∷ []) else [])) (named_forms lts class problem number)
+
+-- where no row comes after those that all cases share, and the case doesn't split on the start, its forms are theirs
+pub shared_forms : (lts : System) (class : Class) (problem : Problem) (number : ℕ) → IsFalse class.nonbranching → IsFalse (splits_start class problem) → forms_in class (shared_names lts class) ≡ split_forms lts class problem
+shared_forms lts class problem number alone start =
+    ap (λ l. l ++ forms_in class (shared_names lts class)) (sym (problem_none lts class problem))
+    ∙ sym (forms-append class (problem_rows lts class problem) (shared_names lts class))
+    ∙ ap (forms_in class) (sym (names_alone lts class problem number alone))
+    ∙ sym (by (splits_start class problem) start (forms_in class (names_of lts class problem number)))
+    ∙ forms_are lts class problem number
+  where
+    by : (b : Bool) → b ≡ false → (xs : List Form) → xs ++ (if b then (split_form.Start ∷ []) else []) ≡ xs
+    by true e xs = cc
+    by false e xs = append-nil xs
 
 -- where the case splits on the start, its names have the row of the initial state
 pub has_start_name : (lts : System) (class : Class) (problem : Problem) (number : ℕ) → lts.initial < states lts → IsTrue (splits_start class problem) → Contains (names_of lts class problem number) (row_name.Tokens lts.initial)

@@ -31,7 +31,7 @@ use Rattle.rg_rows.specs.View.{AreIndices, fold_of}
 use Rattle.rg_rows.specs.Forms.{linear_form, split_of, StandsInRow}
 use Rattle.rg_rows.specs.Making.{IsMade}
 
-times_zero : (d : ℤ) (xs : List ℤ) → IsZeroVector xs → IsZeroVector (map (λ z. d *ℤ z) xs)
+pub times_zero : (d : ℤ) (xs : List ℤ) → IsZeroVector xs → IsZeroVector (map (λ z. d *ℤ z) xs)
 times_zero d [] zeros = All-nil (λ z. z ≡ pos 0)
 times_zero d (x ∷ xs) zeros = All-cons (λ z. z ≡ pos 0) (d *ℤ x) (map (λ z. d *ℤ z) xs) (ap (λ z. d *ℤ z) (All-head (λ z. z ≡ pos 0) x xs zeros) ∙ *ℤ-zero d) (times_zero d xs (All-tail (λ z. z ≡ pos 0) x xs zeros))
 

@@ -19,6 +19,7 @@ use Rattle.rg_linear.specs.declared.row.Row.{Row}
 use Rattle.rg_linear.specs.View.{linear_row, linear_system, IsWellFormed}
 use Rattle.rg_rows.specs.declared.case_row.CaseRow.{CaseRow}
 use Rattle.rg_rows.specs.View.{kept_row}
+use Rattle.rg_rows.specs.Sharing.{shared_names}
 use Rattle.rg_case_parts.proofs.Picking.{where_few}
 use Rattle.rg_cert_meaning.specs.declared.RowName.TheVariants as row_name
 
@@ -41,6 +42,13 @@ sides_few : (lts : System) (b : Bool) → length (if b then (map row_name.Up (us
 sides_few lts true = let h = few_if true row_name.Up (λ t. has_label t lts.arcs) (labels lts) in let k = few_if true row_name.Down (λ t. has_label t lts.arcs) (labels lts) in let e = length-append (map row_name.Up (used_labels lts)) (map row_name.Down (used_labels lts)) in omega arith
 sides_few lts false = omega arith
 
+pub shared_few : (lts : System) (class : Class) → length (shared_names lts class) ≤ 2 * states lts + 2 * labels lts
+shared_few lts class =
+    let tokens = few_if (has_start class) row_name.Tokens (λ q. true) (states lts) in
+    let caps = few_if (is_some class.bound) row_name.Cap (λ q. true) (states lts) in
+    let sides = sides_few lts class.plain in
+    simp length-append (omega arith)
+
 pub names_few : (lts : System) (class : Class) (problem : Problem) (number : ℕ) → length (names_of lts class problem number) ≤ 3 * states lts + 3 * labels lts + 2
 names_few lts class problem number =
     let own = problem_few lts class problem in
@@ -57,7 +65,7 @@ record Fits (columns : ℕ) (r : LinearRow) : Type 0 where
   pub coeffs : All InRange r.coeffs
   pub constant : InRange r.constant
 
-from_map : {A B : Type 0} (f : A → B) (xs : List A) (y : B) → Contains (map f xs) y → (x : A) × Contains xs x × (f x ≡ y)
+pub from_map : {A B : Type 0} (f : A → B) (xs : List A) (y : B) → Contains (map f xs) y → (x : A) × Contains xs x × (f x ≡ y)
 from_map f [] y (k, lt, e) = absurd (omega arith)
 from_map f (x ∷ xs) y (zero, lt, e) = (x, (0, omega arith, refl), e)
 from_map f (x ∷ xs) y (suc k, lt, e) = let (z, (j, below, is), same) = from_map f xs y (k, omega arith, e) in (z, (suc j, omega arith, is), same)

@@ -10,8 +10,12 @@ mod Starts
 mod Assembling
 mod Terms
 mod Sharing
+mod Parts
 mod Copies
+mod Joining
 mod Dividing
 mod Forming
 mod Counted
 mod Hashing
+mod SharedNames
+mod SharedCase

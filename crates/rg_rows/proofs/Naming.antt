@@ -13,6 +13,7 @@ use Rattle.rg_case_folds.proofs.Folding.{where_taken, where_left, where_ends}
 use Rattle.rg_case_parts.specs.declared.columns.Columns.{Columns}
 use Rattle.rg_case_parts.specs.ColumnViews.{TellsUsedLabels, AreColumns}
 use Rattle.rg_rows.specs.View.{users, makers}
+use Rattle.rg_rows.specs.Sharing.{shared_names}
 use Rattle.rg_cert_meaning.specs.declared.RowName.TheVariants as row_name
 
 -- so far the rows of the numbers before i that pass the test are named
@@ -69,29 +70,53 @@ named_unless b done more all e h = h ∙ sym (append-nil done) ∙ ap (λ x. don
 users_are : (lts : System) (used : List Bool) → TellsUsedLabels lts used → users used ≡ used_labels lts
 users_are lts used tells = ap (λ n. numbers_where (λ t. slice_index_or used t false) 0 n) tells.one_each ∙ where_same (λ t. slice_index_or used t false) (λ t. has_label t lts.arcs) 0 (labels lts) (λ t lt. tells.each t (omega arith))
 
-module _ (lts : System) (class : Class) (problem : Problem) (number : ℕ) (columns : Columns) (are : AreColumns lts class columns) where
-  pub names_told : (own start capped sided all : List RowName) → own ≡ problem_rows lts class problem
+-- the rows of a problem and those that all cases share
+pub parts_told : (lts : System) (class : Class) (own : List RowName) → own
+    ++ (if has_start class then map row_name.Tokens (all_numbers (states lts)) else [])
+    ++ (if is_some class.bound then map row_name.Cap (all_numbers (states lts)) else [])
+    ++ (if class.plain then (map row_name.Up (used_labels lts) ++ map row_name.Down (used_labels lts)) else [])
+    ≡ own ++ shared_names lts class
+parts_told lts class own = ap (λ l. l ++ sides) (append_assoc own tokens caps) ∙ append_assoc own (tokens ++ caps) sides
+  where
+    tokens : List RowName
+    tokens = if has_start class then map row_name.Tokens (all_numbers (states lts)) else []
+
+    caps : List RowName
+    caps = if is_some class.bound then map row_name.Cap (all_numbers (states lts)) else []
+
+    sides : List RowName
+    sides = if class.plain then (map row_name.Up (used_labels lts) ++ map row_name.Down (used_labels lts)) else []
+
+module _ (lts : System) (class : Class) (columns : Columns) (are : AreColumns lts class columns) where
+  -- the rows that all cases share, after others
+  pub shared_told : (own start capped sided : List RowName)
       → start ≡ own ++ (if columns.start then map row_name.Tokens (all_numbers (states lts)) else [])
       → capped ≡ start ++ (if is_some class.bound then map row_name.Cap (all_numbers (states lts)) else [])
       → sided ≡ capped ++ (if class.plain then (map row_name.Up (users columns.used.items) ++ map row_name.Down (users columns.used.items)) else [])
+      → sided ≡ own ++ shared_names lts class
+  shared_told own start capped sided f g h =
+      h
+      ∙ ap (λ l. l ++ (if class.plain then (map row_name.Up (users columns.used.items) ++ map row_name.Down (users columns.used.items)) else []))
+      (g ∙ ap (λ l. l ++ caps) (f ∙ ap (λ b. own ++ (if b then map row_name.Tokens (all_numbers (states lts)) else [])) are.start))
+      ∙ ap (λ l. ((own ++ tokens) ++ caps) ++ (if class.plain then (map row_name.Up l ++ map row_name.Down l) else [])) (users_are lts columns.used.items are.used)
+      ∙ parts_told lts class own
+    where
+      tokens : List RowName
+      tokens = if has_start class then map row_name.Tokens (all_numbers (states lts)) else []
+
+      caps : List RowName
+      caps = if is_some class.bound then map row_name.Cap (all_numbers (states lts)) else []
+
+module _ (lts : System) (class : Class) (problem : Problem) (number : ℕ) (columns : Columns) (are : AreColumns lts class columns) where
+  pub names_told : (own sided all : List RowName) → own ≡ problem_rows lts class problem
+      → sided ≡ own ++ shared_names lts class
       → all ≡ sided ++ (if class.nonbranching then map row_name.Makes (makers columns.used.items (case_consumer lts problem number)) else [])
       → all ≡ names_of lts class problem number
-  names_told own start capped sided all e f g h k =
+  names_told own sided all e h k =
       k
-      ∙ ap (λ l. l ++ (if class.nonbranching then map row_name.Makes (makers columns.used.items (case_consumer lts problem number)) else []))
-      (h
-      ∙ ap (λ l. l ++ (if class.plain then (map row_name.Up (users columns.used.items) ++ map row_name.Down (users columns.used.items)) else []))
-      (g ∙ ap (λ l. l ++ (if is_some class.bound then map row_name.Cap (all_numbers (states lts)) else []))
-      (f ∙ ap (λ l. l ++ (if columns.start then map row_name.Tokens (all_numbers (states lts)) else [])) e
-      ∙ ap (λ b. problem_rows lts class problem ++ (if b then map row_name.Tokens (all_numbers (states lts)) else [])) are.start))
-      ∙ ap (λ l. before ++ (if class.plain then (map row_name.Up l ++ map row_name.Down l) else [])) (users_are lts columns.used.items are.used))
-      ∙ ap (λ l. (before ++ sides) ++ (if class.nonbranching then map row_name.Makes l else [])) (makers_are lts columns.used.items (case_consumer lts problem number) are.used)
-    where
-      before : List RowName
-      before = problem_rows lts class problem ++ (if has_start class then map row_name.Tokens (all_numbers (states lts)) else []) ++ (if is_some class.bound then map row_name.Cap (all_numbers (states lts)) else [])
-
-      sides : List RowName
-      sides = if class.plain then (map row_name.Up (used_labels lts) ++ map row_name.Down (used_labels lts)) else []
+      ∙ ap (λ l. l ++ (if class.nonbranching then map row_name.Makes (makers columns.used.items (case_consumer lts problem number)) else [])) (h ∙ ap (λ l. l ++ shared_names lts class) e)
+      ∙ ap (λ l. (problem_rows lts class problem ++ shared_names lts class) ++ (if class.nonbranching then map row_name.Makes l else [])) (makers_are lts columns.used.items (case_consumer lts problem number) are.used)
+      ∙ ap (λ l. l ++ (if class.nonbranching then map row_name.Makes (numbers_where (λ u. has_label u lts.arcs && not (u == case_consumer lts problem number)) 0 (labels lts)) else [])) (sym (parts_told lts class (problem_rows lts class problem)))
 
 -- ---- a list of states, one name for each
 

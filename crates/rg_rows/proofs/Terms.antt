@@ -78,6 +78,10 @@ pub names_within : (s : CaseSetting) → IsSeparationProblem s.lts s.problem →
 names_within s asked = λ k d lt.
     one_name_within s.lts s.class s.problem s.number (slice_index_or (names_of s.lts s.class s.problem s.number) k d) asked (Contains-get_or (names_of s.lts s.class s.problem s.number) k d lt)
 
+pub own_within : (s : CaseSetting) → IsSeparationProblem s.lts s.problem → AreNamesWithin s (problem_rows s.lts s.class s.problem)
+own_within s asked = λ k d lt.
+    problem_name_within s.lts s.class s.problem s.number (slice_index_or (problem_rows s.lts s.class s.problem) k d) asked (Contains-get_or (problem_rows s.lts s.class s.problem) k d lt)
+
 -- what the code writes of a row names states of the system
 pub name_within : (s : CaseSetting) (names : List RowName) (i : ℕ) (d : RowName) (terms : List SumTerm) (n : ℕ) → AreNamesWithin s names → i < length names
     → terms ≡ (row_expression s.lts s.class s.problem s.number [] (slice_index_or names i d)).terms → n ≡ states s.lts → All (TermNamesStateBelow n) terms

@@ -1,5 +1,5 @@
 -- The forms of a case, and what a branching asks of them.
-use Rattle.std.specs.Prelude.{◌≡◌, ◌≢◌, ◌⊎◌, ℕ, ◌+◌, ◌^◌, ◌<◌, ◌&&◌, not, ◌++◌, is_some, if◌then◌else◌, List, [], ◌∷◌, map, length, All, Option, Some, None, Ok, slice_get, ℤ, pos, ◌+ℤ◌, ◌-ℤ◌, ◌*ℤ◌, ◌≤ℤ◌, ◌<ℤ◌}
+use Rattle.std.specs.Prelude.{◌≡◌, ◌≢◌, ◌⊎◌, ℕ, zero, suc, ◌+◌, ◌^◌, ◌<◌, ◌&&◌, not, ◌++◌, is_some, if◌then◌else◌, List, [], ◌∷◌, map, length, All, Option, Some, None, Ok, slice_get, ℤ, pos, negsuc, ◌+ℤ◌, ◌-ℤ◌, ◌*ℤ◌, ◌≤ℤ◌, ◌<ℤ◌}
 use Rattle.std.specs.Arc.{arc_slice_items}
 use Rattle.rg_theory.specs.declared.Class.{Class}
 use Rattle.rg_theory.specs.declared.Problem.{Problem}
@@ -25,6 +25,29 @@ linear_form f = record { scale = f.scale; coeffs = arc_slice_items f.coeffs; low
 -- what it is of
 abbrev pub split_of : NamedForm → SplitForm
 split_of f = f.form
+
+-- what it says, whatever memory its coefficients have
+pub record PlainForm : Type 0 where
+  pub form : SplitForm
+  pub scale : ℤ
+  pub coeffs : List ℤ
+  pub low : ℤ
+  pub high : ℤ
+  pub row : ℕ
+  pub times : ℤ
+
+abbrev pub plain_form : NamedForm → PlainForm
+plain_form f = record { form = f.form; scale = f.scale; coeffs = arc_slice_items f.coeffs; low = f.low; high = f.high; row = f.row; times = f.times }
+
+-- the number of the form's row, where so many rows come before it; 0 if the form is no row's
+abbrev pub row_behind : ℕ → ℤ → ℕ → ℕ
+row_behind before (pos zero) row = 0
+row_behind before (pos (suc n)) row = before + row
+row_behind before (negsuc n) row = before + row
+
+-- the form, where so many rows come before its row
+abbrev pub form_behind : ℕ → NamedForm → PlainForm
+form_behind before f = record (plain_form f) { row = row_behind before f.times f.row }
 
 -- ---- the forms in the order of the named rows
 

@@ -1,23 +1,28 @@
 -- The rows and forms that all problems of a system and a class share.
-use Rattle.std.specs.Prelude.{◌≡◌, ℕ, ◌&&◌, not, is_some, if◌then◌else◌, List, [], length, Some, slice_get, Result, Ok, Err, IfOk}
+use Rattle.std.specs.Prelude.{◌≡◌, ℕ, ◌&&◌, not, is_some, if◌then◌else◌, List, [], ◌++◌, map, length, All, Some, slice_get, Result, Ok, Err, IfOk, IfSome, IsFalse, pos, ◌≤ℤ◌}
 use Rattle.std.specs.Arc.{arc_slice_items}
 use Rattle.rg_theory.specs.declared.Class.{Class}
+use Rattle.rg_theory.specs.declared.Problem.{Problem}
 use Rattle.rg_theory.specs.System.{System, states, labels}
 use Rattle.rg_integers.specs.declared.term.Wide.{Wide}
+use Rattle.rg_linear.specs.Firsts.{KeepsEqualRows}
 use Rattle.rg_fraction.specs.declared.fold_stop.FoldStop.{FoldStop}
 use Rattle.rg_fraction.specs.declared.fold_stop.FoldStop.TheVariants as stop
 use Rattle.rg_cert_meaning.specs.Row.{shared_expression, row_expression}
 use Rattle.rg_cert_meaning.specs.declared.RowName.{RowName}
-use Rattle.rg_case_folds.specs.Setting.{Setting, CaseSetting}
-use Rattle.rg_case_folds.specs.Fold.{shown_result}
-use Rattle.rg_case_folds.specs.Rewriting.{has_start, column_count, terms_fold, row_fold}
+use Rattle.rg_case_folds.specs.Setting.{Setting, CaseSetting, case_at}
+use Rattle.rg_case_folds.specs.Fold.{shown_result, each}
+use Rattle.rg_case_folds.specs.Rewriting.{has_start, all_numbers, used_labels, column_count, terms_fold, row_fold, form_fold, KeptRow, IsIdle}
 use Rattle.rg_case_parts.specs.ColumnViews.{AreColumns}
 use Rattle.rg_rows.specs.declared.case_row.CaseRow.{CaseRow}
 use Rattle.rg_rows.specs.declared.form_terms.FormTerms.{FormTerms}
 use Rattle.rg_rows.specs.declared.kind.Kind.{Kind}
 use Rattle.rg_rows.specs.declared.kind.Kind.TheVariants as kind
 use Rattle.rg_rows.specs.declared.common.Common.{Common}
-use Rattle.rg_rows.specs.View.{kept_row, terms_of, fold_of}
+use Rattle.rg_rows.specs.declared.shared_rows.SharedRows.{SharedRows}
+use Rattle.rg_rows.specs.View.{kept_row, terms_of, columns_in, fold_of, ShowsRows, AreIndices}
+use Rattle.rg_rows.specs.Forms.{linear_form, split_of, forms_in}
+use Rattle.rg_rows.specs.Making.{IsMade}
 use Rattle.rg_cert_meaning.specs.declared.RowName.TheVariants as row_name
 
 -- a value, or a step out of range as the reason for none
@@ -74,6 +79,29 @@ pub record AreTermsOfKind (s : Setting) (kind : Kind) (terms : List (Result Form
   pub many : length terms ≡ forms_of_kind s.lts s.class kind
   pub each : (i : ℕ) (written : Result FormTerms Wide) → slice_get terms i ≡ Some written → AreSharedTerms s (row_of_kind kind i) written
 
+-- the rows that each case of the class has after its own, but `makes`
+abbrev pub shared_names : System → Class → List RowName
+shared_names lts class =
+    (if has_start class then map row_name.Tokens (all_numbers (states lts)) else [])
+    ++ (if is_some class.bound then map row_name.Cap (all_numbers (states lts)) else [])
+    ++ (if class.plain then (map row_name.Up (used_labels lts) ++ map row_name.Down (used_labels lts)) else [])
+
+-- what is kept of these rows, which are in range, and their forms, where no row comes after them
+pub record AreSharedRows (s : Setting) (shared : SharedRows) : Type 0 where
+  pub alone : IsFalse s.class.nonbranching
+  pub all : List CaseRow
+  pub made : (problem : Problem) (number : ℕ) → each (fold_of (case_at s problem number)) (shared_names s.lts s.class) (Ok (map kept_row all))
+  pub one_each : All (λ r. length (arc_slice_items r.coeffs) ≡ columns_in s) all
+  pub kept : List KeptRow
+  pub shows : ShowsRows shared.kept kept
+  pub firsts : KeepsEqualRows (λ k. k.row) IsIdle [] (map kept_row all) kept
+  pub not_negative : All (λ k. pos 0 ≤ℤ k.row.constant) kept
+  pub indices : List ℕ
+  pub are_indices : AreIndices (map kept_row all) kept indices
+  pub forms_made : each (form_fold s) (forms_in s.class (shared_names s.lts s.class)) (Ok (map linear_form shared.forms.items))
+  pub splits : map split_of shared.forms.items ≡ forms_in s.class (shared_names s.lts s.class)
+  pub are_made : All (IsMade s.lts s.class (columns_in s) (map kept_row all) indices) shared.forms.items
+
 -- the rows and forms that all problems of the system and the class share, over the tree and the basis
 pub record IsCommonOf (s : Setting) (common : Common) : Type 0 where
   pub columns : AreColumns s.lts s.class common.columns
@@ -84,6 +112,7 @@ pub record IsCommonOf (s : Setting) (common : Common) : Type 0 where
   pub makes : AreRowsOfKind s kind.Makes common.makes.items
   pub token_terms : AreTermsOfKind s kind.Tokens common.token_terms.items
   pub effect_terms : AreTermsOfKind s kind.Down common.effect_terms.items
+  pub shared : IfSome common.shared (AreSharedRows s)
 
 -- ---- in a case
 

@@ -15,6 +15,7 @@ use crate::case_row::CaseRow;
 use crate::form_terms::FormTerms;
 use crate::kind::Kind;
 use crate::rewriting::{form_terms, row};
+use crate::shared_rows::{SharedRows, shared_rows};
 use rg_case_parts::{Columns, Setting};
 use rg_cert_meaning::RowName;
 use rg_cycles::Basis;
@@ -35,6 +36,7 @@ pub struct Common {
     pub(crate) makes: Vec<Result<CaseRow, Wide>>,
     pub(crate) token_terms: Vec<Result<FormTerms, Wide>>,
     pub(crate) effect_terms: Vec<Result<FormTerms, Wide>>,
+    pub(crate) shared: Option<SharedRows>,
 }
 
 impl Common {
@@ -46,7 +48,7 @@ impl Common {
         ensures { IfOk result (IsCommonOf (shown_setting setting.entry)) }
     {
         let columns = Columns::new(alloc, setting.lts, setting.class)?;
-        Ok(Common {
+        let mut common = Common {
             tokens: rows(alloc, setting, &columns, Kind::Tokens)?,
             caps: rows(alloc, setting, &columns, Kind::Cap)?,
             ups: rows(alloc, setting, &columns, Kind::Up)?,
@@ -55,7 +57,10 @@ impl Common {
             token_terms: terms(alloc, setting, &columns, Kind::Tokens)?,
             effect_terms: terms(alloc, setting, &columns, Kind::Down)?,
             columns,
-        })
+            shared: None,
+        };
+        common.shared = shared_rows(alloc, setting, &common)?;
+        Ok(common)
     }
 
     /// How many columns the system of each case has, over this basis.

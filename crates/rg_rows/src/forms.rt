@@ -60,7 +60,7 @@ pub(crate) fn case_forms(
 }
 
 // Whether the start has to be split on: a class that asks a marking is bounded, or is plain and the problem an event's.
-fn splits_start(class: Class, problem: Problem) -> bool
+pub(crate) fn splits_start(class: Class, problem: Problem) -> bool
     ensures { result ≡ splits_start class problem }
 {
     match problem {
@@ -130,7 +130,7 @@ fn index_of(names: &[RowName], name: RowName) -> usize
 
 // The forms of the named rows, in order: in a bounded class the tokens of each state, else in a plain one the effect of each label with an
 // arc. Each is written over the columns as the row named `tokens` or `down` is, and not divided.
-fn forms(
+pub(crate) fn forms(
     alloc: Global,
     common: &Common,
     c: CaseSetting<'_>,

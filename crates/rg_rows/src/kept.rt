@@ -1,6 +1,7 @@
 //! Which rows are kept.
 ghost use Rattle.std.specs.Prelude.{◌↔◌, ◌≡◌, ◌^◌, ◌<◌, ◌++◌, ◌∷◌, [], List, length, IsTrue, map, IfOk, OnOk};
 ghost use Rattle.rg_linear.specs.Firsts.{KeepsEqualRows};
+ghost use Rattle.rg_linear.specs.View.{linear_row};
 ghost use Rattle.rg_case_folds.specs.Rewriting.{KeptRow, IsIdle};
 ghost use Rattle.rg_rows.specs.View.{kept_row, row_in, ShowsRows, AreIndices};
 
@@ -63,6 +64,29 @@ impl CaseRows {
         self.factors.push(row.factor)?;
         Ok(())
     }
+}
+
+impl CaseRows {
+    // Adds rows after these, with the same coefficients in memory.
+    pub(crate) fn extend(&mut self, more: &CaseRows) -> Result<(), AllocError>
+        ensures { OnOk result ((kept rest : List KeptRow) → ShowsRows self.old kept → ShowsRows more.now rest → ShowsRows self.new (kept ++ rest)) }
+    {
+        extend_rows(&mut self.rows, &more.rows)?;
+        self.names.extend_from_slice(&more.names)?;
+        self.factors.extend_from_slice(&more.factors)?;
+        Ok(())
+    }
+}
+
+// Adds rows after these, with the same coefficients in memory.
+fn extend_rows(rows: &mut Vec<Row>, more: &[Row]) -> Result<(), AllocError>
+    ensures { OnOk result (map linear_row rows.new.items ≡ map linear_row rows.old.items ++ map linear_row more.now) }
+{
+    rows.reserve(more.len())?;
+    for row in more {
+        rows.push(row.clone()?)?;
+    }
+    Ok(())
 }
 
 // Whether the row has no coefficients and always holds.

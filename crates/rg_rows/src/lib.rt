@@ -21,6 +21,7 @@ mod names;
 mod problem_names;
 mod rewriting;
 mod row_numbers;
+mod shared_rows;
 
 pub use case::cases;
 pub use common::Common;

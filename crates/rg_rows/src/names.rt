@@ -5,11 +5,14 @@ ghost use Rattle.rg_cert_meaning.specs.Refutes.{IsSeparationProblem};
 ghost use Rattle.rg_case_folds.specs.Rewriting.{all_numbers, problem_rows, names_of};
 ghost use Rattle.rg_case_parts.specs.ColumnViews.{AreColumns};
 ghost use Rattle.rg_rows.specs.View.{users, makers};
+ghost use Rattle.rg_rows.specs.Sharing.{shared_names};
 ghost use Rattle.rg_cert_meaning.specs.declared.RowName.TheVariants as row_name;
 
 use crate::problem_names::problem_rows;
 use rg_case_parts::{CaseSetting, Columns, Setting};
 use rg_cert_meaning::RowName;
+use rg_lts::Lts;
+use rg_theory::Class;
 use std::alloc::{AllocError, Global};
 
 // The rows in order: those of the problem; `tokens` by state where Start is a column; in a bounded class `cap` by
@@ -31,16 +34,7 @@ pub(crate) fn names(
     } = c;
     let Setting { lts, class, .. } = setting;
     let mut names = problem_rows(alloc, lts, class, problem)?;
-    if columns.start {
-        push_tokens(&mut names, lts.states())?;
-    }
-    if class.bound.is_some() {
-        push_caps(&mut names, lts.states())?;
-    }
-    if class.plain {
-        push_ups(&mut names, lts.labels(), &columns.used)?;
-        push_downs(&mut names, lts.labels(), &columns.used)?;
-    }
+    push_shared(&mut names, lts, class, columns)?;
     if class.nonbranching {
         push_makes(
             &mut names,
@@ -50,6 +44,45 @@ pub(crate) fn names(
         )?;
     }
     Ok(names)
+}
+
+// The rows that all cases of the class share: `tokens` by state where Start is a column; in a bounded class `cap` by
+// state; and in a plain one `up` and then `down` by label with an arc.
+pub(crate) fn shared_names(
+    alloc: Global,
+    lts: &Lts,
+    class: Class,
+    columns: &Columns,
+) -> Result<Vec<RowName>, AllocError>
+    requires { AreColumns lts.now class columns.now }
+    ensures { IfOk result (λ v. v.items ≡ shared_names lts.now class) }
+{
+    let mut names = Vec::new(alloc);
+    push_shared(&mut names, lts, class, columns)?;
+    Ok(names)
+}
+
+// Adds the rows that all cases of the class share.
+fn push_shared(
+    names: &mut Vec<RowName>,
+    lts: &Lts,
+    class: Class,
+    columns: &Columns,
+) -> Result<(), AllocError>
+    requires { AreColumns lts.now class columns.now }
+    ensures { OnOk result (names.new.items ≡ names.old.items ++ shared_names lts.now class) }
+{
+    if columns.start {
+        push_tokens(names, lts.states())?;
+    }
+    if class.bound.is_some() {
+        push_caps(names, lts.states())?;
+    }
+    if class.plain {
+        push_ups(names, lts.labels(), &columns.used)?;
+        push_downs(names, lts.labels(), &columns.used)?;
+    }
+    Ok(())
 }
 
 // `tokens` at each state.

@@ -2,7 +2,8 @@ use Rattle.std.proofs.Common.{map, ap, ◌∙◌}
 use Rattle.rg_case_folds.specs.Fold.{shown_result}
 use Rattle.rg_rows.specs.declared.kind.Kind.TheVariants as kind
 use Rattle.rg_rows.specs.View.{kept_row, terms_of}
-use Rattle.rg_rows.proofs.Copies.{rows_copied, terms_copied, columns_copied}
+use Rattle.rg_rows.specs.Sharing.{AreSharedRows}
+use Rattle.rg_rows.proofs.Copies.{rows_copied, terms_copied, columns_copied, borrowed}
 use Rattle.rg_rows.proofs.common.Common.copied.Goals as goal
 
 pub returns : goal.returns
@@ -22,4 +23,5 @@ returns c = λ s is. record {
       (c.in_ok-copy_terms.ensures ∙ ap (map (shown_result terms_of)) c.deref-6.ensures.value) is.token_terms;
   effect_terms = terms_copied s kind.Down c.args.self.now.effect_terms.items c.in_ok-copy_terms-2.field-0.items
       (c.in_ok-copy_terms-2.ensures ∙ ap (map (shown_result terms_of)) c.deref-7.ensures.value) is.effect_terms;
+  shared = c.in_ok-copy_shared.ensures s (borrowed (AreSharedRows s) c.as_ref.result c.args.self.now.shared c.as_ref.ensures.value is.shared);
 }

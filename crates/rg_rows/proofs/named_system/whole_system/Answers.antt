@@ -23,7 +23,7 @@ use Rattle.rg_rows.proofs.Making.{case_fails, case_made, forms_fail}
 use Rattle.rg_rows.proofs.Forming.{names_few, well_formed}
 use Rattle.rg_rows.proofs.FormNames.{forms_are, has_start_name}
 use Rattle.rg_rows.proofs.Assembling.{all_stand, all_forms}
-use Rattle.rg_rows.proofs.named_system.system_with.Goals as goal
+use Rattle.rg_rows.proofs.named_system.whole_system.Goals as goal
 use Rattle.rg_cert_meaning.specs.declared.RowName.TheVariants as row_name
 
 pub rows-requires-clause-names : goal.rows-requires-clause-names

@@ -1,0 +1,116 @@
+use Rattle.std.proofs.Common.{rules, ◌≡◌, ◌+◌, ◌^◌, ◌<◌, ◌≤◌, [], ◌++◌, map, length, All, Err, ap, refl, subst, sym, ◌∙◌, arith}
+use Rattle.std.specs.Prelude.{pos, ◌<ℤ◌}
+use Rattle.std.proofs.lemmas.List.{length-map}
+use Rattle.rg_theory.specs.System.{states, labels}
+use Rattle.rg_fraction.specs.declared.fold_stop.FoldStop.TheVariants as stop
+use Rattle.rg_case_folds.specs.Rewriting.{KeptRow, IsIdle, CaseSystem}
+use Rattle.rg_case_folds.specs.Meaning.{IsCaseOver}
+use Rattle.rg_case_parts.proofs.Picking.{columns_few}
+use Rattle.rg_linear.specs.System.{LinearSystem}
+use Rattle.rg_linear.specs.Firsts.{KeepsEqualRows}
+use Rattle.rg_linear.specs.View.{linear_row}
+use Rattle.rg_rows.specs.declared.named_form.NamedForm.{NamedForm}
+use Rattle.rg_rows.specs.Forms.{plain_form, form_behind, linear_form, StandsInRow, AreFormsOf}
+use Rattle.rg_case_parts.specs.SettingViews.{shown_case}
+use Rattle.rg_rows.specs.View.{kept_row, row_in, columns_in, AreNamesWithin, AreIndices}
+use Rattle.rg_rows.proofs.Terms.{own_within}
+use Rattle.rg_rows.proofs.SharedCase.{shown_count, own_fails, all_few, all_kept_few, forms_fit, are_well_formed, case_is, splits_are, forms_stand, are_forms}
+use Rattle.rg_rows.proofs.named_system.system_before.Goals as goal
+
+pub rows-requires-clause-names : goal.rows-requires-clause-names
+rows-requires-clause-names c =
+    let named = c.deref.ensures.value ∙ c.in_ok-names.ensures in
+    subst (AreNamesWithin (shown_case c.args.c)) (sym named) (own_within (shown_case c.args.c) c.requires.asked)
+
+pub returns-in_err-own-clause-wide : goal.returns-in_err-own-clause-wide
+returns-in_err-own-clause-wide c = λ w e.
+    let result : c.from_residual-in_err-own.result ≡ Err c.in_err-own.field-0.0 = search rules in
+    let is : c.in_err-own.field-0.0 ≡ stop.Wide w = cc in
+    own_fails (shown_case c.args.c) c.args.shared.now c.requires.shared c.deref.result.now (c.deref.ensures.value ∙ c.in_ok-names.ensures) w (rw is at c.in_err-own.ensures.comes)
+
+pub firsts-requires : goal.firsts-requires
+firsts-requires c =
+    let s = shown_case c.args.c in
+    let few = all_few s c.args.shared.now c.requires.shared (map row_in c.in_ok-own.own.items) c.deref.result.now (c.deref.ensures.value ∙ c.in_ok-names.ensures) c.in_ok-own.ensures.comes in
+    let size = length-map c.in_ok-own.own.items row_in in
+    let same = ap length c.deref-3.ensures.value in
+    let wide : states s.lts ≤ 4096 = c.is_well_formed.ensures.few_states in
+    let high : labels s.lts ≤ 256 = c.is_well_formed.ensures.few_labels in
+    omega arith
+
+pub overflow_cast-len : goal.overflow_cast-len
+overflow_cast-len c =
+    let s = shown_case c.args.c in
+    let (kept, shows, firsts, places) = c.in_ok-kept.ensures in
+    let own = map row_in c.in_ok-own.own.items in
+    let named = c.deref.ensures.value ∙ c.in_ok-names.ensures in
+    let own_firsts = subst (λ l. KeepsEqualRows (λ k. k.row) IsIdle [] (map kept_row (map row_in l)) kept) c.deref-3.ensures.value firsts in
+    let own_places = subst (λ l. AreIndices (map kept_row (map row_in l)) kept c.in_ok-kept.field-0-1.items) c.deref-3.ensures.value places in
+    let few = all_kept_few s c.args.shared.now c.requires.shared own c.deref.result.now named c.in_ok-own.ensures.comes kept c.in_ok-kept.field-0-1.items own_firsts own_places in
+    let rows = shown_count c.in_ok-kept.kept kept shows in
+    let many = c.len.ensures in
+    let wide : states s.lts ≤ 4096 = c.is_well_formed.ensures.few_states in
+    let high : labels s.lts ≤ 256 = c.is_well_formed.ensures.few_labels in
+    omega arith
+
+pub forms_behind-requires : goal.forms_behind-requires
+forms_behind-requires c =
+    let s = shown_case c.args.c in
+    let (kept, shows, firsts, places) = c.in_ok-kept.ensures in
+    let own = map row_in c.in_ok-own.own.items in
+    let named = c.deref.ensures.value ∙ c.in_ok-names.ensures in
+    let own_firsts = subst (λ l. KeepsEqualRows (λ k. k.row) IsIdle [] (map kept_row (map row_in l)) kept) c.deref-3.ensures.value firsts in
+    let own_places = subst (λ l. AreIndices (map kept_row (map row_in l)) kept c.in_ok-kept.field-0-1.items) c.deref-3.ensures.value places in
+    let few = all_kept_few s c.args.shared.now c.requires.shared own c.deref.result.now named c.in_ok-own.ensures.comes kept c.in_ok-kept.field-0-1.items own_firsts own_places in
+    let rows = shown_count c.in_ok-kept.kept kept shows in
+    let many = c.len.ensures in
+    let wide : states s.lts ≤ 4096 = c.is_well_formed.ensures.few_states in
+    let high : labels s.lts ≤ 256 = c.is_well_formed.ensures.few_labels in
+    let fits : c.len.result + length c.requires.shared.kept < 2 ^ 32 = omega arith in
+    record { fits = subst (All (λ (f : NamedForm). c.len.result + f.row < 2 ^ 32)) (sym c.deref-4.ensures.value) (forms_fit s c.args.shared.now c.requires.shared c.len.result fits) }
+
+pub new-requires : goal.new-requires
+new-requires c =
+    let s = shown_case c.args.c in
+    let (kept, shows, firsts, places) = c.in_ok-kept.ensures in
+    let own = map row_in c.in_ok-own.own.items in
+    let named = c.deref.ensures.value ∙ c.in_ok-names.ensures in
+    let own_firsts = subst (λ l. KeepsEqualRows (λ k. k.row) IsIdle [] (map kept_row (map row_in l)) kept) c.deref-3.ensures.value firsts in
+    let own_places = subst (λ l. AreIndices (map kept_row (map row_in l)) kept c.in_ok-kept.field-0-1.items) c.deref-3.ensures.value places in
+    let negative = subst (λ l. All (λ (k : KeptRow). k.row.constant <ℤ pos 0) (map kept_row (map row_in l))) c.deref-2.ensures.value (c.all_negative.ensures c.if-not-all_negative.false) in
+    let wide : states s.lts ≤ 4096 = c.is_well_formed.ensures.few_states in
+    let high : labels s.lts ≤ 256 = c.is_well_formed.ensures.few_labels in
+    let columns : c.count.result ≡ columns_in s.setting = c.count.ensures s.lts s.class (sym c.requires.labels) c.requires.common.columns in
+    let most : columns_in s.setting ≤ labels s.lts + 1 = columns_few s.lts s.basis s.class in
+    let all_shows = c.in_ok-extend.ensures kept c.requires.shared.kept shows c.requires.shared.shows in
+    are_well_formed s c.args.shared.now c.requires.shared own c.deref.result.now named c.in_ok-own.ensures.comes kept c.in_ok-kept.field-0-1.items own_firsts own_places negative c.count.result c.extend.new.self.rows.items columns c.in_ok-own.ensures.one_each all_shows.rows (omega arith)
+
+pub returns-clause-made : goal.returns-clause-made
+returns-clause-made c =
+    let s = shown_case c.args.c in
+    let (kept, shows, firsts, places) = c.in_ok-kept.ensures in
+    let own = map row_in c.in_ok-own.own.items in
+    let named = c.deref.ensures.value ∙ c.in_ok-names.ensures in
+    let own_firsts = subst (λ l. KeepsEqualRows (λ k. k.row) IsIdle [] (map kept_row (map row_in l)) kept) c.deref-3.ensures.value firsts in
+    let own_places = subst (λ l. AreIndices (map kept_row (map row_in l)) kept c.in_ok-kept.field-0-1.items) c.deref-3.ensures.value places in
+    let negative = subst (λ l. All (λ (k : KeptRow). k.row.constant <ℤ pos 0) (map kept_row (map row_in l))) c.deref-2.ensures.value (c.all_negative.ensures c.if-not-all_negative.false) in
+    let rows = shown_count c.in_ok-kept.kept kept shows in
+    let many = c.len.ensures in
+    let before : c.len.result ≡ length kept = omega arith in
+    let forms = c.in_ok-forms.forms.items in
+    let moved : map plain_form forms ≡ map (form_behind (length kept)) c.args.shared.now.forms.items = c.in_ok-forms.ensures ∙ ap (map (form_behind c.len.result)) c.deref-4.ensures.value ∙ ap (λ n. map (form_behind n) c.args.shared.now.forms.items) before in
+    let start = c.requires.start in
+    let columns : c.count.result ≡ columns_in s.setting = c.count.ensures s.lts s.class (sym c.requires.labels) c.requires.common.columns in
+    let all_shows = c.in_ok-extend.ensures kept c.requires.shared.kept shows c.requires.shared.shows in
+    let shown : CaseSystem = record { columns = c.count.result; kept = kept ++ c.requires.shared.kept; forms = map linear_form forms } in
+    let is_case = case_is s c.args.shared.now c.requires.shared own c.deref.result.now named c.in_ok-own.ensures.comes kept c.in_ok-kept.field-0-1.items own_firsts own_places negative forms moved start c.count.result columns in
+    let system_is = c.new.ensures ∙ (λ i. record { columns = c.count.result; rows = all_shows.rows i }) in
+    record {
+      system = (shown, is_case, record { system = system_is; names = all_shows.names; factors = all_shows.factors; forms = refl });
+      forms = splits_are s c.args.shared.now c.requires.shared own c.deref.result.now named c.in_ok-own.ensures.comes kept c.in_ok-kept.field-0-1.items own_firsts own_places negative forms moved start;
+      rows = subst (λ (l : LinearSystem). All (StandsInRow s l) forms) (sym system_is) (forms_stand s c.args.shared.now c.requires.shared own c.deref.result.now named c.in_ok-own.ensures.comes kept c.in_ok-kept.field-0-1.items own_firsts own_places negative forms moved start c.count.result columns);
+      bounded = λ reachable is_basis bound. (
+          let over : IsCaseOver s shown = record { in_range = c.is_well_formed.ensures.in_range; numbers = bound; reachable = reachable; is_tree = c.requires.tree.tree; is_basis = is_basis; asked = c.requires.asked; is_case = is_case } in
+          subst (λ (l : LinearSystem). AreFormsOf l forms) (sym system_is)
+          (are_forms s c.args.shared.now c.requires.shared own c.deref.result.now named c.in_ok-own.ensures.comes kept c.in_ok-kept.field-0-1.items own_firsts own_places negative forms moved start c.count.result columns over bound c.is_well_formed.ensures.few_states c.is_well_formed.ensures.few_labels));
+    }
