@@ -2,5 +2,6 @@ pub mod Multiples
 pub mod Picking
 pub mod Marking
 pub mod Counting
-pub mod ChordVectors
+pub mod TreeRows
+pub mod Rows
 pub mod StatesWith

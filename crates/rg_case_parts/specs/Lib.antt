@@ -1,4 +1,5 @@
 pub mod WholeNumbers
 pub mod ColumnViews
+pub mod ChordRows
 pub mod StatesNamed
 pub mod SettingViews

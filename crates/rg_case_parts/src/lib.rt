@@ -1,4 +1,4 @@
-//! The parts of a case's system: its setting, the vectors of the chords, its columns, how often they count in what
+//! The parts of a case's system: its setting, the rows of the chords, its columns, how often they count in what
 //! the named rows of a certificate say, and rows of fractions brought to whole numbers.
 //!
 //! The terms of a row are tokens of states and effects of labels; here they are counted over the tokens of the
@@ -7,18 +7,20 @@
 //! and the first step in which a number is out of range is returned.
 #![tactic(auto)]
 
+mod chord_ends;
 mod columns;
 mod counts;
 mod denominators;
 mod scaled;
 mod setting;
 mod states;
-mod vectors;
+mod tree_chords;
 
+pub use chord_ends::ChordEnds;
 pub use columns::{Columns, has_start, used_labels};
 pub use counts::{count, start};
 pub use denominators::{common_denominator, products, without_denominators};
 pub use scaled::Scaled;
 pub use setting::{CaseSetting, Setting};
 pub use states::states_with;
-pub use vectors::chord_vectors;
+pub use tree_chords::TreeChords;

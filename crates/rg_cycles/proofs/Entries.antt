@@ -1,13 +1,11 @@
 -- Entries of chords as whole numbers.
-use Rattle.std.proofs.Common.{◌≡◌, ℕ, ◌+◌, ◌<◌, Bool, ◌&&◌, List, [], ◌∷◌, ◌++◌, length, map, take, get_or, ap, ap₂, refl, subst, sym, ◌∙◌}
+use Rattle.std.proofs.Common.{◌≡◌, ℕ, zero, suc, ◌+◌, ◌<◌, List, [], ◌∷◌, ◌++◌, length, map, take, get_or, Vec, ap, refl, subst, sym, ◌∙◌, arith}
 use Rattle.std.proofs.lemmas.List.{length-map, map-append, take_more, get_or-map}
 use Rattle.std.proofs.lemmas.List.Elements.{All-map}
 use Rattle.std.specs.Prelude.{◌↔◌, All, ℤ, pos}
-use Rattle.std.specs.Bool.{Decides}
-use Rattle.std.specs.Ordering.{int_eq}
-use Rattle.std.specs.Cmp.Lexicographic.{pointwise}
-use Rattle.std.proofs.lemmas.Bool.Decides.{Decides-int_eq}
-use Rattle.std.proofs.lemmas.Slice.Eq.{slice_eq-Decides}
+use Rattle.std.specs.declared.alloc.Global.{Global}
+use Rattle.rg_linear.specs.Cycle.{vector_at}
+use Rattle.rg_cycles.specs.Vectors.{vectors_by}
 
 -- one entry more
 pub entry_more : {N : Type 0} (number : N → ℤ) (entries : List N) (i : ℕ) (z : N) (x : ℤ)
@@ -28,13 +26,9 @@ module _ {N : Type 0} (number : N → ℤ) (numbers : List N → List ℤ) (one_
         ∙ subst (All (λ z. z ≡ pos 0)) (one_each entries) all k (pos 0) (subst (λ n. k < n) (sym (length-map entries number)) lt),
   )
 
-  -- slices are the same where their numbers are
-  pub slices_decide : (same : N → N → Bool) → ((a b : N) → same a b ≡ int_eq (number a) (number b)) → (x y : List N) → Decides (pointwise same x y) (numbers x ≡ numbers y)
-  slices_decide same compares x y = slice_eq-Decides Decides-int_eq (numbers x) (numbers y) (pointwise same x y)
-      (each x y ∙ ap₂ (pointwise int_eq) (sym (one_each x)) (sym (one_each y)))
-    where
-      each : (x y : List N) → pointwise same x y ≡ pointwise int_eq (map number x) (map number y)
-      each [] [] = refl
-      each [] (b ∷ y) = refl
-      each (a ∷ x) [] = refl
-      each (a ∷ x) (b ∷ y) = λ i. compares a b i && each x y i
+-- a vector by its index
+pub vector_is : {N : Type 0} (numbers : List N → List ℤ) (vectors : List (Vec N Global)) (i : ℕ) (d : Vec N Global) → i < length (vectors_by numbers vectors)
+    → vector_at (vectors_by numbers vectors) i ≡ numbers (get_or vectors i d).items
+vector_is numbers [] i d lt = absurd (omega arith)
+vector_is numbers (v ∷ vectors) zero d lt = refl
+vector_is numbers (v ∷ vectors) (suc i) d lt = vector_is numbers vectors i d (omega arith)

@@ -1,15 +1,13 @@
 -- The dictionary of the kept vectors, filled row by row.
-use Rattle.std.proofs.Common.{◌≡◌, ℕ, ◌+◌, ◌<◌, List, [], ◌∷◌, ◌++◌, length, map, take, Vec, slice_index_or, ap, subst, sym, ◌∙◌, arith}
+use Rattle.std.proofs.Common.{◌≡◌, ℕ, ◌+◌, ◌<◌, List, [], ◌∷◌, ◌++◌, length, map, take, ap, subst, sym, ◌∙◌, arith}
 use Rattle.std.specs.Prelude.{ℤ, pos, slice_index}
-use Rattle.std.specs.declared.alloc.Global.{Global}
 use Rattle.std.proofs.lemmas.List.{take_more, map-append}
 use Rattle.rg_integers.specs.Range.{InRange}
 use Rattle.rg_integers.specs.Sum.{number_at}
 use Rattle.rg_linear.specs.System.{LinearRow}
 use Rattle.rg_linear.specs.Cycle.{vector_at, vector_system}
 use Rattle.rg_dictionary.specs.Contents.{with_row}
-use Rattle.rg_cycles.specs.Vectors.{vectors_by, AreVectors}
-use Rattle.rg_cycles.proofs.Firsts.{vector_is, below_in}
+use Rattle.rg_cycles.specs.Vectors.{AreVectors}
 
 abbrev pub row : List ℤ → LinearRow
 row xs = record { coeffs = xs; constant = pos 0 }
@@ -24,11 +22,10 @@ row_added labels vectors kept i lt coeffs is = λ j. record { columns = labels; 
         ∙ sym (ap (map {B = LinearRow} (λ c. record { coeffs = vector_at vectors c; constant = pos 0 })) (take_more kept i 0 lt)
         ∙ map-append {B = LinearRow} (λ c. record { coeffs = vector_at vectors c; constant = pos 0 }) (take i kept) (slice_index kept i ∷ []))
 
--- a vector of code has a number for each label, in range
-module _ {N : Type 0} (numbers : List N → List ℤ) (labels : ℕ) (vectors : List (Vec N Global)) (are : AreVectors labels (vectors_by numbers vectors))
-    (c : ℕ) (lt : c < length vectors) (v : Vec N Global) (at : v ≡ slice_index_or vectors c v) where
-  pub vector_length : length (numbers v.items) ≡ labels
-  vector_length = ap length (sym (vector_is numbers vectors c v lt at)) ∙ are.one_each c (below_in numbers vectors c lt)
+-- a row that is read has a number for each label, in range
+module _ (labels : ℕ) (rows : List (List ℤ)) (are : AreVectors labels rows) (c : ℕ) (lt : c < length rows) (numbers : List ℤ) (is : numbers ≡ vector_at rows c) where
+  pub row_length : length numbers ≡ labels
+  row_length = ap length is ∙ are.one_each c lt
 
-  pub vector_in_range : (j : ℕ) → j < length (numbers v.items) → InRange (number_at (numbers v.items) j)
-  vector_in_range j below = subst (λ xs. InRange (number_at xs j)) (vector_is numbers vectors c v lt at) (are.in_range c j (below_in numbers vectors c lt) (let e = vector_length in omega arith))
+  pub row_in_range : (j : ℕ) → j < length numbers → InRange (number_at numbers j)
+  row_in_range j below = subst (λ xs. InRange (number_at xs j)) (sym is) (are.in_range c j lt (let e = row_length in omega arith))

@@ -1,4 +1,5 @@
 pub mod Vectors
+pub mod Slices
 pub mod Basis
 pub mod Solutions
 pub mod Refusal

@@ -7,6 +7,7 @@
 
 mod basis;
 mod chord_entry;
+mod chord_rows;
 mod columns;
 mod distinct;
 mod reading;
@@ -21,9 +22,10 @@ mod widen;
 
 pub use basis::Basis;
 pub use chord_entry::ChordEntry;
+pub use chord_rows::ChordRows;
 pub use relation::Relation;
 pub use rg_fraction::FoldStop;
-pub use solving::reduce;
+pub use solving::{reduce, reduce_rows};
 pub use stop::{CycleWide, Stop};
 pub use substitution::{FreeRow, dependent, substitute};
 pub use whole::whole_sums;

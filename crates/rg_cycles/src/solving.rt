@@ -14,12 +14,12 @@ ghost use Rattle.rg_cycles.specs.Refusal.{PassesAt, shown_term};
 
 use crate::basis::Basis;
 use crate::chord_entry::ChordEntry;
+use crate::chord_rows::{ChordRows, ListedChords};
 use crate::columns::walk_columns;
 use crate::distinct::first_indices;
 use crate::relations::Relations;
 use crate::stop::Stop;
 use crate::walk::walk;
-use crate::widen::widen;
 use rg_dictionary::RelationTable;
 use rg_revised::RevisedWalk;
 use std::alloc::{AllocError, Global};
@@ -42,69 +42,85 @@ pub fn reduce<N: ChordEntry>(alloc: Global, labels: u32, chords: &[Vec<N>]) -> R
     ensures fits { IfOk result (λ _. (at : WideAt) → ¬ PassesAt labels (vectors_by N.numbers chords.now) at) }
     ensures wide { (w : CycleWide) → IsErrOf result (stop.Wide w) → PassesAt labels (vectors_by N.numbers chords.now) (shown_term w) }
 {
-    let kept = first_indices(alloc, chords)?;
-    let basis = basis_of(alloc, labels, chords, kept)?;
+    reduce_rows(alloc, labels, &ListedChords { vectors: chords })
+}
+
+/// What `reduce` returns, for chords whose rows are listed only when they are read.
+pub fn reduce_rows<R: ChordRows>(alloc: Global, labels: u32, rows: &R) -> Result<Basis, Stop>
+    requires labels { labels ≤ most_labels }
+    requires chords { length (R.rows rows.now) ≤ most_arcs }
+    requires rows { AreVectors labels (R.rows rows.now) }
+    ensures labels { IfOk result (λ b. labels_of b ≡ labels) }
+    ensures basis { IfOk result (λ b. IsCycleBasis labels (R.rows rows.now) (cycle_of b)) }
+    ensures solutions { IfOk result (λ b. (v : ℕ → ℤ) → AllSumsAreZero labels (R.rows rows.now) v ↔ FollowsFree labels (cycle_of b) v) }
+    ensures holds { IfOk result (λ b. RelationsHold labels (cycle_of b) (R.rows rows.now)) }
+    ensures reduced { IfOk result (λ b. AreReduced labels (cycle_of b)) }
+    ensures fits { IfOk result (λ _. (at : WideAt) → ¬ PassesAt labels (R.rows rows.now) at) }
+    ensures wide { (w : CycleWide) → IsErrOf result (stop.Wide w) → PassesAt labels (R.rows rows.now) (shown_term w) }
+{
+    let kept = first_indices(alloc, rows)?;
+    let basis = basis_of(alloc, labels, rows, kept)?;
     Ok(basis)
 }
 
-// The basis of the vectors, of which these are kept.
-fn basis_of<N: ChordEntry>(
+// The basis of the rows, of which these are kept.
+fn basis_of<R: ChordRows>(
     alloc: Global,
     labels: u32,
-    vectors: &[Vec<N>],
+    rows: &R,
     kept: Vec<u32>,
 ) -> Result<Basis, Stop>
     requires few { labels + length kept.items < 2 ^ 32 }
-    requires keeps { KeepsVectors (vectors_by N.numbers vectors.now) kept.items }
-    requires vectors { AreVectors labels (vectors_by N.numbers vectors.now) }
+    requires keeps { KeepsVectors (R.rows rows.now) kept.items }
+    requires rows { AreVectors labels (R.rows rows.now) }
     ensures labels { IfOk result (λ b. labels_of b ≡ labels) }
-    ensures basis { IfOk result (λ b. IsCycleBasis labels (vectors_by N.numbers vectors.now) (cycle_of b)) }
-    ensures wide { (w : CycleWide) → IsErrOf result (stop.Wide w) → PassesAt labels (vectors_by N.numbers vectors.now) (shown_term w) }
+    ensures basis { IfOk result (λ b. IsCycleBasis labels (R.rows rows.now) (cycle_of b)) }
+    ensures wide { (w : CycleWide) → IsErrOf result (stop.Wide w) → PassesAt labels (R.rows rows.now) (shown_term w) }
 {
     let mut columns = RevisedWalk::new(alloc, labels)?;
-    if walk_columns(alloc, &mut columns, labels, vectors, &kept)? {
+    if walk_columns(alloc, &mut columns, labels, rows, &kept)? {
         let basis = Basis::read(alloc, Relations::OfColumns(&columns), kept)?;
         return Ok(basis);
     }
-    full_basis(alloc, labels, vectors, kept)
+    full_basis(alloc, labels, rows, kept)
 }
 
 // The same with a dictionary that has a row for each variable.
-fn full_basis<N: ChordEntry>(
+fn full_basis<R: ChordRows>(
     alloc: Global,
     labels: u32,
-    vectors: &[Vec<N>],
+    rows: &R,
     kept: Vec<u32>,
 ) -> Result<Basis, Stop>
     requires few { labels + length kept.items < 2 ^ 32 }
-    requires keeps { KeepsVectors (vectors_by N.numbers vectors.now) kept.items }
-    requires vectors { AreVectors labels (vectors_by N.numbers vectors.now) }
+    requires keeps { KeepsVectors (R.rows rows.now) kept.items }
+    requires rows { AreVectors labels (R.rows rows.now) }
     ensures labels { IfOk result (λ b. labels_of b ≡ labels) }
-    ensures basis { IfOk result (λ b. IsCycleBasis labels (vectors_by N.numbers vectors.now) (cycle_of b)) }
-    ensures wide { (w : CycleWide) → IsErrOf result (stop.Wide w) → PassesAt labels (vectors_by N.numbers vectors.now) (shown_term w) }
+    ensures basis { IfOk result (λ b. IsCycleBasis labels (R.rows rows.now) (cycle_of b)) }
+    ensures wide { (w : CycleWide) → IsErrOf result (stop.Wide w) → PassesAt labels (R.rows rows.now) (shown_term w) }
 {
-    let mut dictionary = fill(alloc, labels, vectors, &kept)?;
+    let mut dictionary = fill(alloc, labels, rows, &kept)?;
     walk(alloc, &mut dictionary)?;
     let basis = Basis::read(alloc, Relations::OfAll(&dictionary), kept)?;
     Ok(basis)
 }
 
-// The dictionary of the rows that these vectors are, over so many columns.
-fn fill<N: ChordEntry>(
+// The dictionary of the rows that are kept, over so many columns.
+fn fill<R: ChordRows>(
     alloc: Global,
     labels: u32,
-    vectors: &[Vec<N>],
+    rows: &R,
     kept: &[u32],
 ) -> Result<RelationTable, AllocError>
     requires few { labels + length kept.now < 2 ^ 32 }
-    requires kept { (c : ℕ) → Contains kept.now c → c < length vectors.now }
-    requires vectors { AreVectors labels (vectors_by N.numbers vectors.now) }
-    ensures whole { IfOk result (IsDictionary (vector_system labels (vectors_by N.numbers vectors.now) kept.now)) }
+    requires kept { (c : ℕ) → Contains kept.now c → c < length (R.rows rows.now) }
+    requires rows { AreVectors labels (R.rows rows.now) }
+    ensures whole { IfOk result (IsDictionary (vector_system labels (R.rows rows.now) kept.now)) }
     ensures start { IfOk result (λ d. d.members ≡ numbers_from 0 d.columns) }
 {
     let mut dictionary = RelationTable::with_columns(alloc, labels, kept.len() as u32)?;
     for &index in kept {
-        let row = widen(alloc, &vectors[index as usize])?;
+        let row = rows.row(alloc, index as usize)?;
         dictionary.push_row(&row, 0);
     }
     Ok(dictionary)

@@ -18,9 +18,9 @@ use crate::problem::{ProblemAnswer, solve_problem};
 use crate::solving::Problems;
 use crate::workspace::Workspace;
 use rg_blocks::{Progress, Search, SeparationOutcome, separate_all};
-use rg_case_parts::{Setting, chord_vectors};
+use rg_case_parts::{Setting, TreeChords};
 use rg_cert_data::{Certificate, Reason, Stage, WideAt};
-use rg_cycles::{CycleWide, Stop, reduce};
+use rg_cycles::{CycleWide, Stop, reduce_rows};
 use rg_lts::Lts;
 use rg_marks::Firsts;
 use rg_memory::NoMemory;
@@ -111,8 +111,8 @@ pub fn separate_with_firsts<R: Threads + Sync, G: Gate + Sync>(
         Err(GrowStop::NoMemory) => return Err(NoMemory),
         Err(GrowStop::Unreachable(_)) => unreachable!(),
     };
-    let vectors = chord_vectors(alloc, lts, &tree)?;
-    match reduce(alloc, lts.labels(), &vectors) {
+    let chords = TreeChords::new(lts, &tree);
+    match reduce_rows(alloc, lts.labels(), &chords) {
         Ok(basis) => {
             let setting = Setting {
                 lts,

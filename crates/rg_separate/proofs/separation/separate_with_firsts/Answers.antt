@@ -1,6 +1,6 @@
 use Rattle.std.proofs.Common.{Err, ap, sym, subst, ◌∙◌}
 use Rattle.rg_case_folds.specs.Shown.{Shown, ShownWide, CycleShown}
-use Rattle.rg_cycles.specs.Vectors.{numbers_in}
+use Rattle.rg_case_parts.specs.ChordRows.{tree_rows}
 use Rattle.rg_separate.specs.Passing.{cycle_passed}
 use Rattle.rg_separate.proofs.Passing.{cycle_shown}
 use Rattle.rg_separate.proofs.Ending.{cycle_searched}
@@ -10,8 +10,8 @@ use Rattle.rg_separate.proofs.separation.separate_with_firsts.Given as given
 -- the term of the walk over the chords
 shown : (o : given.Over) (c : goal.After-drop-tree-inside-in-Err-Wide-5 o) → CycleShown c.args.lts.now (cycle_passed c.in-Err-Wide.wide)
 shown o c =
-    cycle_shown c.args.lts.now c.in-Ok.tree.arcs (numbers_in c.deref.result.now) c.labels.result c.in-Err-Wide.wide c.in-Ok.ensures.tree.tree
-    (ap numbers_in c.deref.ensures.value ∙ c.in_ok-vectors.ensures.vectors) c.labels.ensures.value
+    cycle_shown c.args.lts.now c.in-Ok.tree.arcs (tree_rows c.new-chords.result.tree.now) c.labels.result c.in-Err-Wide.wide c.in-Ok.ensures.tree.tree
+    c.new-chords.ensures.rows c.labels.ensures.value
     (c.in-Err-Wide.ensures.wide c.in-Err-Wide.wide (ap Err c.in-Err-Wide.field-0-is))
 
 pub returns-in-Err-Wide-clause-too_wide : goal.returns-in-Err-Wide-clause-too_wide
