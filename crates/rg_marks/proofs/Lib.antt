@@ -4,3 +4,4 @@ pub mod Refining
 pub mod Separating
 pub mod Stopping
 pub mod FirstProblems
+pub mod Compacting

@@ -3,3 +3,4 @@ pub mod Stops
 pub mod Cells
 pub mod Separated
 pub mod Firsts
+pub mod Compact

@@ -7,11 +7,13 @@
 #![tactic(auto)]
 
 mod cells;
+mod compact_place;
 mod firsts;
 mod region_place;
 mod separated;
 mod stops;
 
+pub use compact_place::CompactPlace;
 pub use firsts::Firsts;
 pub use region_place::RegionPlace;
 pub use separated::Separated;

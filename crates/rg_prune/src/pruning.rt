@@ -16,7 +16,7 @@ use crate::firsts::all_firsts;
 use crate::stops::are_marked;
 use crate::tokens::{fill, no_tokens};
 use rg_lts::Lts;
-use rg_marks::{Firsts, Separated};
+use rg_marks::{CompactPlace, Firsts, Separated};
 use rg_memory::NoMemory;
 use rg_net::Place;
 use rg_spanning::TreeArcs;
@@ -34,7 +34,8 @@ pub fn prune(alloc: Global, lts: &Lts, places: Vec<Place>) -> Result<Vec<Place>,
 {
     let tree = TreeArcs::grow(alloc, lts)?;
     let firsts = all_firsts(alloc, lts, &tree.arcs, &places)?;
-    Ok(drop_unneeded(alloc, lts, &tree.arcs, places, firsts)?)
+    let compact = compact_all(alloc, lts, &places)?;
+    Ok(drop_unneeded(alloc, lts, &tree.arcs, compact, firsts)?)
 }
 
 /// What `prune` leaves of the places, where the caller has the problems that each place is the first to separate, as a search for
@@ -42,14 +43,14 @@ pub fn prune(alloc: Global, lts: &Lts, places: Vec<Place>) -> Result<Vec<Place>,
 pub fn prune_with_firsts(
     alloc: Global,
     lts: &Lts,
-    places: Vec<Place>,
+    places: Vec<CompactPlace>,
     firsts: Vec<Firsts>,
 ) -> Result<Vec<Place>, NoMemory>
     requires reachable { IsAllReachable lts.now }
-    requires narrow { All (λ p. IsNarrow lts.now (shown_place p)) places.items }
-    requires separate { SeparateAll (map shown_place places.items) lts.now }
-    requires firsts { AreAllFirsts lts.now (map shown_place places.items) firsts.items }
-    ensures { IfOk result (λ left. IsPruned lts.now (map shown_place places.items) (map shown_place left.items)) }
+    requires narrow { All (IsNarrow lts.now) places.items }
+    requires separate { SeparateAll places.items lts.now }
+    requires firsts { AreAllFirsts lts.now places.items firsts.items }
+    ensures { IfOk result (λ left. IsPruned lts.now places.items (map shown_place left.items)) }
 {
     let tree = TreeArcs::grow(alloc, lts)?;
     Ok(drop_unneeded(alloc, lts, &tree.arcs, places, firsts)?)
@@ -60,15 +61,15 @@ fn drop_unneeded(
     alloc: Global,
     lts: &Lts,
     tree: &[Arc],
-    mut places: Vec<Place>,
+    mut places: Vec<CompactPlace>,
     mut all_firsts: Vec<Firsts>,
 ) -> Result<Vec<Place>, AllocError>
     requires tree { IsTree lts.now tree.now }
     requires reachable { IsAllReachable lts.now }
-    requires narrow { All (λ p. IsNarrow lts.now (shown_place p)) places.items }
-    requires separate { SeparateAll (map shown_place places.items) lts.now }
-    requires firsts { AreAllFirsts lts.now (map shown_place places.items) all_firsts.items }
-    ensures { IfOk result (λ left. IsPruned lts.now (map shown_place places.items) (map shown_place left.items)) }
+    requires narrow { All (IsNarrow lts.now) places.items }
+    requires separate { SeparateAll places.items lts.now }
+    requires firsts { AreAllFirsts lts.now places.items all_firsts.items }
+    ensures { IfOk result (λ left. IsPruned lts.now places.items (map shown_place left.items)) }
 {
     let mut separated = Separated::nothing(alloc, lts)?;
     let mut tokens = no_tokens(alloc, lts)?;
@@ -78,6 +79,7 @@ fn drop_unneeded(
             continue;
         };
         if is_needed(alloc, lts, &separated, &firsts)? {
+            let place = place.place(alloc)?;
             fill(lts, tree, &place, &mut tokens);
             separated.add(alloc, lts, &place, &tokens)?;
             left.push(place)?;
@@ -85,6 +87,19 @@ fn drop_unneeded(
     }
     left.reverse();
     Ok(left)
+}
+
+// The places with their weights that aren't 0.
+fn compact_all(alloc: Global, lts: &Lts, places: &[Place]) -> Result<Vec<CompactPlace>, AllocError>
+    requires { All (λ p. IsNarrow lts.now (shown_place p)) places.now }
+    ensures { IfOk result (λ all. all.items ≡ map shown_place places.now) }
+{
+    lts.is_well_formed();
+    let mut all = Vec::with_capacity(alloc, places.len())?;
+    for place in places {
+        all.push(CompactPlace::new(alloc, place)?)?;
+    }
+    Ok(all)
 }
 
 // Whether the place, which is the first to separate these problems, is needed besides those after it that separate so much.

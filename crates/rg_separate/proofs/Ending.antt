@@ -1,13 +1,11 @@
 -- How the search for places ends.
 use Rattle.std.proofs.Common.{◌≡◌, ◌⊎◌, inl, inr, List, map, refl, sym, ap, subst, ◌∙◌, arith}
-use Rattle.std.proofs.lemmas.List.{length-map}
 use Rattle.rg_theory.specs.System.{System}
 use Rattle.rg_lts.specs.WellFormed.{IsWellFormed}
 use Rattle.rg_theory.specs.Net.{Place}
 use Rattle.rg_theory.specs.declared.Problem.{Problem}
 use Rattle.rg_cert_meaning.specs.Refutes.{Tree}
 use Rattle.rg_net.specs.Shown.{shown_place}
-use Rattle.rg_net.specs.declared.net.Place.{Place as PlaceOfCode}
 use Rattle.rg_case_folds.specs.Shown.{Shown, CycleShown}
 use Rattle.rg_theory.specs.declared.Class.{Class}
 use Rattle.rg_marks.specs.declared.separated.Separated.{Separated}
@@ -26,12 +24,11 @@ use Rattle.rg_outcome.proofs.Placed.{placed_separates}
 use Rattle.rg_blocks.specs.Separating.{EachPlaceSeparates, ShowsSeparation, IsSeparationOutcome}
 use Rattle.rg_blocks.specs.declared.separation.SeparationOutcome.TheVariants as ended
 use Rattle.rg_separate.specs.declared.problem.ProblemAnswer.TheVariants as problem_answer
-use Rattle.rg_separate.specs.declared.separation.Separation.TheVariants as separation
 use Rattle.rg_case_parts.specs.declared.setting.Setting.{Setting}
 use Rattle.rg_cert_data.specs.declared.wide_at.WideAt.{WideAt}
 use Rattle.rg_separate.specs.Passing.{cycle_passed}
 use Rattle.rg_separate.specs.View.{shown_of}
-use Rattle.rg_separate.specs.Answer.{AreSeparating, IsSearched}
+use Rattle.rg_separate.specs.Answer.{AreSeparating, IsSearched, Ending.unsolvable as an_unsolvable, Ending.too_wide as a_too_wide}
 use Rattle.rg_separate.specs.Keeping.{IsSetting, AreKept}
 use Rattle.rg_case_parts.specs.SettingViews.{shown_setting}
 use Rattle.rg_separate.specs.Deciding.{ProblemComesTo, EndsWith}
@@ -55,15 +52,15 @@ module _ (s : Setting) (is : IsSetting s) where
   all_kept kept (unsolvable problem trees) come shows = absurd shows
   all_kept kept (too_wide w) come shows = absurd shows
 
-  module _ (fine : IsWellFormed s.lts.now) (kept : List PlaceOfCode) (firsts : List Firsts) (separated : Separated) (are : AreKept s.lts.now kept firsts separated) (end : IsSeparationOutcome s.lts.now (comes_of s) (map shown_place kept) ended.Separated) where
-    all_come : AllComeTo s.lts.now (comes_of s) (places (map shown_place kept))
-    all_come = all_kept (map shown_place kept) end.o end.comes_to end.shows
+  module _ (fine : IsWellFormed s.lts.now) (kept : List Place) (firsts : List Firsts) (separated : Separated) (are : AreKept s.lts.now kept firsts separated) (end : IsSeparationOutcome s.lts.now (comes_of s) kept ended.Separated) where
+    all_come : AllComeTo s.lts.now (comes_of s) (places kept)
+    all_come = all_kept kept end.o end.comes_to end.shows
 
-    pub separated_searched : Searched s.lts.now s.class (places (map shown_place kept))
-    separated_searched = searched_of (places (map shown_place kept)) all_come
+    pub separated_searched : Searched s.lts.now s.class (places kept)
+    separated_searched = searched_of (places kept) all_come
 
-    pub separated_tells : AreSeparating s.lts.now s.class (map shown_place kept)
-    separated_tells = separating s.lts.now s.class kept firsts separated is.in_range is.bound are (let few = few_places s.lts.now (comes_of s) (map shown_place kept) fine all_come in let l = length-map kept shown_place in omega arith) separated_searched
+    pub separated_tells : AreSeparating s.lts.now s.class kept
+    separated_tells = separating s.lts.now s.class kept firsts separated is.in_range is.bound are (few_places s.lts.now (comes_of s) kept fine all_come) separated_searched
 
   -- the problem that ends the search
   refuted_last : (kept : List Place) (q : Problem) (o : outcome.Separation) → AllComeTo s.lts.now (comes_of s) o → ShowsSeparation s.lts.now (comes_of s) kept (ended.Unsolvable q) o → EndsWith s q
@@ -83,7 +80,7 @@ module _ (s : Setting) (is : IsSetting s) where
   ends_wide kept q end = left_last kept q end.o end.comes_to end.shows
 
 -- the term of the walk over the chords ends it before any problem
-pub cycle_searched : (lts : System) (class : Class) (at : WideAt) (w : CycleWide) → shown_of at ≡ cycle_passed w → CycleShown lts (cycle_passed w) → IsSearched lts class (separation.TooWide at)
+pub cycle_searched : (lts : System) (class : Class) (at : WideAt) (w : CycleWide) → shown_of at ≡ cycle_passed w → CycleShown lts (cycle_passed w) → IsSearched lts class (a_too_wide at)
 cycle_searched lts class at w same shown = record { o = too_wide (cycle_passed w); searched = a_cycle (cycle_passed w) refl shown; shows = ap too_wide (sym same) }
 
 -- ---- the problem solved once more
@@ -92,7 +89,7 @@ module _ (s : Setting) (q : Problem) (ends : EndsWith s q) where
   one : (r r' : Solved) → comes_of s q r → comes_of s q r' → r ≡ r'
   one r r' a b = same_solved (shown_setting s) q r r' a b
 
-  pub shown_refuted : (reason : Reason) → ProblemComesTo s q (problem_answer.Refuted reason) → IsSearched s.lts.now s.class (separation.Unsolvable (record { class = s.class; reason = reason }))
+  pub shown_refuted : (reason : Reason) → ProblemComesTo s q (problem_answer.Refuted reason) → IsSearched s.lts.now s.class (an_unsolvable (record { class = s.class; reason = reason }))
   shown_refuted reason (trees, is, come) = go ends.ends
     where
       same : (a b : List Tree) → solved.Solved.refuted a ≡ solved.Solved.refuted b → a ≡ b
@@ -101,11 +98,11 @@ module _ (s : Setting) (q : Problem) (ends : EndsWith s q) where
       clash : (w : Shown) (a : List Tree) → passed w ≡ solved.Solved.refuted a → ⊥
       clash w a e = absurd cc
 
-      go : ((a : List Tree) × (ends.o ≡ unsolvable q a) × comes_of s q (solved.Solved.refuted a)) ⊎ ((w : Shown) × (ends.o ≡ too_wide w) × comes_of s q (passed w)) → IsSearched s.lts.now s.class (separation.Unsolvable (record { class = s.class; reason = reason }))
+      go : ((a : List Tree) × (ends.o ≡ unsolvable q a) × comes_of s q (solved.Solved.refuted a)) ⊎ ((w : Shown) × (ends.o ≡ too_wide w) × comes_of s q (passed w)) → IsSearched s.lts.now s.class (an_unsolvable (record { class = s.class; reason = reason }))
       go (inl (a, o_is, other)) = record { o = ends.o; searched = ends.searched; shows = (q, trees, is, o_is ∙ ap (unsolvable q) (same a trees (one (solved.Solved.refuted a) (solved.Solved.refuted trees) other come))) }
       go (inr (w, o_is, other)) = absurd (clash w trees (one (passed w) (solved.Solved.refuted trees) other come))
 
-  pub shown_wide : (at : WideAt) → ProblemComesTo s q (problem_answer.Wide at) → IsSearched s.lts.now s.class (separation.TooWide at)
+  pub shown_wide : (at : WideAt) → ProblemComesTo s q (problem_answer.Wide at) → IsSearched s.lts.now s.class (a_too_wide at)
   shown_wide at come = go ends.ends
     where
       same : (a b : Shown) → passed a ≡ passed b → a ≡ b
@@ -114,7 +111,7 @@ module _ (s : Setting) (q : Problem) (ends : EndsWith s q) where
       clash : (w : Shown) (a : List Tree) → solved.Solved.refuted a ≡ passed w → ⊥
       clash w a e = absurd cc
 
-      go : ((a : List Tree) × (ends.o ≡ unsolvable q a) × comes_of s q (solved.Solved.refuted a)) ⊎ ((w : Shown) × (ends.o ≡ too_wide w) × comes_of s q (passed w)) → IsSearched s.lts.now s.class (separation.TooWide at)
+      go : ((a : List Tree) × (ends.o ≡ unsolvable q a) × comes_of s q (solved.Solved.refuted a)) ⊎ ((w : Shown) × (ends.o ≡ too_wide w) × comes_of s q (passed w)) → IsSearched s.lts.now s.class (a_too_wide at)
       go (inl (a, o_is, other)) = absurd (clash (shown_of at) a (one (solved.Solved.refuted a) (passed (shown_of at)) other come))
       go (inr (w, o_is, other)) = record { o = ends.o; searched = ends.searched; shows = o_is ∙ ap too_wide (same w (shown_of at) (one (passed w) (passed (shown_of at)) other come)) }
 

@@ -1,12 +1,10 @@
 -- Places that are kept, and one more.
-use Rattle.std.proofs.Common.{◌≡◌, List, [], ◌∷◌, ◌++◌, map, All, refl, sym, subst, ◌∙◌, ap, arith}
-use Rattle.std.proofs.lemmas.List.{map-append}
+use Rattle.std.proofs.Common.{◌≡◌, List, [], ◌∷◌, ◌++◌, All, refl, sym, subst, arith}
 use Rattle.std.proofs.lemmas.List.Elements.{All-nil, All-push}
 use Rattle.rg_theory.specs.System.{System, IsAllReachable}
 use Rattle.rg_theory.specs.Net.{Place as PlaceOfTheory}
 use Rattle.rg_theory.specs.declared.Class.{Class}
 use Rattle.rg_theory.proofs.Yes.{region_unique}
-use Rattle.rg_net.specs.declared.net.Place.{Place}
 use Rattle.rg_net.specs.Shown.{shown_place}
 use Rattle.rg_marks.specs.declared.region_place.RegionPlace.{RegionPlace}
 use Rattle.rg_places.specs.RegionPlaces.{region_tokens, IsRegionPlace}
@@ -37,32 +35,27 @@ module _ (lts : System) (r : RegionPlace) (may : MayKeep lts r) where
     each = λ m region s lt. region_unique lts (shown_place r.place) (region_tokens r) m may.1.region.region region s (reachable.each s lt);
   }
 
-  is_kept : IsKept lts r.place
+  is_kept : IsKept lts (shown_place r.place)
   is_kept = record { narrow = narrow_place; in_range = may.1.in_range }
 
-  -- it is kept behind the others, with the problems that it is the first to separate
-  pub one_more : (places after : List Place) (all more : List Firsts) (f : Firsts) (before now : Separated) → AreKept lts places all before → after ≡ places ++ r.place ∷ [] → more ≡ all ++ f ∷ []
+  -- it is kept after the others, with the problems that it is the first to separate
+  pub one_more : (places after : List PlaceOfTheory) (all more : List Firsts) (f : Firsts) (before now : Separated) → AreKept lts places all before → after ≡ places ++ shown_place r.place ∷ [] → more ≡ all ++ f ∷ []
       → ((front more : List PlaceOfTheory) → AddsOne (shown_place r.place) front more → SeparateSoMuch lts front before → SeparateSoMuch lts more now)
       → ((front : List PlaceOfTheory) → SeparateSoMuch lts front before → AreFirsts lts front (shown_place r.place) f)
       → AreKept lts after more now
-  one_more places after all more f before now are is is' adds first = record {
+  one_more places after all more f before now are is is' adds first = subst (λ l. AreKept lts l more now) (sym is) (record {
     reachable = are.reachable;
-    each = subst (All (IsKept lts)) (sym is) (All-push (IsKept lts) places r.place are.each is_kept);
-    firsts = subst (λ l. AreAllFirsts lts l more) (sym (shown_more places after is))
-        (subst (AreAllFirsts lts (map shown_place places ++ shown_place r.place ∷ [])) (sym is')
-        (firsts_more lts (map shown_place places) (shown_place r.place) all f are.firsts (first (map shown_place places) are.so_much)));
-    so_much = subst (λ l. SeparateSoMuch lts l now) (sym (shown_more places after is)) (adds (map shown_place places) (map shown_place places ++ shown_place r.place ∷ []) (adds_last (shown_place r.place) (map shown_place places)) are.so_much);
-  }
-    where
-      shown_more : (places after : List Place) → after ≡ places ++ r.place ∷ [] → map shown_place after ≡ map shown_place places ++ shown_place r.place ∷ []
-      shown_more places after is = ap (λ (l : List Place). map shown_place l) is ∙ map-append shown_place places (r.place ∷ [])
+    each = All-push (IsKept lts) places (shown_place r.place) are.each is_kept;
+    firsts = subst (AreAllFirsts lts (places ++ shown_place r.place ∷ [])) (sym is') (firsts_more lts places (shown_place r.place) all f are.firsts (first places are.so_much));
+    so_much = adds places (places ++ shown_place r.place ∷ []) (adds_last (shown_place r.place) places) are.so_much;
+  })
 
 -- what such places separate may be noted
 pub notable : (lts : System) (class : Class) → IsAllReachable lts → AreNotable lts (IsRegionPlace lts class)
 notable lts class reachable = record { each = λ r is. (narrow_place lts r (class, is), tokens_of_place lts r (class, is) reachable) }
 
-pub some_kept : (lts : System) (places : List Place) (firsts : List Firsts) (separated : Separated) → AreKept lts places firsts separated → AreSome lts separated
-some_kept lts places firsts separated are = record { places = map shown_place places; so_much = are.so_much }
+pub some_kept : (lts : System) (places : List PlaceOfTheory) (firsts : List Firsts) (separated : Separated) → AreKept lts places firsts separated → AreSome lts separated
+some_kept lts places firsts separated are = record { places = places; so_much = are.so_much }
 
-pub none_kept : (lts : System) (places : List Place) (firsts : List Firsts) (separated : Separated) → places ≡ [] → firsts ≡ [] → IsAllReachable lts → SeparateSoMuch lts [] separated → AreKept lts places firsts separated
+pub none_kept : (lts : System) (places : List PlaceOfTheory) (firsts : List Firsts) (separated : Separated) → places ≡ [] → firsts ≡ [] → IsAllReachable lts → SeparateSoMuch lts [] separated → AreKept lts places firsts separated
 none_kept lts places firsts separated none none' reachable much = subst (λ l. AreKept lts l firsts separated) (sym none) (record { reachable = reachable; each = All-nil (IsKept lts); firsts = no_firsts lts [] firsts refl none'; so_much = much })

@@ -7,7 +7,6 @@ use Rattle.rg_theory.specs.Region.{RegionIn}
 use Rattle.rg_theory.specs.Problem.{SeparateAll}
 use Rattle.rg_net.specs.Range.{IsNetInRange}
 use Rattle.rg_integers.specs.Range.{greatest}
-use Rattle.rg_net.specs.declared.net.Place.{Place as PlaceOfCode}
 use Rattle.rg_marks.specs.declared.firsts.Firsts.{Firsts}
 use Rattle.rg_marks.specs.Firsts.{AreAllFirsts}
 use Rattle.rg_cert_data.specs.declared.certificate.Certificate.{Certificate}
@@ -37,28 +36,40 @@ pub record AreSeparating (lts : System) (class : Class) (places : List Place) : 
   pub in_range : IsNetInRange (record { labels = labels lts; places = places })
   pub separate : SeparateAll places lts
 
--- the separation without the problems that each place is the first to separate
-abbrev pub separation_of : SeparationWithFirsts → Separation
-separation_of (with_firsts.Places places firsts) = Places places
-separation_of (with_firsts.Unsolvable cert) = Unsolvable cert
-separation_of (with_firsts.TooWide w) = TooWide w
+-- what a separation has: places, a certificate or a term
+pub data Ending : Type 0 where
+  places : List Place → Ending
+  unsolvable : Certificate → Ending
+  too_wide : WideAt → Ending
+
+-- what the separation has
+abbrev pub ending_of : Separation → Ending
+ending_of (Places places) = Ending.places (map shown_place places.items)
+ending_of (Unsolvable cert) = unsolvable cert
+ending_of (TooWide w) = too_wide w
+
+-- the same of one with the problems that each place is the first to separate
+abbrev pub ending_with_firsts : SeparationWithFirsts → Ending
+ending_with_firsts (with_firsts.Places places firsts) = Ending.places places.items
+ending_with_firsts (with_firsts.Unsolvable cert) = unsolvable cert
+ending_with_firsts (with_firsts.TooWide w) = too_wide w
 
 -- the fact holds of the places, of the certificate, of the term
-abbrev pub IfPlaces : Separation → (List PlaceOfCode → Type 0) → Type 0
-IfPlaces (Places places) P = P places.items
+abbrev pub IfPlaces : Ending → (List Place → Type 0) → Type 0
+IfPlaces (Ending.places places) P = P places
 IfPlaces _ P = Unit {0}
 
 -- the fact holds of the places with the problems that each is the first to separate
-abbrev pub IfFirsts : SeparationWithFirsts → (List PlaceOfCode → List Firsts → Type 0) → Type 0
+abbrev pub IfFirsts : SeparationWithFirsts → (List Place → List Firsts → Type 0) → Type 0
 IfFirsts (with_firsts.Places places firsts) P = P places.items firsts.items
 IfFirsts _ P = Unit {0}
 
-abbrev pub IfUnsolvable : Separation → (Certificate → Type 0) → Type 0
-IfUnsolvable (Unsolvable cert) P = P cert
+abbrev pub IfUnsolvable : Ending → (Certificate → Type 0) → Type 0
+IfUnsolvable (unsolvable cert) P = P cert
 IfUnsolvable _ P = Unit {0}
 
-abbrev pub IfTooWide : Separation → (WideAt → Type 0) → Type 0
-IfTooWide (TooWide w) P = P w
+abbrev pub IfTooWide : Ending → (WideAt → Type 0) → Type 0
+IfTooWide (too_wide w) P = P w
 IfTooWide _ P = Unit {0}
 
 -- the certificate is of the class, is accepted, and its numbers are in range
@@ -69,18 +80,18 @@ pub record IsGoodCertificate (lts : System) (class : Class) (cert : Certificate)
 
 -- what a separation says: of the places also which problems each is the first to separate
 abbrev pub SeparationTells : System → Class → SeparationWithFirsts → Type 0
-SeparationTells lts class (with_firsts.Places places firsts) = AreSeparating lts class (map shown_place places.items) × AreAllFirsts lts (map shown_place places.items) firsts.items
+SeparationTells lts class (with_firsts.Places places firsts) = AreSeparating lts class places.items × AreAllFirsts lts places.items firsts.items
 SeparationTells lts class (with_firsts.Unsolvable cert) = IsGoodCertificate lts class cert
 SeparationTells lts class (with_firsts.TooWide w) = ShownWide lts class (shown_of w)
 
 -- the separation is this one, in the words of the one answer
-abbrev pub ShowsSeparation : Separation → outcome.Separation → Type 0
-ShowsSeparation (Places places) o = o ≡ outcome.Separation.places (map shown_place places.items)
-ShowsSeparation (Unsolvable cert) o = (problem : Problem) × (trees : List Tree) × (reason_of cert.reason ≡ refuted problem trees) × (o ≡ outcome.Separation.unsolvable problem trees)
-ShowsSeparation (TooWide w) o = o ≡ outcome.Separation.too_wide (shown_of w)
+abbrev pub ShowsSeparation : Ending → outcome.Separation → Type 0
+ShowsSeparation (Ending.places places) o = o ≡ outcome.Separation.places places
+ShowsSeparation (unsolvable cert) o = (problem : Problem) × (trees : List Tree) × (reason_of cert.reason ≡ refuted problem trees) × (o ≡ outcome.Separation.unsolvable problem trees)
+ShowsSeparation (too_wide w) o = o ≡ outcome.Separation.too_wide (shown_of w)
 
 -- the separation is the one to which the search for places of the class comes
-pub record IsSearched (lts : System) (class : Class) (s : Separation) : Type 0 where
+pub record IsSearched (lts : System) (class : Class) (s : Ending) : Type 0 where
   pub o : outcome.Separation
   pub searched : Searched lts class o
   pub shows : ShowsSeparation s o

@@ -1,11 +1,10 @@
 -- What is found on the way through the problems.
-use Rattle.std.specs.Prelude.{◌≡◌, List, map, All}
+use Rattle.std.specs.Prelude.{◌≡◌, List, All}
 use Rattle.rg_theory.specs.System.{System, labels, IsInRange, IsAllReachable}
 use Rattle.rg_theory.specs.declared.Class.{Class}
 use Rattle.rg_theory.specs.ClassWords.{HasNumbersInRange}
-use Rattle.rg_net.specs.declared.net.Place.{Place}
+use Rattle.rg_theory.specs.Net.{Place}
 use Rattle.rg_net.specs.Range.{IsPlaceInRange}
-use Rattle.rg_net.specs.Shown.{shown_place}
 use Rattle.rg_marks.specs.Tokens.{IsNarrow}
 use Rattle.rg_marks.specs.Separated.{SeparateSoMuch}
 use Rattle.rg_marks.specs.Firsts.{AreAllFirsts}
@@ -54,12 +53,12 @@ MayKeep lts r = (class : Class) × IsRegionPlace lts class r
 
 -- with some numbers the place is a region, and all its numbers are at most 2^127 - 1
 pub record IsKept (lts : System) (p : Place) : Type 0 where
-  pub narrow : IsNarrow lts (shown_place p)
-  pub in_range : IsPlaceInRange (shown_place p)
+  pub narrow : IsNarrow lts p
+  pub in_range : IsPlaceInRange p
 
 -- each state can be reached, such places are kept, each with the problems that it is the first to separate, and they separate so much
 pub record AreKept (lts : System) (places : List Place) (all : List Firsts) (separated : Separated) : Type 0 where
   pub reachable : IsAllReachable lts
   pub each : All (IsKept lts) places
-  pub firsts : AreAllFirsts lts (map shown_place places) all
-  pub so_much : SeparateSoMuch lts (map shown_place places) separated
+  pub firsts : AreAllFirsts lts places all
+  pub so_much : SeparateSoMuch lts places separated

@@ -1,14 +1,12 @@
 //! Places that are kept.
-ghost use Rattle.std.specs.Prelude.{◌≡◌, [], map, IfOk};
+ghost use Rattle.std.specs.Prelude.{◌≡◌, [], IfOk};
 ghost use Rattle.rg_theory.specs.System.{IsAllReachable};
-ghost use Rattle.rg_net.specs.Shown.{shown_place};
 ghost use Rattle.rg_separate.specs.Keeping.{AreKept, MayKeep};
 
 use rg_blocks::Keeping;
 use rg_lts::Lts;
-use rg_marks::{Firsts, RegionPlace, Separated};
+use rg_marks::{CompactPlace, Firsts, RegionPlace, Separated};
 use rg_memory::NoMemory;
-use rg_net::Place;
 use rg_theory::Problem;
 use std::alloc::Global;
 
@@ -16,7 +14,7 @@ use std::alloc::Global;
 #[derive(Drop)]
 pub(crate) struct Kept {
     pub(crate) alloc: Global,
-    pub(crate) places: Vec<Place>,
+    pub(crate) places: Vec<CompactPlace>,
     pub(crate) firsts: Vec<Firsts>,
     pub(crate) separated: Separated,
 }
@@ -38,7 +36,7 @@ impl Kept {
 }
 
 impl Keeping for Kept {
-    ghost places = { λ k. map shown_place k.places.items };
+    ghost places = { λ k. k.places.items };
 
     ghost keeps_for = { λ k lts. AreKept lts k.places.items k.firsts.items k.separated };
 
@@ -52,8 +50,10 @@ impl Keeping for Kept {
         let firsts = self
             .separated
             .add(self.alloc, lts, &place.place, &place.tokens)?;
+        lts.is_well_formed();
+        let compact = CompactPlace::new(self.alloc, &place.place)?;
         self.firsts.push(firsts)?;
-        self.places.push(place.place)?;
+        self.places.push(compact)?;
         Ok(())
     }
 }

@@ -11,7 +11,7 @@ ghost use Rattle.rg_separate.specs.Keeping.{IsSetting, CanSolve, Works};
 ghost use Rattle.rg_rows.specs.Sharing.{IsCommonOf};
 ghost use Rattle.rg_case_parts.specs.SettingViews.{shown_setting};
 ghost use Rattle.rg_separate.specs.Deciding.{EndsWith, ProvesRefuted};
-ghost use Rattle.rg_separate.specs.Answer.{AreSeparating, IsGoodCertificate, separation_of, IfPlaces, IfFirsts, IfUnsolvable, IfTooWide, SeparationTells, IsSearched};
+ghost use Rattle.rg_separate.specs.Answer.{AreSeparating, IsGoodCertificate, ending_of, ending_with_firsts, IfPlaces, IfFirsts, IfUnsolvable, IfTooWide, SeparationTells, IsSearched};
 
 use crate::kept::Kept;
 use crate::problem::{ProblemAnswer, solve_problem};
@@ -22,14 +22,14 @@ use rg_case_parts::{Setting, TreeChords};
 use rg_cert_data::{Certificate, Reason, Stage, WideAt};
 use rg_cycles::{CycleWide, Stop, reduce_rows};
 use rg_lts::Lts;
-use rg_marks::Firsts;
+use rg_marks::{CompactPlace, Firsts};
 use rg_memory::NoMemory;
 use rg_net::Place;
 use rg_ports::Gate;
 use rg_rows::Common;
 use rg_spanning::{GrowStop, Tree};
 use rg_theory::{Class, Problem};
-use std::alloc::Global;
+use std::alloc::{AllocError, Global};
 use std::thread::Threads;
 
 /// The outcome of the separation problems of a system.
@@ -47,7 +47,7 @@ pub enum Separation {
 #[derive(Drop)]
 pub enum SeparationWithFirsts {
     /// Places that separate all problems, and for each the problems that it is the first to separate.
-    Places(Vec<Place>, Vec<Firsts>),
+    Places(Vec<CompactPlace>, Vec<Firsts>),
     /// No place of the class separates some problem.
     Unsolvable(Certificate),
     /// A number passes in some problem that no place found separates.
@@ -78,13 +78,13 @@ pub fn separate<R: Threads + Sync, G: Gate + Sync>(
     requires reachable { IsAllReachable lts.now }
     requires bound { HasNumbersInRange class }
     requires some { 1 ≤ jobs }
-    ensures searched { IfOk result (IsSearched lts.now class) }
-    ensures places { IfOk result (λ s. IfPlaces s (λ places. AreSeparating lts.now class (map shown_place places))) }
-    ensures unsolvable { IfOk result (λ s. IfUnsolvable s (IsGoodCertificate lts.now class)) }
-    ensures too_wide { IfOk result (λ s. IfTooWide s (λ w. ShownWide lts.now class (shown_of w))) }
+    ensures searched { IfOk result (λ s. IsSearched lts.now class (ending_of s)) }
+    ensures places { IfOk result (λ s. IfPlaces (ending_of s) (AreSeparating lts.now class)) }
+    ensures unsolvable { IfOk result (λ s. IfUnsolvable (ending_of s) (IsGoodCertificate lts.now class)) }
+    ensures too_wide { IfOk result (λ s. IfTooWide (ending_of s) (λ w. ShownWide lts.now class (shown_of w))) }
 {
     let separation = separate_with_firsts(rt, alloc, lts, class, jobs, gate)?;
-    Ok(separation.without_firsts())
+    Ok(separation.without_firsts(alloc)?)
 }
 
 /// What `separate` returns, and for each place the problems that it is the first to separate, which the search finds in any case.
@@ -100,11 +100,11 @@ pub fn separate_with_firsts<R: Threads + Sync, G: Gate + Sync>(
     requires reachable { IsAllReachable lts.now }
     requires bound { HasNumbersInRange class }
     requires some { 1 ≤ jobs }
-    ensures searched { IfOk result (λ s. IsSearched lts.now class (separation_of s)) }
-    ensures places { IfOk result (λ s. IfPlaces (separation_of s) (λ places. AreSeparating lts.now class (map shown_place places))) }
-    ensures firsts { IfOk result (λ s. IfFirsts s (λ places firsts. AreAllFirsts lts.now (map shown_place places) firsts)) }
-    ensures unsolvable { IfOk result (λ s. IfUnsolvable (separation_of s) (IsGoodCertificate lts.now class)) }
-    ensures too_wide { IfOk result (λ s. IfTooWide (separation_of s) (λ w. ShownWide lts.now class (shown_of w))) }
+    ensures searched { IfOk result (λ s. IsSearched lts.now class (ending_with_firsts s)) }
+    ensures places { IfOk result (λ s. IfPlaces (ending_with_firsts s) (AreSeparating lts.now class)) }
+    ensures firsts { IfOk result (λ s. IfFirsts s (AreAllFirsts lts.now)) }
+    ensures unsolvable { IfOk result (λ s. IfUnsolvable (ending_with_firsts s) (IsGoodCertificate lts.now class)) }
+    ensures too_wide { IfOk result (λ s. IfTooWide (ending_with_firsts s) (λ w. ShownWide lts.now class (shown_of w))) }
 {
     let tree = match Tree::grow(alloc, lts) {
         Ok(tree) => tree,
@@ -130,15 +130,28 @@ pub fn separate_with_firsts<R: Threads + Sync, G: Gate + Sync>(
 
 impl SeparationWithFirsts {
     // The same without the problems that each place is the first to separate.
-    fn without_firsts(self) -> Separation
-        ensures { result ≡ separation_of self }
+    fn without_firsts(self, alloc: Global) -> Result<Separation, AllocError>
+        ensures { IfOk result (λ s. ending_of s ≡ ending_with_firsts self) }
     {
         match self {
-            SeparationWithFirsts::Places(places, _) => Separation::Places(places),
-            SeparationWithFirsts::Unsolvable(certificate) => Separation::Unsolvable(certificate),
-            SeparationWithFirsts::TooWide(at) => Separation::TooWide(at),
+            SeparationWithFirsts::Places(places, _) => {
+                Ok(Separation::Places(all_places(alloc, &places)?))
+            }
+            SeparationWithFirsts::Unsolvable(certificate) => Ok(Separation::Unsolvable(certificate)),
+            SeparationWithFirsts::TooWide(at) => Ok(Separation::TooWide(at)),
         }
     }
+}
+
+// The places with two weights for each label.
+fn all_places(alloc: Global, places: &[CompactPlace]) -> Result<Vec<Place>, AllocError>
+    ensures { IfOk result (λ all. map shown_place all.items ≡ places.now) }
+{
+    let mut all = Vec::with_capacity(alloc, places.len())?;
+    for place in places {
+        all.push(place.place(alloc)?)?;
+    }
+    Ok(all)
 }
 
 // What all problems come to.
@@ -154,7 +167,7 @@ fn separate_setting<R: Threads + Sync, G: Gate + Sync>(
     requires common { IsCommonOf (shown_setting setting) common }
     requires some { 1 ≤ jobs }
     ensures tells { IfOk result (SeparationTells setting.entry.lts.now setting.entry.class) }
-    ensures searched { IfOk result (λ s. IsSearched setting.entry.lts.now setting.entry.class (separation_of s)) }
+    ensures searched { IfOk result (λ s. IsSearched setting.entry.lts.now setting.entry.class (ending_with_firsts s)) }
 {
     let lts = setting.lts;
     lts.is_well_formed();
@@ -202,7 +215,7 @@ fn certify(
     requires shows { EndsWith problems.setting problem }
     requires proves { IfSome proof (λ p. ProvesRefuted problems.setting p.0 p.1) }
     ensures tells { IfOk result (SeparationTells problems.entry.setting.lts.now problems.entry.setting.class) }
-    ensures searched { IfOk result (λ s. IsSearched problems.entry.setting.lts.now problems.entry.setting.class (separation_of s)) }
+    ensures searched { IfOk result (λ s. IsSearched problems.entry.setting.lts.now problems.entry.setting.class (ending_with_firsts s)) }
 {
     if let Some((proved, reason)) = proof {
         if proved == problem {
@@ -225,7 +238,7 @@ fn solve_again(
     requires serves { Works problems workspace.old }
     requires shows { EndsWith problems.setting problem }
     ensures tells { IfOk result (SeparationTells problems.entry.setting.lts.now problems.entry.setting.class) }
-    ensures searched { IfOk result (λ s. IsSearched problems.entry.setting.lts.now problems.entry.setting.class (separation_of s)) }
+    ensures searched { IfOk result (λ s. IsSearched problems.entry.setting.lts.now problems.entry.setting.class (ending_with_firsts s)) }
 {
     match solve_problem(problems.alloc, workspace, problems.setting, problem)? {
         ProblemAnswer::Refuted(reason) => Ok(SeparationWithFirsts::Unsolvable(Certificate {

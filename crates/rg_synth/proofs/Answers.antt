@@ -1,5 +1,5 @@
 -- What the search ends with is the answer, and a reason that is the answer is right.
-use Rattle.std.proofs.Common.{◌≡◌, ℕ, List, Vec, Global, map, refl, sym, subst}
+use Rattle.std.proofs.Common.{◌≡◌, ℕ, List, refl, sym, subst}
 use Rattle.rg_theory.specs.System.{System, IsInRange, IsAllReachable, IsLeastUnreachable, IsLeastFork}
 use Rattle.rg_checks.specs.declared.flaw.Flaw.TheVariants as flaw
 use Rattle.rg_checks.specs.Flaws.{IsFlawless, IsShown}
@@ -7,8 +7,6 @@ use Rattle.rg_theory.specs.Net.{Place}
 use Rattle.rg_theory.specs.declared.Class.{Class}
 use Rattle.rg_theory.specs.ClassWords.{HasNumbersInRange}
 use Rattle.rg_theory.proofs.Arcs.{arc_in_range}
-use Rattle.rg_net.specs.Shown.{shown_place}
-use Rattle.rg_net.specs.declared.net.Place.{Place as PlaceOfCode}
 use Rattle.rg_cert_meaning.specs.Refutes.{Reason, Accepts}
 use Rattle.rg_cert_meaning.proofs.Accepted.{accepted}
 use Rattle.rg_theory.specs.Pruned.{IsPruned}
@@ -19,27 +17,26 @@ use Rattle.rg_outcome.specs.Coming.{Separation, Separation.places as places_of, 
 use Rattle.rg_outcome.specs.Outcome.{Gives, Searched, Out, Out.a_state, Out.a_fork, Out.a_search, Answer.net as of_net, Answer.unsolvable as of_reason, Answer.too_wide as of_term}
 use Rattle.rg_separate.specs.View.{shown_of}
 use Rattle.rg_cert_data.specs.declared.wide_at.WideAt.{WideAt}
-use Rattle.rg_separate.specs.declared.separation.Separation.TheVariants as separation
-use Rattle.rg_separate.specs.Answer.{IsSearched}
+use Rattle.rg_separate.specs.Answer.{IsSearched, Ending}
 use Rattle.rg_synth.specs.Answer.{IsReason, IsRightCertificate}
 
 -- ---- what the search ends with
 
-pub net_out : (lts : System) (class : Class) (places : Vec PlaceOfCode Global) (left : List Place)
-    → IsFlawless lts → IsSearched lts class (separation.Places places) → IsPruned lts (map shown_place places.items) left
+pub net_out : (lts : System) (class : Class) (places left : List Place)
+    → IsFlawless lts → IsSearched lts class (Ending.places places) → IsPruned lts places left
     → Out lts class (of_net left)
 net_out lts class places left flawless is pruned =
-    a_search (places_of (map shown_place places.items)) (of_net left) flawless.reachable flawless.fork_free
+    a_search (places_of places) (of_net left) flawless.reachable flawless.fork_free
     (subst (Searched lts class) is.shows is.searched) pruned
 
 pub reason_out : (lts : System) (class : Class) (cert : Certificate)
-    → IsFlawless lts → IsSearched lts class (separation.Unsolvable cert) → Out lts class (of_reason (reason_of cert.reason))
+    → IsFlawless lts → IsSearched lts class (Ending.unsolvable cert) → Out lts class (of_reason (reason_of cert.reason))
 reason_out lts class cert flawless is =
     let (problem, trees, reason_is, o_is) = is.shows in
     a_search is.o (of_reason (reason_of cert.reason)) flawless.reachable flawless.fork_free is.searched
     (subst (λ o. Gives lts o (of_reason (reason_of cert.reason))) (sym o_is) reason_is)
 
-pub term_out : (lts : System) (class : Class) (at : WideAt) → IsFlawless lts → IsSearched lts class (separation.TooWide at) → Out lts class (of_term (shown_of at))
+pub term_out : (lts : System) (class : Class) (at : WideAt) → IsFlawless lts → IsSearched lts class (Ending.too_wide at) → Out lts class (of_term (shown_of at))
 term_out lts class at flawless is =
     a_search is.o (of_term (shown_of at)) flawless.reachable flawless.fork_free is.searched
     (subst (λ o. Gives lts o (of_term (shown_of at))) (sym is.shows) refl)

@@ -1,13 +1,10 @@
 -- What is left of places that separate.
-use Rattle.std.proofs.Common.{◌≡◌, ℕ, ◌<◌, List, [], length, map, get_or, All, sym, subst, arith}
-use Rattle.std.proofs.lemmas.List.{length-map, get_or-map}
+use Rattle.std.proofs.Common.{◌≡◌, ℕ, List, [], length, get_or, All, arith}
 use Rattle.std.proofs.lemmas.List.Elements.{All-contains, Contains-get_or}
 use Rattle.rg_theory.specs.System.{System}
 use Rattle.rg_theory.specs.Net.{Place}
 use Rattle.rg_theory.specs.declared.Class.{Class}
 use Rattle.rg_net.specs.Range.{IsPlaceInRange, IsNetInRange}
-use Rattle.rg_net.specs.Shown.{shown_place}
-use Rattle.rg_net.specs.declared.net.Place.{Place as PlaceOfCode}
 use Rattle.rg_separate.specs.Answer.{IsNarrowRegion, AreSeparating}
 use Rattle.rg_theory.specs.Pruned.{IsPruned}
 use Rattle.rg_marks.specs.Tokens.{IsNarrow}
@@ -26,23 +23,8 @@ left_in_range lts n places left pruned are = record {
 }
 
 -- they are as pruning wants them
-pub narrow_all : (lts : System) (class : Class) (places : List PlaceOfCode) → AreSeparating lts class (map shown_place places) → All (λ p. IsNarrow lts (shown_place p)) places
-narrow_all lts class places are k d lt = record {
-  m = region.m;
-  region = region.region.region;
-  narrow = region.narrow;
-  pre = weights.0;
-  post = weights.1;
-}
-  where
-    within : k < length (map shown_place places)
-    within = subst (λ n. k < n) (sym (length-map places shown_place)) lt
-
-    at : get_or (map shown_place places) k (shown_place d) ≡ shown_place (get_or places k d)
-    at = get_or-map shown_place places k d (shown_place d) lt
-
-    region : IsNarrowRegion lts class (shown_place (get_or places k d))
-    region = subst (IsNarrowRegion lts class) at (are.regions k (shown_place d) within)
-
-    weights : (length (get_or places k d).pre.items ≡ length lts.label_names) × (length (get_or places k d).post.items ≡ length lts.label_names)
-    weights = subst (λ p. (length p.pre ≡ length lts.label_names) × (length p.post ≡ length lts.label_names)) at (are.in_range.weights k (shown_place d) within)
+pub narrow_all : (lts : System) (class : Class) (places : List Place) → AreSeparating lts class places → All (IsNarrow lts) places
+narrow_all lts class places are k d lt =
+    let region : IsNarrowRegion lts class (get_or places k d) = are.regions k d lt in
+    let weights = are.in_range.weights k d lt in
+    record { m = region.m; region = region.region.region; narrow = region.narrow; pre = weights.0; post = weights.1 }

@@ -1,11 +1,10 @@
 //! The order of work on a system.
-ghost use Rattle.std.specs.Prelude.{◌≡◌, ◌≤◌, map, All, IfOk};
+ghost use Rattle.std.specs.Prelude.{◌≡◌, ◌≤◌, All, IfOk};
 ghost use Rattle.rg_theory.specs.System.{labels, IsAllReachable};
 ghost use Rattle.rg_theory.specs.ClassWords.{HasNumbersInRange};
 ghost use Rattle.rg_checks.specs.Flaws.{IsFlawless, IsFirstFlaw, IsShown};
 ghost use Rattle.rg_theory.specs.Problem.{SeparateAll};
 ghost use Rattle.rg_net.specs.Range.{IsNetInRange};
-ghost use Rattle.rg_net.specs.Shown.{shown_place};
 ghost use Rattle.rg_theory.specs.Pruned.{IsPruned};
 ghost use Rattle.rg_marks.specs.Firsts.{AreAllFirsts};
 ghost use Rattle.rg_marks.specs.Tokens.{IsNarrow};
@@ -19,9 +18,9 @@ use crate::answer::Answer;
 use rg_cert_data::{Certificate, Reason};
 use rg_checks::{Flaw, first_flaw};
 use rg_lts::Lts;
-use rg_marks::Firsts;
+use rg_marks::{CompactPlace, Firsts};
 use rg_memory::NoMemory;
-use rg_net::{Net, Place};
+use rg_net::Net;
 use rg_ports::Gate;
 use rg_prune::prune_with_firsts;
 use rg_separate::{SeparationWithFirsts, separate_with_firsts};
@@ -109,17 +108,17 @@ fn flawless_answer<R: Threads + Sync, G: Gate + Sync>(
 fn net_of_those_needed(
     alloc: Global,
     lts: &Lts,
-    places: Vec<Place>,
+    places: Vec<CompactPlace>,
     firsts: Vec<Firsts>,
 ) -> Result<Net, NoMemory>
     requires reachable { IsAllReachable lts.now }
-    requires narrow { All (λ p. IsNarrow lts.now (shown_place p)) places.items }
-    requires separate { SeparateAll (map shown_place places.items) lts.now }
-    requires firsts { AreAllFirsts lts.now (map shown_place places.items) firsts.items }
-    requires in_range { IsNetInRange (record { labels = labels lts.now; places = map shown_place places.items }) }
+    requires narrow { All (IsNarrow lts.now) places.items }
+    requires separate { SeparateAll places.items lts.now }
+    requires firsts { AreAllFirsts lts.now places.items firsts.items }
+    requires in_range { IsNetInRange (record { labels = labels lts.now; places = places.items }) }
     ensures labels { IfOk result (λ net. net.labels ≡ labels lts.now) }
     ensures in_range { IfOk result IsNetInRange }
-    ensures pruned { IfOk result (λ net. IsPruned lts.now (map shown_place places.items) net.places) }
+    ensures pruned { IfOk result (λ net. IsPruned lts.now places.items net.places) }
 {
     let labels = lts.labels();
     let needed = prune_with_firsts(alloc, lts, places, firsts)?;

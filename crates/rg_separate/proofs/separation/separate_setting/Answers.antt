@@ -1,5 +1,4 @@
-use Rattle.std.proofs.Common.{map, refl, subst}
-use Rattle.rg_net.specs.Shown.{shown_place}
+use Rattle.std.proofs.Common.{refl, subst}
 use Rattle.rg_outcome.specs.Coming.{Separation.places}
 use Rattle.rg_case_parts.specs.SettingViews.{shown_setting}
 use Rattle.rg_blocks.specs.Separating.{IsSeparationOutcome}
@@ -19,19 +18,19 @@ separate_all-requires-clause-can o c = λ lives within. record {
 
 pub certify-requires-clause-shows : goal.certify-requires-clause-shows
 certify-requires-clause-shows o c =
-    let kept = map shown_place c.separate_all.new.progress.kept.places.items in
+    let kept = c.separate_all.new.progress.kept.places.items in
     ends_refuted c.args.setting c.requires.setting kept c.in-Unsolvable.refuted (subst (IsSeparationOutcome c.args.setting.lts.now (comes_of c.args.setting) kept) c.in-Unsolvable.is c.in_ok-outcome.ensures.comes)
 
 pub solve_again-requires-clause-shows : goal.solve_again-requires-clause-shows
 solve_again-requires-clause-shows o c =
-    let kept = map shown_place c.separate_all.new.progress.kept.places.items in
+    let kept = c.separate_all.new.progress.kept.places.items in
     ends_wide c.args.setting c.requires.setting kept c.in-TooWide.left (subst (IsSeparationOutcome c.args.setting.lts.now (comes_of c.args.setting) kept) c.in-TooWide.is c.in_ok-outcome.ensures.comes)
 
 pub returns-in-Separated-clause-tells : goal.returns-in-Separated-clause-tells
 returns-in-Separated-clause-tells o c =
     let kept = c.separate_all.new.progress.kept in (
       separated_tells c.args.setting c.requires.setting c.is_well_formed.ensures kept.places.items kept.firsts.items kept.separated c.in_ok-outcome.ensures.searching.kept
-          (subst (IsSeparationOutcome c.args.setting.lts.now (comes_of c.args.setting) (map shown_place kept.places.items)) c.in-Separated.is
+          (subst (IsSeparationOutcome c.args.setting.lts.now (comes_of c.args.setting) kept.places.items) c.in-Separated.is
           c.in_ok-outcome.ensures.comes),
       c.in_ok-outcome.ensures.searching.kept.firsts,
     )
@@ -40,9 +39,9 @@ pub returns-in-Separated-clause-searched : goal.returns-in-Separated-clause-sear
 returns-in-Separated-clause-searched o c =
     let kept = c.separate_all.new.progress.kept in
     record {
-      o = places (map shown_place kept.places.items);
+      o = places kept.places.items;
       searched = separated_searched c.args.setting c.requires.setting c.is_well_formed.ensures kept.places.items kept.firsts.items kept.separated c.in_ok-outcome.ensures.searching.kept
-          (subst (IsSeparationOutcome c.args.setting.lts.now (comes_of c.args.setting) (map shown_place kept.places.items)) c.in-Separated.is
+          (subst (IsSeparationOutcome c.args.setting.lts.now (comes_of c.args.setting) kept.places.items) c.in-Separated.is
           c.in_ok-outcome.ensures.comes);
       shows = refl;
     }

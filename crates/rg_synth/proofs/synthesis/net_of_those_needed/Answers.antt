@@ -6,6 +6,6 @@ use Rattle.rg_synth.proofs.synthesis.net_of_those_needed.Goals as goal
 
 pub new-requires : goal.new-requires
 new-requires c =
-    let places = map shown_place c.args.places.items in
+    let places = c.args.places.items in
     let left = map shown_place c.in_ok-needed.needed.items in
     subst (λ (n : ℕ). IsNetInRange (record { labels = n; places = left })) (sym c.labels-labels.ensures.value) (left_in_range c.args.lts.now _ places left c.in_ok-needed.ensures c.requires.in_range)

@@ -1,3 +1,4 @@
+use Rattle.std.proofs.Common.{◌∷◌, ◌++◌, [], ap, sym, ◌∙◌, arith}
 use Rattle.rg_separate.proofs.Keeping.{narrow_place, tokens_of_place, some_kept, one_more}
 use Rattle.rg_separate.proofs.kept.KeptKeeping.keep.Goals as goal
 
@@ -12,4 +13,10 @@ add-requires-clause-some c = some_kept c.args.lts.now c.args.self.now.places.ite
 
 pub returns-clause-system : goal.returns-clause-system
 returns-clause-system c = one_more c.args.lts.now c.args.place c.requires.place c.args.self.now.places.items c.push-2.new.self.items c.args.self.now.firsts.items c.push.new.self.items c.in_ok-firsts.firsts c.args.self.now.separated c.add.new.self
-    c.requires.system c.in_ok-push-2.ensures.items c.in_ok-push.ensures.items c.in_ok-firsts.ensures.separated c.in_ok-firsts.ensures.firsts
+    c.requires.system (c.in_ok-push-2.ensures.items ∙ ap (λ p. c.args.self.now.places.items ++ p ∷ []) c.in_ok-compact.ensures) c.in_ok-push.ensures.items c.in_ok-firsts.ensures.separated c.in_ok-firsts.ensures.firsts
+
+pub new-requires-clause-same : goal.new-requires-clause-same
+new-requires-clause-same c = c.requires.place.1.pre ∙ sym c.requires.place.1.post
+
+pub new-requires-clause-few : goal.new-requires-clause-few
+new-requires-clause-few c = let same = c.requires.place.1.pre in let few = c.is_well_formed.ensures.few_labels in omega arith

@@ -1,5 +1,3 @@
-use Rattle.std.proofs.Common.{map}
-use Rattle.rg_net.specs.Shown.{shown_place}
 use Rattle.rg_separate.proofs.Keeping.{some_kept}
 use Rattle.rg_separate.proofs.kept.KeptKeeping.separates.Goals as goal
 
@@ -7,4 +5,4 @@ pub separates-requires-clause-some : goal.separates-requires-clause-some
 separates-requires-clause-some c = some_kept c.args.lts.now c.args.self.now.places.items c.args.self.now.firsts.items c.args.self.now.separated c.requires.system
 
 pub returns : goal.returns
-returns c = c.separates.ensures (map shown_place c.args.self.now.places.items) c.requires.system.so_much
+returns c = c.separates.ensures c.args.self.now.places.items c.requires.system.so_much
