@@ -17,7 +17,8 @@ use Rattle.rg_cert_meaning.specs.declared.RowName.{RowName}
 use Rattle.rg_linear.specs.Cycle.{CycleBasis}
 use Rattle.rg_case_folds.specs.Setting.{CaseSetting}
 use Rattle.rg_case_folds.specs.Potentials.{potential}
-use Rattle.rg_case_folds.specs.Rewriting.{has_label, free_labels, has_start, names_of, CaseSystem}
+use Rattle.rg_folds.specs.Substitution.{free_labels}
+use Rattle.rg_case_folds.specs.Rewriting.{has_label, has_start, names_of, CaseSystem}
 use Rattle.rg_case_folds.specs.Values.{numbers_along, picked, column_values, RowIsMet, NameIsMet}
 use Rattle.rg_case_folds.proofs.SystemRows.{system_is_met}
 use Rattle.rg_case_folds.specs.Meaning.{value_over, RowHolds, KeepsRowsOver, IsTokensRow, KeepsAllButTokens, shifted, IsCaseOver, AreEffects, MeetsCase}

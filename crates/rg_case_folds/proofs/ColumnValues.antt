@@ -10,7 +10,8 @@ use Rattle.rg_integers.proofs.Sums.{sum_below-same}
 use Rattle.rg_integers.proofs.Dots.{dot_comm, dot-sum_below}
 use Rattle.rg_linear.specs.Cycle.{CycleBasis}
 use Rattle.rg_case_folds.specs.Setting.{CaseSetting}
-use Rattle.rg_case_folds.specs.Rewriting.{is_in, numbers_where, has_label, free_labels, free_columns, has_start, column_count, CaseSystem, system_fold}
+use Rattle.rg_folds.specs.Substitution.{is_in, numbers_where, free_labels}
+use Rattle.rg_case_folds.specs.Rewriting.{has_label, free_columns, has_start, column_count, CaseSystem, system_fold}
 use Rattle.rg_case_folds.specs.Values.{picked, column_values}
 use Rattle.rg_case_folds.specs.Meaning.{first_column}
 

@@ -4,7 +4,7 @@ use Rattle.std.specs.Prelude.{IfOk}
 use Rattle.rg_integers.specs.declared.term.Wide.{Wide}
 use Rattle.rg_fraction.specs.declared.fold_stop.FoldStop.{FoldStop}
 use Rattle.rg_fraction.specs.declared.fold_stop.FoldStop.TheVariants as stop
-use Rattle.rg_case_folds.specs.Fold.{and_then, Comes}
+use Rattle.rg_folds.specs.Fold.{and_then, Comes}
 
 -- where each result of one computation is one of another
 pub comes_by : {T X : Type 0} (fold other : Result X Wide → Type 0) (view : T → X) (given : Result T FoldStop) → Comes fold view given → ((r : Result X Wide) → fold r → other r) → Comes other view given

@@ -11,12 +11,13 @@ use Rattle.rg_integers.proofs.Order.{mul-cancel, positive_differs}
 use Rattle.rg_integers.proofs.Sums.{sum_below-same}
 use Rattle.rg_linear.specs.Cycle.{CycleBasis}
 use Rattle.rg_integers.specs.declared.term.Wide.{Wide}
-use Rattle.rg_case_folds.specs.Fold.{and_then, further, joined, Ratio, whole, quotient, add, mul}
+use Rattle.rg_folds.specs.Fold.{and_then, further, joined, Ratio, whole, quotient, add, mul}
 use Rattle.rg_case_folds.specs.Chords.{IsBasis}
-use Rattle.rg_case_folds.specs.Rewriting.{is_in, numbers_where, has_label, free_columns}
+use Rattle.rg_folds.specs.Substitution.{is_in, numbers_where}
+use Rattle.rg_case_folds.specs.Rewriting.{has_label, free_columns}
 use Rattle.rg_case_folds.specs.Placing.{effect_fold}
 use Rattle.rg_case_folds.proofs.RowValues.{IsOver, further_over}
-use Rattle.rg_case_folds.proofs.Scaling.{both_sums}
+use Rattle.rg_folds.proofs.Sums.{both_sums}
 use Rattle.rg_case_folds.specs.Meaning.{AreEffects}
 use Rattle.rg_case_folds.proofs.Lists.{where_has, where_is}
 use Rattle.rg_case_folds.proofs.PointEffects.{has_in}
@@ -86,8 +87,8 @@ effect_is lts tree basis start value first effect scale t h is e v lt fold = ⊎
     term f = and_then (quotient ((basis.relation t).coefficient f) (basis.relation t).d) (λ k. mul (value f) k)
 
     effect_by : Bool → Bool → Type 0
-    effect_by label member = Rattle.rg_case_folds.specs.Fold.either (not label) (Rattle.rg_case_folds.specs.Fold.gives (whole (pos 0)))
-        (Rattle.rg_case_folds.specs.Fold.either member (Rattle.rg_case_folds.specs.Fold.gives (value t))
+    effect_by label member = Rattle.rg_folds.specs.Fold.either (not label) (Rattle.rg_folds.specs.Fold.gives (whole (pos 0)))
+        (Rattle.rg_folds.specs.Fold.either member (Rattle.rg_folds.specs.Fold.gives (value t))
         (joined add term (whole (pos 0)) (free_columns lts basis))) (Ok h)
 
     unused : has_label t lts.arcs ≡ false → h ≡ whole (pos 0) → IsOver scale h (effect t) × (pos 0 <ℤ h.bottom)

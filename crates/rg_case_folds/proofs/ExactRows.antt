@@ -17,12 +17,14 @@ use Rattle.rg_integers.proofs.Order.{mul-cancel, mul-cancel_left, mul_positive, 
 use Rattle.rg_integers.proofs.Sums.{sum_below-same}
 use Rattle.rg_integers.proofs.Divisors.{exact}
 use Rattle.rg_case_folds.specs.Setting.{Setting}
-use Rattle.rg_case_folds.specs.Fold.{each, Ratio, whole}
+use Rattle.rg_folds.specs.Fold.{each, Ratio, whole}
 use Rattle.rg_case_folds.specs.Chords.{chord_system, IsBasis}
-use Rattle.rg_case_folds.specs.Rewriting.{is_in, numbers_where, has_label, free_labels, dependent_labels, start_of, count_of, coefficient_fold, has_start, pick, Scaled, scaled_fold, terms_fold, KeptRow, row_fold}
+use Rattle.rg_folds.specs.Substitution.{is_in, numbers_where, free_labels, dependent_labels, coefficient_fold}
+use Rattle.rg_case_folds.specs.Rewriting.{has_label, start_of, count_of, has_start, pick, Scaled, scaled_fold, terms_fold, KeptRow, row_fold}
 use Rattle.rg_case_folds.specs.Values.{NamesLabels, numbers_along, picked, column_values, UnusedAreZero}
 use Rattle.rg_case_folds.proofs.RowValues.{IsOver, coefficient_over, whole_over, rewritten}
-use Rattle.rg_case_folds.proofs.Scaling.{Divides, AllOver, scaled_dot, whole_product_is, both_sums}
+use Rattle.rg_folds.proofs.Sums.{both_sums}
+use Rattle.rg_case_folds.proofs.Scaling.{Divides, AllOver, scaled_dot, whole_product_is}
 use Rattle.rg_integers.proofs.Dots.{dot-times}
 use Rattle.rg_integers.proofs.ListSums.{sum_over-same, sum_over-plus, sum_over-times, sum_over-zero, sum_over-swap}
 

@@ -25,7 +25,7 @@ use Rattle.rg_cert_meaning.specs.Row.{RowStands, row_expression, form_variable, 
 use Rattle.rg_cert_meaning.specs.declared.RowName.{RowName}
 use Rattle.rg_cert_meaning.specs.declared.Form.{Form as SplitForm}
 use Rattle.rg_case_folds.specs.Setting.{Setting, CaseSetting}
-use Rattle.rg_case_folds.specs.Fold.{Ratio, whole, mul}
+use Rattle.rg_folds.specs.Fold.{Ratio, whole, mul}
 use Rattle.rg_case_folds.specs.Rewriting.{Scaled, has_start, terms_fold, form_fold, row_fold, split_forms, form_low, form_high, names_of, KeptRow, IsIdle, CaseSystem, rows_of, system_fold}
 use Rattle.rg_case_folds.specs.Meaning.{IsCaseOver}
 use Rattle.rg_case_folds.specs.FormRows.{form_row, IsMultipleOfRow}

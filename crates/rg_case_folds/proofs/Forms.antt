@@ -21,7 +21,7 @@ use Rattle.rg_cert_meaning.specs.Expression.{plus}
 use Rattle.rg_cert_meaning.specs.Row.{form_variable, step_of}
 use Rattle.rg_cert_meaning.specs.declared.Form.{Form as SplitForm}
 use Rattle.rg_case_folds.specs.Setting.{Setting, CaseSetting}
-use Rattle.rg_case_folds.specs.Fold.{each}
+use Rattle.rg_folds.specs.Fold.{each}
 use Rattle.rg_case_folds.specs.Rewriting.{has_label, has_start, splits_start, split_forms, form_fold, CaseSystem, rows_of, system_fold, used_labels, all_numbers}
 use Rattle.rg_case_folds.specs.Values.{NamesLabels, numbers_along, column_values}
 use Rattle.rg_case_folds.proofs.ExactRows.{terms_value}

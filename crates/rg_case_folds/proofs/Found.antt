@@ -21,9 +21,10 @@ use Rattle.rg_integers.proofs.Dots.{dot_comm, dot-times}
 use Rattle.rg_linear.specs.Cycle.{CycleBasis, FollowsRelations}
 use Rattle.rg_linear.specs.System.{LinearRow}
 use Rattle.rg_case_folds.specs.Setting.{Setting}
-use Rattle.rg_case_folds.specs.Fold.{gives, and_then, either, each, Ratio, whole, mul, multiple_of_all}
+use Rattle.rg_folds.specs.Fold.{gives, and_then, either, each, Ratio, whole, mul, multiple_of_all}
 use Rattle.rg_case_folds.specs.Chords.{chord_system, IsBasis}
-use Rattle.rg_case_folds.specs.Rewriting.{is_in, numbers_where, all_numbers, has_label, free_labels, has_start, CaseSystem}
+use Rattle.rg_folds.specs.Substitution.{is_in, numbers_where, free_labels}
+use Rattle.rg_case_folds.specs.Rewriting.{all_numbers, has_label, has_start, CaseSystem}
 use Rattle.rg_case_folds.specs.Values.{picked, column_values}
 use Rattle.rg_case_folds.specs.Placing.{effect_fold, made_whole, ratio_at, top_at}
 use Rattle.rg_case_folds.proofs.RowValues.{IsOver}

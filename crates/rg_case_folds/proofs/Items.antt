@@ -4,8 +4,8 @@ use Rattle.std.specs.Prelude.{slice_index_or}
 use Rattle.std.proofs.lemmas.List.{drop_all, map-append}
 use Rattle.std.proofs.Math.Seq.{drop-cons}
 use Rattle.rg_integers.specs.declared.term.Wide.{Wide}
-use Rattle.rg_case_folds.specs.Fold.{each}
-use Rattle.rg_case_folds.proofs.Folding.{behind, each_next, each_fails, each_ends}
+use Rattle.rg_folds.specs.Fold.{each}
+use Rattle.rg_folds.proofs.Folding.{behind, each_next, each_fails, each_ends}
 
 -- the list from place i on
 pub from_index : {A : Type 0} (all : List A) (i : ℕ) (d : A) → i < length all → drop i all ≡ slice_index_or all i d ∷ drop (i + 1) all

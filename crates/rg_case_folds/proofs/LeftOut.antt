@@ -12,7 +12,8 @@ use Rattle.rg_theory.proofs.Lists.{Contains-cons_cases}
 use Rattle.rg_cert_meaning.specs.declared.RowName.{RowName}
 use Rattle.rg_cert_meaning.specs.Row.{HasArcAt, SharedStands}
 use Rattle.rg_cert_meaning.specs.Row.{RowStands, case_consumer}
-use Rattle.rg_case_folds.specs.Rewriting.{numbers_where, has_label, has_label_at, used_labels, has_start, all_numbers, states_with, problem_rows, names_of}
+use Rattle.rg_folds.specs.Substitution.{numbers_where}
+use Rattle.rg_case_folds.specs.Rewriting.{has_label, has_label_at, used_labels, has_start, all_numbers, states_with, problem_rows, names_of}
 use Rattle.rg_case_folds.specs.Meaning.{IsLeftOut}
 use Rattle.rg_case_folds.proofs.Lists.{nothing, first, behind, Contains-map, where_has, if_true, if_false, from_one_of}
 use Rattle.rg_cert_meaning.specs.declared.RowName.TheVariants as row_name

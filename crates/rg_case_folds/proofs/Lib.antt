@@ -1,7 +1,5 @@
 pub mod Potentials
 pub mod ChordRows
-pub mod FoldLemmas
-pub mod Zeros
 pub mod OneResult
 pub mod RowValues
 pub mod Scaling
@@ -35,7 +33,6 @@ pub mod Missing
 pub mod Times
 pub mod Lifts
 pub mod StartAlone
-pub mod Folding
 pub mod Items
 pub mod Wholes
 pub mod EffectValues

@@ -3,7 +3,7 @@ use Rattle.std.proofs.Common.{◌≡◌, ◌⊎◌, ⊎_elim, ℕ, zero, suc, �
 use Rattle.std.proofs.lemmas.Bool.{true≢false, cases_eq}
 use Rattle.std.proofs.lemmas.List.Elements.{Contains-append_left, Contains-append_right, Contains-append_cases}
 use Rattle.rg_theory.proofs.Lists.{Contains-cons_cases}
-use Rattle.rg_case_folds.specs.Rewriting.{numbers_where}
+use Rattle.rg_folds.specs.Substitution.{numbers_where}
 
 pub nothing : {X : Type 0} (x : X) → Contains [] x → ⊥
 nothing x (k, lt, e) = omega arith

@@ -21,7 +21,7 @@ use Rattle.rg_cert_meaning.proofs.Making.{place_by, weight_by, Suits, suited_reg
 use Rattle.rg_integers.specs.Range.{InRange}
 use Rattle.rg_integers.proofs.Ranges.{zero_in_range}
 use Rattle.rg_case_folds.specs.Setting.{CaseSetting}
-use Rattle.rg_case_folds.specs.Fold.{each, Ratio, whole, whole_sum}
+use Rattle.rg_folds.specs.Fold.{each, Ratio, whole, whole_sum}
 use Rattle.rg_case_folds.specs.Rewriting.{has_label_at, all_numbers, states_with, CaseSystem}
 use Rattle.rg_case_folds.specs.Shown.{IsLive}
 use Rattle.rg_case_folds.specs.Placing.{effect_fold, made_whole, along_tree, shift_fold, ratio_at, least_of, top_at, taken_by_effect, taken, place_of, place_fold}

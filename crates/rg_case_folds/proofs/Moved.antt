@@ -11,7 +11,7 @@ use Rattle.rg_integers.specs.Range.{InRange}
 use Rattle.rg_integers.specs.Sum.{sum_over}
 use Rattle.rg_integers.proofs.Sums.{sum_below-same}
 use Rattle.rg_integers.proofs.ListSums.{sum_over-append}
-use Rattle.rg_case_folds.specs.Fold.{Ratio, whole, add}
+use Rattle.rg_folds.specs.Fold.{Ratio, whole, add}
 use Rattle.rg_case_folds.specs.Potentials.{potential}
 use Rattle.rg_case_folds.specs.Placing.{along_tree, lesser, least_from, least_of}
 use Rattle.rg_case_folds.proofs.Potentials.{counted, led_below}

@@ -11,7 +11,8 @@ use Rattle.rg_cert_meaning.specs.declared.RowName.{RowName}
 use Rattle.rg_cert_meaning.specs.Row.{HasArcAt, RowStands, row_expression, apart_expression}
 use Rattle.rg_cert_meaning.specs.Row.{order_of, case_consumer}
 use Rattle.rg_cert_meaning.specs.Refutes.{IsSeparationProblem}
-use Rattle.rg_case_folds.specs.Rewriting.{numbers_where, has_label, has_label_at, used_labels, has_start, all_numbers, states_with, problem_rows, names_of}
+use Rattle.rg_folds.specs.Substitution.{numbers_where}
+use Rattle.rg_case_folds.specs.Rewriting.{has_label, has_label_at, used_labels, has_start, all_numbers, states_with, problem_rows, names_of}
 use Rattle.rg_case_folds.specs.Values.{NamesLabels}
 use Rattle.std.proofs.lemmas.List.Elements.{Contains-append_cases}
 use Rattle.rg_case_folds.proofs.Lists.{nothing, first, behind, Contains-of_map, where_is, of_if, of_optional, in_one_of}

@@ -10,7 +10,8 @@ use Rattle.rg_integers.proofs.Order.{mul-cancel_left, positive_differs}
 use Rattle.rg_integers.proofs.Sums.{sum_below-same}
 use Rattle.rg_linear.proofs.Members.{is_member}
 use Rattle.rg_case_folds.specs.Setting.{Setting, CaseSetting}
-use Rattle.rg_case_folds.specs.Rewriting.{is_in, has_label, free_columns, has_start, CaseSystem}
+use Rattle.rg_folds.specs.Substitution.{is_in}
+use Rattle.rg_case_folds.specs.Rewriting.{has_label, free_columns, has_start, CaseSystem}
 use Rattle.rg_case_folds.specs.Values.{column_values}
 use Rattle.rg_case_folds.specs.Meaning.{IsCaseOver, AreGivenBy, first_column}
 use Rattle.rg_case_folds.proofs.Lists.{where_has}

@@ -18,13 +18,14 @@ use Rattle.rg_integers.proofs.Order.{mul-cancel_left}
 use Rattle.rg_integers.specs.declared.term.Wide.{Wide}
 use Rattle.rg_fraction.specs.Rows.{IsRowGcd}
 use Rattle.rg_case_folds.specs.Setting.{Setting, CaseSetting}
-use Rattle.rg_case_folds.specs.Fold.{either, IsOne, Ratio, whole, IsRatio, add, mul, whole_sum}
+use Rattle.rg_folds.specs.Fold.{either, IsOne, Ratio, whole, IsRatio, add, mul, whole_sum}
 use Rattle.rg_linear.specs.Cycle.{CycleBasis}
-use Rattle.rg_case_folds.specs.Rewriting.{dependent_term, coefficient_fold, substitute_fold, dependent_labels, free_labels, Scaled, scaled_fold, terms_fold, KeptRow, divided, row_fold, IsIdle, form_fold, CaseSystem, kept_of, system_fold, has_label, is_in, names_of, split_forms}
+use Rattle.rg_folds.specs.Substitution.{dependent_term, coefficient_fold, substitute_fold, dependent_labels, free_labels, is_in}
+use Rattle.rg_case_folds.specs.Rewriting.{Scaled, scaled_fold, terms_fold, KeptRow, divided, row_fold, IsIdle, form_fold, CaseSystem, kept_of, system_fold, has_label, names_of, split_forms}
 use Rattle.rg_case_folds.specs.Placing.{effect_fold, made_whole, along_tree, shift_fold, is_shifted, is_lifted, place_fold}
 use Rattle.rg_case_folds.specs.Spreading.{Share, share_fold, Pair, pair_fold, chord_fold, ArcTimes, Addend, Addend.number, Addend.product, addend_fold, tree_fold, parts_of, sizes_fold, checked_leaf, used_chords, chord_arcs, named_from, arc_name, multiplier_among, not_zero, leaf_fold, spread_fold}
 use Rattle.rg_linear.proofs.Firsts.{same_kept}
-use Rattle.rg_case_folds.proofs.FoldLemmas.{Same, gives_one, and_then_one, each_one, further_one, joined_one, term_one, ratio_one, quotient_one, two_terms_one, add_one, multiple_one}
+use Rattle.rg_folds.proofs.FoldLemmas.{Same, gives_one, and_then_one, each_one, further_one, joined_one, term_one, ratio_one, quotient_one, two_terms_one, add_one, multiple_one}
 
 pub either_one : {X : Type 0} (b : Bool) (first second : Result X Wide → Type 0) → IsOne first → IsOne second → IsOne (either b first second)
 either_one true first second one other = one

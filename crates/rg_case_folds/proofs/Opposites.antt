@@ -10,10 +10,11 @@ use Rattle.rg_linear.specs.Cycle.{CycleBasis}
 use Rattle.rg_cert_meaning.specs.Expression.{plus, minus}
 use Rattle.rg_cert_meaning.specs.declared.Variable.{Variable}
 use Rattle.rg_case_folds.specs.Setting.{Setting}
-use Rattle.rg_case_folds.specs.Fold.{each, further, Ratio, whole, IsRatio, add, mul, multiple_of_all}
-use Rattle.rg_case_folds.specs.Rewriting.{has_label, free_labels, dependent_labels, variable_count, start_of, count_of, dependent_term, coefficient_fold, has_start, pick, columns_of, Scaled, terms_fold}
+use Rattle.rg_folds.specs.Fold.{each, further, Ratio, whole, IsRatio, add, mul, multiple_of_all}
+use Rattle.rg_folds.specs.Substitution.{free_labels, dependent_labels, dependent_term, coefficient_fold}
+use Rattle.rg_case_folds.specs.Rewriting.{has_label, variable_count, start_of, count_of, has_start, pick, columns_of, Scaled, terms_fold}
 use Rattle.rg_case_folds.specs.Placing.{negated}
-use Rattle.rg_case_folds.proofs.FoldLemmas.{ratio_one, multiple_one}
+use Rattle.rg_folds.proofs.FoldLemmas.{ratio_one, multiple_one}
 
 -- ---- fractions
 

@@ -16,10 +16,10 @@ use Rattle.rg_integers.proofs.Order.{mul-cancel, mul_positive, positive_differs,
 use Rattle.rg_integers.proofs.Divisors.{gcd_of-is, exact, int_gcd_positive}
 use Rattle.rg_integers.proofs.ListSums.{sum_over-append}
 use Rattle.rg_linear.proofs.Branches.{positive_times_less, positive_times_most}
-use Rattle.rg_case_folds.specs.Fold.{Ratio, whole, add}
+use Rattle.rg_folds.specs.Fold.{Ratio, whole, add}
 use Rattle.rg_case_folds.specs.Potentials.{potential}
 use Rattle.rg_case_folds.specs.Placing.{negated, along_tree, lesser, least_from, least_of}
-use Rattle.rg_case_folds.proofs.FoldLemmas.{ratio_one}
+use Rattle.rg_folds.proofs.FoldLemmas.{ratio_one}
 use Rattle.rg_case_folds.proofs.RowValues.{IsOver, add_over}
 use Rattle.rg_case_folds.proofs.Scaling.{whole_ratio}
 use Rattle.rg_case_folds.proofs.Potentials.{counted, led_below}

@@ -20,7 +20,7 @@ use Rattle.rg_case_folds.proofs.Missing.{missing_is_least}
 use Rattle.rg_case_folds.proofs.Times.{allows_by, multiple_positive}
 use Rattle.rg_theory.specs.System.{System, IsInRange, states, labels}
 use Rattle.rg_cert_meaning.specs.declared.Variable.{Variable}
-use Rattle.rg_case_folds.specs.Fold.{gives, either, each, Ratio, whole, add}
+use Rattle.rg_folds.specs.Fold.{gives, either, each, Ratio, whole, add}
 use Rattle.rg_case_folds.specs.Potentials.{potential}
 use Rattle.rg_theory.specs.Tree.{parikh}
 use Rattle.rg_case_folds.specs.Rewriting.{all_numbers, has_label, has_start, CaseSystem}

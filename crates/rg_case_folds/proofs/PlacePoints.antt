@@ -22,9 +22,10 @@ use Rattle.rg_linear.proofs.Points.{constant_left}
 use Rattle.rg_linear.proofs.Splits.{found_is_sound}
 use Rattle.rg_linear.specs.Cycle.{CycleBasis}
 use Rattle.rg_case_folds.specs.Setting.{Setting, CaseSetting}
-use Rattle.rg_case_folds.specs.Fold.{Ratio, whole, IsRatio}
+use Rattle.rg_folds.specs.Fold.{Ratio, whole, IsRatio}
 use Rattle.rg_case_folds.specs.Shown.{IsLive, IsValueAt, PointOf}
-use Rattle.rg_case_folds.specs.Rewriting.{has_label, free_labels, free_columns, has_start, CaseSystem, rows_of}
+use Rattle.rg_folds.specs.Substitution.{free_labels}
+use Rattle.rg_case_folds.specs.Rewriting.{has_label, free_columns, has_start, CaseSystem, rows_of}
 use Rattle.rg_case_folds.specs.Values.{picked}
 use Rattle.rg_case_folds.specs.Placing.{place_fold}
 use Rattle.rg_case_folds.specs.Meaning.{IsCaseOver, AreGivenBy, first_column}

@@ -18,7 +18,7 @@ use Rattle.rg_integers.specs.Range.{InRange, greatest}
 use Rattle.rg_integers.proofs.Ranges.{zero_in_range, in_range-neg}
 use Rattle.rg_integers.specs.Sum.{number_at}
 use Rattle.rg_cert_meaning.proofs.Making.{place_by}
-use Rattle.rg_case_folds.specs.Fold.{each, whole_sum}
+use Rattle.rg_folds.specs.Fold.{each, whole_sum}
 use Rattle.rg_case_folds.specs.Rewriting.{all_numbers}
 use Rattle.rg_case_folds.specs.Placing.{taken_by_effect}
 use Rattle.rg_case_folds.proofs.Items.{each_length}

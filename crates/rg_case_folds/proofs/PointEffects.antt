@@ -19,7 +19,8 @@ use Rattle.rg_linear.proofs.Members.{is_member}
 use Rattle.rg_linear.proofs.Unique.{same_relation}
 use Rattle.rg_case_folds.specs.Setting.{CaseSetting}
 use Rattle.rg_case_folds.specs.Chords.{chord_system, IsBasis}
-use Rattle.rg_case_folds.specs.Rewriting.{is_in, numbers_where, has_label, free_columns, has_start, CaseSystem}
+use Rattle.rg_folds.specs.Substitution.{is_in, numbers_where}
+use Rattle.rg_case_folds.specs.Rewriting.{has_label, free_columns, has_start, CaseSystem}
 use Rattle.rg_case_folds.specs.Values.{column_values}
 use Rattle.rg_case_folds.specs.Meaning.{IsCaseOver, AreGivenBy, first_column}
 use Rattle.rg_case_folds.proofs.Lists.{nothing, first, behind, where_is}

@@ -11,7 +11,7 @@ use Rattle.rg_integers.proofs.Sums.{sum_below-same}
 use Rattle.rg_linear.specs.System.{LinearRow, row_variable, row_at, entry, IsPoint, MeetsRows}
 use Rattle.rg_linear.proofs.Columns.{values_of, values_of-column, values_of-point, scaled_point}
 use Rattle.rg_case_folds.specs.Setting.{CaseSetting}
-use Rattle.rg_case_folds.specs.Fold.{whole}
+use Rattle.rg_folds.specs.Fold.{whole}
 use Rattle.rg_case_folds.specs.Rewriting.{has_start, KeptRow, CaseSystem, rows_of}
 use Rattle.rg_case_folds.specs.Values.{numbers_along, column_values, RowIsMet}
 use Rattle.rg_case_folds.specs.Shown.{IsLive}

@@ -6,8 +6,9 @@ use Rattle.std.proofs.lemmas.List.{get_or_append_left, get_or-append_right}
 use Rattle.rg_theory.specs.System.{System, labels}
 use Rattle.rg_linear.specs.Cycle.{CycleBasis}
 use Rattle.rg_integers.specs.declared.term.Wide.{Wide}
-use Rattle.rg_case_folds.specs.Fold.{gives, either, and_then, each, further, joined, Ratio, whole, quotient, add, mul}
-use Rattle.rg_case_folds.specs.Rewriting.{is_in, has_label, free_columns, all_numbers}
+use Rattle.rg_folds.specs.Fold.{gives, either, and_then, each, further, joined, Ratio, whole, quotient, add, mul}
+use Rattle.rg_folds.specs.Substitution.{is_in}
+use Rattle.rg_case_folds.specs.Rewriting.{has_label, free_columns, all_numbers}
 use Rattle.rg_case_folds.specs.Placing.{effect_fold, ratio_at}
 use Rattle.rg_case_folds.proofs.Lists.{where_has}
 use Rattle.rg_case_folds.specs.Places.{IsReduced, AreValuesOf}

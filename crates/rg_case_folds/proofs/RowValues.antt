@@ -11,10 +11,11 @@ use Rattle.rg_integers.proofs.Ring.{ring, add-mul, mul_assoc, one-mul}
 use Rattle.rg_integers.proofs.Order.{mul-cancel}
 use Rattle.rg_integers.proofs.Sums.{sum_below-same, sum_below-zero, sum_below-plus, sum_below-times, sum_below-at}
 use Rattle.rg_integers.specs.declared.term.Wide.{Wide}
-use Rattle.rg_case_folds.specs.Fold.{further, Ratio, whole, quotient, add, mul}
+use Rattle.rg_folds.specs.Fold.{further, Ratio, whole, quotient, add, mul}
 use Rattle.rg_theory.specs.Tree.{parikh}
 use Rattle.rg_linear.specs.Cycle.{CycleBasis}
-use Rattle.rg_case_folds.specs.Rewriting.{variable_start, variable_count, start_of, count_of, dependent_term, coefficient_fold, dependent_labels}
+use Rattle.rg_folds.specs.Substitution.{dependent_term, coefficient_fold, dependent_labels}
+use Rattle.rg_case_folds.specs.Rewriting.{variable_start, variable_count, start_of, count_of}
 use Rattle.rg_case_folds.specs.Values.{NamesLabels, numbers_along}
 use Rattle.rg_cert_meaning.specs.declared.Variable.TheVariants.{Tokens, Effect}
 

@@ -13,7 +13,7 @@ use Rattle.rg_case_folds.specs.Rewriting.{system_fold}
 use Rattle.rg_case_folds.specs.Shown.{Shown, CycleShown, RowShown}
 use Rattle.rg_theory.proofs.Trees.{same_tree}
 use Rattle.rg_linear.proofs.Bases.{kept_is_one, cycle_basis_is_one}
-use Rattle.rg_case_folds.proofs.FoldLemmas.{err_is}
+use Rattle.rg_folds.proofs.FoldLemmas.{err_is}
 use Rattle.rg_case_folds.proofs.OneResult.{system_one}
 
 same_stop : (at at' : WideAt) → too_wide at ≡ too_wide at' → at ≡ at'

@@ -12,9 +12,10 @@ use Rattle.rg_integers.specs.Divisor.{int_gcd, gcd_of}
 use Rattle.rg_integers.proofs.Divisors.{gcd_of-is, exact}
 use Rattle.rg_integers.specs.declared.term.Wide.{Wide}
 use Rattle.rg_case_folds.specs.Setting.{Setting}
-use Rattle.rg_case_folds.specs.Fold.{gives, each, further, Ratio, whole, add, common_multiple, multiple_of_all}
+use Rattle.rg_folds.specs.Fold.{gives, each, further, Ratio, whole, add, common_multiple, multiple_of_all}
 use Rattle.rg_case_folds.specs.Chords.{chord_system, IsBasis}
-use Rattle.rg_case_folds.specs.Rewriting.{has_label, free_labels, dependent_labels, start_of, count_of, dependent_term, coefficient_fold, has_start, pick, columns_of, Scaled, terms_fold, KeptRow, row_fold}
+use Rattle.rg_folds.specs.Substitution.{free_labels, dependent_labels, dependent_term, coefficient_fold}
+use Rattle.rg_case_folds.specs.Rewriting.{has_label, start_of, count_of, has_start, pick, columns_of, Scaled, terms_fold, KeptRow, row_fold}
 use Rattle.rg_case_folds.specs.Values.{NamesLabels, numbers_along, column_values, UnusedAreZero}
 use Rattle.rg_integers.specs.Sum.{dot}
 use Rattle.rg_case_folds.proofs.ExactRows.{row_value_is}

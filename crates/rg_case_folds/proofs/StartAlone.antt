@@ -14,10 +14,11 @@ use Rattle.rg_integers.specs.Term.{term_value}
 use Rattle.rg_linear.specs.Cycle.{CycleBasis}
 use Rattle.rg_cert_meaning.specs.Expression.{plus}
 use Rattle.rg_case_folds.specs.Setting.{Setting}
-use Rattle.rg_case_folds.specs.Fold.{further, each, gives, Ratio, whole, IsRatio, add, common_multiple, multiple_of_all}
-use Rattle.rg_case_folds.specs.Rewriting.{Scaled, has_label, has_start, free_labels, dependent_labels, count_of, start_of, dependent_term, coefficient_fold, pick, terms_fold}
-use Rattle.rg_case_folds.proofs.FoldLemmas.{quotient_one}
-use Rattle.rg_case_folds.proofs.Zeros.{zero_ratio}
+use Rattle.rg_folds.specs.Fold.{further, each, gives, Ratio, whole, IsRatio, add, common_multiple, multiple_of_all}
+use Rattle.rg_folds.specs.Substitution.{free_labels, dependent_labels, dependent_term, coefficient_fold}
+use Rattle.rg_case_folds.specs.Rewriting.{Scaled, has_label, has_start, count_of, start_of, pick, terms_fold}
+use Rattle.rg_folds.proofs.FoldLemmas.{quotient_one}
+use Rattle.rg_folds.proofs.Zeros.{zero_ratio}
 use Rattle.rg_cert_meaning.specs.declared.Variable.TheVariants.{Tokens}
 
 -- ---- sums of zeros

@@ -12,7 +12,7 @@ use Rattle.rg_linear.specs.Cycle.{FollowsRelations}
 use Rattle.rg_integers.proofs.Order.{mul_not_negative}
 use Rattle.rg_integers.specs.declared.term.Wide.{Wide}
 use Rattle.rg_case_folds.specs.Setting.{CaseSetting}
-use Rattle.rg_case_folds.specs.Fold.{each}
+use Rattle.rg_folds.specs.Fold.{each}
 use Rattle.rg_case_folds.specs.Chords.{chord_system, IsBasis}
 use Rattle.rg_case_folds.specs.Rewriting.{has_start, names_of, KeptRow, IsIdle, row_fold, CaseSystem, system_fold}
 use Rattle.rg_case_folds.specs.Values.{NamesLabels, column_values, UnusedAreZero, RowIsMet, NameIsMet}

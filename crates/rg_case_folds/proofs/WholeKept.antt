@@ -20,7 +20,7 @@ use Rattle.rg_cert_meaning.specs.declared.Variable.{Variable}
 use Rattle.rg_cert_meaning.specs.Row.{form_variable, step_of}
 use Rattle.rg_cert_meaning.specs.declared.Form.{Form}
 use Rattle.rg_case_folds.specs.Setting.{CaseSetting}
-use Rattle.rg_case_folds.specs.Fold.{each, Ratio, whole, add}
+use Rattle.rg_folds.specs.Fold.{each, Ratio, whole, add}
 use Rattle.rg_case_folds.specs.Rewriting.{has_label, all_numbers, has_start, splits_start, split_forms, CaseSystem}
 use Rattle.rg_case_folds.specs.Values.{numbers_along}
 use Rattle.rg_case_folds.specs.Shown.{IsLive}

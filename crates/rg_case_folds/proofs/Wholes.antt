@@ -12,8 +12,8 @@ use Rattle.rg_integers.proofs.Signs.{abs_is}
 use Rattle.rg_integers.proofs.Order.{mul-cancel, positive_differs}
 use Rattle.rg_integers.proofs.Divisors.{gcd_of-only, exact}
 use Rattle.rg_integers.specs.declared.term.Wide.{Wide}
-use Rattle.rg_case_folds.specs.Fold.{each, Ratio, whole, add, mul}
-use Rattle.rg_case_folds.proofs.FoldLemmas.{ratio_one}
+use Rattle.rg_folds.specs.Fold.{each, Ratio, whole, add, mul}
+use Rattle.rg_folds.proofs.FoldLemmas.{ratio_one}
 use Rattle.rg_case_folds.proofs.Scaling.{Divides, AllDivide, whole_ratio, product_whole}
 
 -- ---- parts by common divisors

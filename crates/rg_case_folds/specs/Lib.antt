@@ -1,4 +1,3 @@
-pub mod Fold
 pub mod Potentials
 pub mod Chords
 pub mod Setting

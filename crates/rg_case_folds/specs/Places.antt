@@ -13,7 +13,7 @@ use Rattle.rg_integers.specs.Value.{SameValue}
 use Rattle.rg_integers.specs.declared.term.Wide.{Wide}
 use Rattle.rg_linear.specs.Branching.{form_at}
 use Rattle.rg_linear.specs.Cycle.{CycleBasis}
-use Rattle.rg_case_folds.specs.Fold.{◌>>=◌, each, Ratio, whole}
+use Rattle.rg_folds.specs.Fold.{◌>>=◌, each, Ratio, whole}
 use Rattle.rg_case_folds.specs.Setting.{Setting}
 use Rattle.rg_case_folds.specs.Rewriting.{free_columns, all_numbers, has_start, CaseSystem}
 use Rattle.rg_case_folds.specs.Values.{column_values}

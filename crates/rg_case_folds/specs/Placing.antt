@@ -7,10 +7,11 @@ use Rattle.rg_theory.specs.declared.Class.{Class}
 use Rattle.rg_theory.specs.declared.Problem.{Problem}
 use Rattle.rg_theory.specs.declared.Problem.TheVariants.{Event, States}
 use Rattle.rg_integers.specs.declared.term.Wide.{Wide}
-use Rattle.rg_case_folds.specs.Fold.{gives, ◌>>=◌, either, each, joined, Ratio, whole, quotient, add, mul, whole_sum, multiple_of_all}
+use Rattle.rg_folds.specs.Fold.{gives, ◌>>=◌, either, each, joined, Ratio, whole, quotient, add, mul, whole_sum, multiple_of_all}
 use Rattle.rg_linear.specs.Cycle.{CycleBasis}
 use Rattle.rg_case_folds.specs.Setting.{Setting}
-use Rattle.rg_case_folds.specs.Rewriting.{is_in, has_label, free_columns, all_numbers, states_with}
+use Rattle.rg_folds.specs.Substitution.{is_in}
+use Rattle.rg_case_folds.specs.Rewriting.{has_label, free_columns, all_numbers, states_with}
 
 -- what free label f with this value adds to the effect of label t
 abbrev pub effect_share : CycleBasis → (ℕ → Ratio) → ℕ → ℕ → Result Ratio Wide → Type 0

@@ -1,5 +1,5 @@
 -- Named rows, written over Start and the free labels.
-use Rattle.std.specs.Prelude.{◌≡◌, ℕ, zero, suc, max, ◌==◌, ◌&&◌, ◌||◌, not, is_some, unwrap_or, Bool, true, false, if◌then◌else◌, List, [], ◌∷◌, ◌++◌, map, length, ℤ, pos, negsuc, ◌+ℤ◌, ◌*ℤ◌, ◌≤ℤ◌, Result, Ok, Err}
+use Rattle.std.specs.Prelude.{◌≡◌, ℕ, max, ◌==◌, ◌&&◌, ◌||◌, not, is_some, unwrap_or, Bool, true, false, if◌then◌else◌, List, [], ◌∷◌, ◌++◌, map, length, ℤ, pos, negsuc, ◌+ℤ◌, ◌*ℤ◌, ◌≤ℤ◌, Result, Ok, Err}
 use Rattle.rg_theory.specs.declared.Arc.{Arc}
 use Rattle.rg_theory.specs.System.{System, states, labels}
 use Rattle.rg_theory.specs.declared.Class.{Class}
@@ -8,14 +8,14 @@ use Rattle.rg_theory.specs.declared.Problem.TheVariants.{Event, States}
 use Rattle.rg_cert_meaning.specs.Expression.{Term, Expression, plus}
 use Rattle.rg_cert_meaning.specs.declared.Variable.{Variable}
 use Rattle.rg_cert_meaning.specs.declared.RowName.{RowName}
-use Rattle.rg_cert_meaning.specs.Row.{row_expression, case_consumer}
+use Rattle.rg_cert_meaning.specs.Row.{row_expression, case_consumer, form_variable, step_of}
 use Rattle.rg_cert_meaning.specs.declared.Form.{Form as SplitForm}
-use Rattle.rg_cert_meaning.specs.Row.{form_variable, step_of}
 use Rattle.rg_linear.specs.System.{LinearRow, LinearSystem}
 use Rattle.rg_linear.specs.Branching.{Form}
 use Rattle.rg_integers.specs.declared.term.Wide.{Wide}
 use Rattle.rg_fraction.specs.Rows.{IsRowGcd}
-use Rattle.rg_case_folds.specs.Fold.{gives, ◌>>=◌, each, further, Ratio, whole, IsRatio, quotient, add, mul, multiple_of_all}
+use Rattle.rg_folds.specs.Fold.{gives, ◌>>=◌, each, Ratio, whole, IsRatio, mul, multiple_of_all}
+use Rattle.rg_folds.specs.Substitution.{is_in, numbers_where, free_labels, substitute_fold}
 use Rattle.rg_theory.specs.Tree.{parikh}
 use Rattle.rg_linear.specs.Cycle.{CycleBasis, IsZeroVector}
 use Rattle.rg_linear.specs.Firsts.{KeepsEqualRows}
@@ -25,15 +25,6 @@ use Rattle.rg_cert_meaning.specs.declared.Form.TheVariants as split_form
 use Rattle.rg_cert_meaning.specs.declared.Variable.TheVariants.{Tokens, Effect}
 
 -- ---- lists of labels
-
-abbrev pub is_in : List ℕ → ℕ → Bool
-is_in [] m = false
-is_in (x ∷ xs) m = if x == m then true else is_in xs m
-
--- the n numbers from the first on that pass the test
-abbrev pub numbers_where : (ℕ → Bool) → ℕ → ℕ → List ℕ
-numbers_where test first zero = []
-numbers_where test first (suc n) = if test first then (first ∷ numbers_where test (suc first) n) else numbers_where test (suc first) n
 
 abbrev pub has_label : ℕ → List Arc → Bool
 has_label t [] = false
@@ -46,13 +37,6 @@ has_label_at q t (a ∷ arcs) = if (a.from == q) && (a.label == t) then true els
 -- the labels with an arc
 abbrev pub used_labels : System → List ℕ
 used_labels lts = numbers_where (λ t. has_label t lts.arcs) 0 (labels lts)
-
--- of so many labels, those whose effects are free, and those that have a relation
-abbrev pub free_labels : ℕ → CycleBasis → List ℕ
-free_labels labels basis = numbers_where (λ t. is_in basis.members t) 0 labels
-
-abbrev pub dependent_labels : ℕ → CycleBasis → List ℕ
-dependent_labels labels basis = numbers_where (λ t. not (is_in basis.members t)) 0 labels
 
 -- the free labels with an arc: the columns, but Start
 abbrev pub free_columns : System → CycleBasis → List ℕ
@@ -79,20 +63,6 @@ count_of tree [] u = pos 0
 count_of tree (t ∷ terms) u = (t.coefficient *ℤ variable_count tree t.variable u) +ℤ count_of tree terms u
 
 -- ---- the folds
-
--- what the dependent label t adds to the coefficient of the free label f: its count, times the number of f in its relation
-abbrev pub dependent_term : CycleBasis → (ℕ → ℤ) → ℕ → ℕ → Result Ratio Wide → Type 0
-dependent_term basis counts f t = do
-  k ← quotient ((basis.relation t).coefficient f) (basis.relation t).d
-  mul (whole (counts t)) k
-
--- the coefficient of the free label f: its own count, and those of the dependent labels
-abbrev pub coefficient_fold : ℕ → CycleBasis → (ℕ → ℤ) → ℕ → Result Ratio Wide → Type 0
-coefficient_fold labels basis counts f = further add (dependent_term basis counts f) (whole (counts f)) (dependent_labels labels basis)
-
--- the coefficients of all free labels
-abbrev pub substitute_fold : ℕ → CycleBasis → (ℕ → ℤ) → Result (List Ratio) Wide → Type 0
-substitute_fold labels basis counts = each (coefficient_fold labels basis counts) (free_labels labels basis)
 
 -- Start is a column
 abbrev pub has_start : Class → Bool

@@ -14,7 +14,7 @@ use Rattle.rg_linear.specs.Cycle.{CycleWalk, CycleOutcome.too_wide, CycleBasis}
 use Rattle.rg_branch_trees.specs.Trees.{Tree.leaf, Tree.split, low_side, high_side}
 use Rattle.rg_linear.specs.Branching.{Weight, SplitTree, node_system, Branching, BranchOutcome.found, BranchOutcome.tree, BranchOutcome.stopped, SplitSide}
 use Rattle.rg_integers.specs.declared.term.Wide.{Wide}
-use Rattle.rg_case_folds.specs.Fold.{Ratio, whole, IsRatio}
+use Rattle.rg_folds.specs.Fold.{Ratio, whole, IsRatio}
 use Rattle.rg_theory.specs.Tree.{IsTree}
 use Rattle.rg_case_folds.specs.Chords.{KeepsChords, chord_system, IsBasis}
 use Rattle.rg_case_folds.specs.Setting.{setting_at, case_at}

@@ -12,12 +12,13 @@ use Rattle.rg_integers.specs.Sign.{size}
 use Rattle.rg_linear.specs.Branching.{Weight, Form, form_at, SplitSide}
 use Rattle.rg_integers.specs.declared.term.Wide.{Wide}
 use Rattle.rg_fraction.specs.Rows.{IsRowGcd}
-use Rattle.rg_case_folds.specs.Fold.{gives, ◌>>=◌, each, joined, Ratio, whole, quotient, add, mul, whole_sum, whole_product}
+use Rattle.rg_folds.specs.Fold.{gives, ◌>>=◌, each, joined, Ratio, whole, quotient, add, mul, whole_sum, whole_product}
 use Rattle.rg_theory.specs.Tree.{same_arc}
 use Rattle.rg_linear.specs.Cycle.{CycleBasis}
 use Rattle.rg_case_folds.specs.Chords.{chord_at}
 use Rattle.rg_case_folds.specs.Setting.{CaseSetting}
-use Rattle.rg_case_folds.specs.Rewriting.{is_in, numbers_where, dependent_labels, all_numbers, count_of, scaled_fold, KeptRow, CaseSystem}
+use Rattle.rg_folds.specs.Substitution.{is_in, numbers_where, dependent_labels}
+use Rattle.rg_case_folds.specs.Rewriting.{all_numbers, count_of, scaled_fold, KeptRow, CaseSystem}
 use Rattle.rg_case_folds.specs.Placing.{negated}
 use Rattle.rg_cert_meaning.specs.declared.RowName.TheVariants as row_name
 use Rattle.rg_cert_meaning.specs.declared.Form.TheVariants as split_form

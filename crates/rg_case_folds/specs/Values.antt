@@ -8,7 +8,8 @@ use Rattle.rg_theory.specs.declared.Class.{Class}
 use Rattle.rg_integers.specs.Sum.{dot}
 use Rattle.rg_case_folds.specs.Potentials.{potential}
 use Rattle.rg_linear.specs.Cycle.{CycleBasis}
-use Rattle.rg_case_folds.specs.Rewriting.{has_label, free_labels, has_start, KeptRow}
+use Rattle.rg_folds.specs.Substitution.{free_labels}
+use Rattle.rg_case_folds.specs.Rewriting.{has_label, has_start, KeptRow}
 use Rattle.rg_cert_meaning.specs.declared.Variable.TheVariants.{Tokens, Effect}
 
 -- each state has the number that Start and the effects give along the tree

@@ -11,9 +11,10 @@ ghost use Rattle.rg_cert_meaning.specs.Row.{Side};
 ghost use Rattle.rg_linear.specs.Branching.{Weight, SplitSide};
 ghost use Rattle.rg_fraction.specs.Fractions.{numerator_of, denominator_of, IsValue, IsSum, IsProduct};
 ghost use Rattle.rg_case_folds.specs.Setting.{Setting, CaseSetting};
-ghost use Rattle.rg_case_folds.specs.Fold.{IsOne, Ratio, whole, ratio_of, shown_result, and_then, further, quotient, term, add, mul, multiple_of_all};
+ghost use Rattle.rg_folds.specs.Fold.{IsOne, Ratio, whole, ratio_of, shown_result, and_then, further, quotient, term, add, mul, multiple_of_all};
 ghost use Rattle.rg_linear.specs.Cycle.{CycleBasis};
-ghost use Rattle.rg_case_folds.specs.Rewriting.{dependent_term, substitute_fold, row_fold, CaseSystem, system_fold};
+ghost use Rattle.rg_folds.specs.Substitution.{dependent_term, substitute_fold};
+ghost use Rattle.rg_case_folds.specs.Rewriting.{row_fold, CaseSystem, system_fold};
 ghost use Rattle.rg_case_folds.specs.Placing.{missing, place_fold};
 ghost use Rattle.rg_case_folds.specs.Spreading.{Share, leaf_fold, spread_fold};
 

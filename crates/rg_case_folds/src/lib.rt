@@ -1,4 +1,4 @@
-//! Computations that stop at their first step out of range, and the systems of separation problems.
+//! Rows, places and leaves of separation problems, as computations that stop at their first step out of range.
 //! Each function here has an empty body: its contract is a law.
 //!
 //! A place that separates is looked for among the regions, written by a number of the initial state and

@@ -15,10 +15,10 @@ use Rattle.rg_fraction.specs.declared.fraction.Fraction.{Fraction}
 use Rattle.rg_fraction.specs.Fractions.{numerator_of, denominator_of}
 use Rattle.rg_fraction.specs.Terms.{product_term, product_top, product_bottom}
 use Rattle.rg_fraction.proofs.Ones.{first_part, second_part, one_is_reduced}
-use Rattle.rg_case_folds.specs.Fold.{gives, each, further, common_multiple, multiple_of_all, IsRatio, IsWithin, Ratio, ratio_of, whole, mul, term}
+use Rattle.rg_folds.specs.Fold.{gives, each, further, common_multiple, multiple_of_all, IsRatio, IsWithin, Ratio, ratio_of, whole, mul, term}
 use Rattle.rg_case_folds.specs.Rewriting.{scaled_fold}
-use Rattle.rg_case_folds.proofs.Folding.{further_next, further_unjoined}
-use Rattle.rg_case_folds.proofs.Zeros.{fraction_within}
+use Rattle.rg_folds.proofs.Folding.{further_next, further_unjoined}
+use Rattle.rg_folds.proofs.Zeros.{fraction_within}
 
 -- the multiple so far, and the numbers from i on
 module _ (all : List ℤ) (i : ℕ) (d : ℤ) (lt : i < length all) (sum : ℤ) (target : Result ℤ Wide → Type 0) (so_far : (r : Result ℤ Wide) → further common_multiple gives sum (drop i all) r → target r) where

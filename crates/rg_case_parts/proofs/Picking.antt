@@ -9,8 +9,9 @@ use Rattle.rg_theory.specs.declared.Class.{Class}
 use Rattle.rg_theory.specs.System.{System, labels}
 use Rattle.rg_integers.specs.Range.{InRange}
 use Rattle.rg_linear.specs.Cycle.{CycleBasis}
-use Rattle.rg_case_folds.specs.Fold.{Ratio, whole}
-use Rattle.rg_case_folds.specs.Rewriting.{is_in, has_label, numbers_where, free_labels, free_columns, has_start, pick, coefficient_fold, substitute_fold, columns_of, column_count}
+use Rattle.rg_folds.specs.Fold.{Ratio, whole}
+use Rattle.rg_folds.specs.Substitution.{is_in, numbers_where, free_labels, coefficient_fold, substitute_fold}
+use Rattle.rg_case_folds.specs.Rewriting.{has_label, free_columns, has_start, pick, columns_of, column_count}
 use Rattle.rg_case_folds.proofs.Items.{each_length}
 use Rattle.rg_case_parts.specs.declared.columns.Columns.{Columns}
 use Rattle.rg_case_parts.specs.ColumnViews.{AreColumns}

@@ -4,8 +4,9 @@ ghost use Rattle.rg_theory.specs.declared.Class.{Class};
 ghost use Rattle.rg_theory.specs.Limits.{most_labels};
 ghost use Rattle.rg_theory.specs.System.{System, labels};
 ghost use Rattle.rg_lts.specs.WellFormed.{IsWellFormed};
-ghost use Rattle.rg_case_folds.specs.Fold.{Ratio, whole};
-ghost use Rattle.rg_case_folds.specs.Rewriting.{has_label, free_labels, has_start, columns_of, column_count};
+ghost use Rattle.rg_folds.specs.Fold.{Ratio, whole};
+ghost use Rattle.rg_folds.specs.Substitution.{free_labels};
+ghost use Rattle.rg_case_folds.specs.Rewriting.{has_label, has_start, columns_of, column_count};
 ghost use Rattle.rg_cycles.specs.View.{labels_of, cycle_of};
 ghost use Rattle.rg_case_parts.specs.ColumnViews.{TellsUsedLabels, AreColumns};
 

@@ -2,7 +2,7 @@
 ghost use Rattle.std.specs.Prelude.{◌≡◌, ℕ, ◌<◌, ◌<ℤ◌, pos, map, length, All, IfOk};
 ghost use Rattle.rg_integers.specs.Range.{InRange};
 ghost use Rattle.rg_fraction.specs.Fractions.{numerator_of, denominator_of};
-ghost use Rattle.rg_case_folds.specs.Fold.{Comes, ratio_of, whole, each, mul, common_multiple, multiple_of_all};
+ghost use Rattle.rg_folds.specs.Fold.{Comes, ratio_of, whole, each, mul, common_multiple, multiple_of_all};
 ghost use Rattle.rg_case_folds.specs.Rewriting.{scaled_fold};
 ghost use Rattle.rg_case_parts.specs.WholeNumbers.{scaled_of};
 

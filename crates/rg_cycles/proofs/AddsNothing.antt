@@ -11,9 +11,9 @@ use Rattle.rg_fraction.specs.declared.fraction.Fraction.{Fraction}
 use Rattle.rg_fraction.specs.Fractions.{numerator_of, denominator_of}
 use Rattle.rg_fraction.specs.Terms.{product_term}
 use Rattle.rg_integers.specs.Term.{FitsTerm}
-use Rattle.rg_case_folds.specs.Fold.{and_then, Ratio, whole, ratio_of, shown_result, IsRatio, quotient, add, mul}
-use Rattle.rg_case_folds.proofs.Zeros.{count_adds_nothing, entry_adds_nothing, plus_zero, zero_count, zero_ratio, fraction_within}
-use Rattle.rg_case_folds.proofs.Folding.{whole_is}
+use Rattle.rg_folds.specs.Fold.{and_then, Ratio, whole, ratio_of, shown_result, IsRatio, quotient, add, mul}
+use Rattle.rg_folds.proofs.Zeros.{count_adds_nothing, entry_adds_nothing, plus_zero, zero_count, zero_ratio, fraction_within}
+use Rattle.rg_folds.proofs.Folding.{whole_is}
 
 -- a number whose bits are 0
 pub zero_of_bits : (z : ℤ) → InRange z → cast_unsigned w128 z ≡ 0 → z ≡ pos 0

@@ -15,16 +15,16 @@ use Rattle.rg_integers.proofs.Values.{SameValue-trans, SameValue-sym}
 use Rattle.rg_integers.specs.declared.term.Wide.{Wide}
 use Rattle.rg_fraction.specs.Terms.{sum_top, sum_bottom}
 use Rattle.rg_fraction.proofs.Forms.{sum-value, sum-positive}
-use Rattle.rg_case_folds.specs.Fold.{further, Ratio, whole, IsRatio, IsWithin, add}
+use Rattle.rg_folds.specs.Fold.{further, Ratio, whole, IsRatio, IsWithin, add}
 use Rattle.rg_fraction.proofs.Ones.{one_is_reduced}
-use Rattle.rg_case_folds.specs.Rewriting.{is_in, free_labels, dependent_term, numbers_where}
+use Rattle.rg_folds.specs.Substitution.{is_in, free_labels, dependent_term, numbers_where}
 use Rattle.rg_cycles.specs.declared.basis.Basis.{Basis}
 use Rattle.rg_cycles.specs.declared.relation.Relation.{Relation}
 use Rattle.rg_cycles.specs.View.{labels_of, cycle_of, counted_labels}
 use Rattle.rg_cycles.proofs.Labels.{FromWhere, where_from}
 use Rattle.rg_cycles.proofs.Folding.{AddsOn, term_is, is_free}
-use Rattle.rg_case_folds.proofs.FoldLemmas.{quotient_one}
-use Rattle.rg_case_folds.proofs.Zeros.{some_quotient, passes_over, count_adds_nothing}
+use Rattle.rg_folds.proofs.FoldLemmas.{quotient_one}
+use Rattle.rg_folds.proofs.Zeros.{some_quotient, passes_over, count_adds_nothing}
 
 -- ---- sums within the range
 

@@ -21,8 +21,8 @@ use Rattle.rg_linear.proofs.Columns.{values_of, values_of-column, values_of-poin
 use Rattle.rg_linear.proofs.Unique.{same_relation}
 use Rattle.rg_linear.proofs.Cycles.{cycle_is_exact, same_cycle, no_constant}
 use Rattle.rg_linear.proofs.Firsts.{item_stays, same_kept, kept_count}
-use Rattle.rg_case_folds.specs.Rewriting.{is_in, numbers_where}
-use Rattle.rg_case_folds.proofs.Scaling.{both_sums}
+use Rattle.rg_folds.specs.Substitution.{is_in, numbers_where}
+use Rattle.rg_folds.proofs.Sums.{both_sums}
 use Rattle.rg_cycles.specs.Vectors.{vector_sum, AllSumsAreZero}
 use Rattle.rg_cycles.specs.Basis.{vector_numbers}
 use Rattle.rg_cycles.specs.Solutions.{IsDependent, FollowsFree, RelationsHold, AreReduced}

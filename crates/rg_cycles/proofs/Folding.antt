@@ -8,15 +8,15 @@ use Rattle.std.proofs.Math.Seq.{drop-cons}
 use Rattle.rg_integers.specs.declared.term.Wide.{Wide}
 use Rattle.rg_fraction.specs.declared.fraction.Fraction.{Fraction}
 use Rattle.rg_fraction.specs.Fractions.{numerator_of, denominator_of, IsValue, IsProduct}
-use Rattle.rg_case_folds.specs.Fold.{and_then, each, further, Ratio, whole, ratio_of, shown_result, quotient, add, mul}
-use Rattle.rg_case_folds.specs.Rewriting.{is_in, free_labels, dependent_term, coefficient_fold}
+use Rattle.rg_folds.specs.Fold.{and_then, each, further, Ratio, whole, ratio_of, shown_result, quotient, add, mul}
+use Rattle.rg_folds.specs.Substitution.{is_in, free_labels, dependent_term, coefficient_fold}
 use Rattle.rg_integers.specs.Sum.{number_at}
 use Rattle.rg_linear.specs.Cycle.{CycleBasis}
 use Rattle.rg_cycles.specs.declared.relation.Relation.{Relation}
 use Rattle.rg_cycles.specs.Basis.{ShowsRelation}
 use Rattle.rg_cycles.proofs.Labels.{in_set, not_in_set, where_from}
-use Rattle.rg_case_folds.proofs.FoldLemmas.{new_step, mul_step}
-use Rattle.rg_case_folds.proofs.Folding.{whole_is, further_next, further_unmade, further_unjoined, behind, each_next, each_fails, each_ends}
+use Rattle.rg_folds.proofs.FoldLemmas.{new_step, mul_step}
+use Rattle.rg_folds.proofs.Folding.{whole_is, further_next, further_unmade, further_unjoined, behind, each_next, each_fails, each_ends}
 
 pub term_told : (n d count : ℤ) (share own : Fraction) (r : Result Fraction Wide) → d ≢ pos 0 → IsValue share n d → IsValue own count (pos 1) → IsProduct (numerator_of own) (denominator_of own) (numerator_of share) (denominator_of share) r
     → and_then (quotient n d) (mul (whole count)) (shown_result ratio_of r)

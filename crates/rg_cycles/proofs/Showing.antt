@@ -25,7 +25,7 @@ use Rattle.rg_linear.proofs.Columns.{below_test, past_test}
 use Rattle.rg_linear.proofs.Cycles.{no_constant}
 use Rattle.rg_linear.specs.Table.{number_beside}
 use Rattle.rg_linear.proofs.TableLemmas.{beside_map}
-use Rattle.rg_case_folds.specs.Rewriting.{is_in, free_labels}
+use Rattle.rg_folds.specs.Substitution.{is_in, free_labels}
 use Rattle.rg_cycles.specs.declared.relation.Relation.{Relation}
 use Rattle.rg_cycles.specs.Basis.{vector_numbers, ShowsRelation, IsRelationInRange, number_with, row_number, relation_of, cycle_basis, AreRelations}
 use Rattle.rg_cycles.specs.Reading.{HasNumbers, IsRead, AreRead}

@@ -13,8 +13,8 @@ use Rattle.rg_integers.specs.Divisor.{int_gcd}
 use Rattle.rg_integers.specs.declared.term.Wide.{Wide}
 use Rattle.rg_fraction.specs.Terms.{product_term, product_top, product_bottom, sum_top, sum_bottom}
 use Rattle.rg_fraction.proofs.Ones.{one_is_reduced, first_part, second_part}
-use Rattle.rg_case_folds.specs.Fold.{and_then, each, whole, IsRatio, quotient, add, mul}
-use Rattle.rg_case_folds.specs.Rewriting.{free_labels, dependent_term}
+use Rattle.rg_folds.specs.Fold.{and_then, each, whole, IsRatio, quotient, add, mul}
+use Rattle.rg_folds.specs.Substitution.{free_labels, dependent_term}
 use Rattle.rg_cycles.specs.declared.basis.Basis.{Basis}
 use Rattle.rg_cycles.specs.declared.relation.Relation.{Relation}
 use Rattle.rg_cycles.specs.Basis.{ShowsRelation}

@@ -7,7 +7,7 @@ use Rattle.rg_linear.specs.Dictionary.{Relation as LinearRelation}
 use Rattle.rg_linear.specs.Cycle.{CycleBasis, no_relation}
 use Rattle.rg_linear.specs.Table.{number_beside}
 use Rattle.rg_cycles.specs.declared.relation.Relation.{Relation}
-use Rattle.rg_case_folds.specs.Rewriting.{is_in, free_labels}
+use Rattle.rg_folds.specs.Substitution.{is_in, free_labels}
 
 -- the vectors with a number other than 0 in the relation, in order, each by its index and with that number
 abbrev pub vector_numbers : ℕ → List ℕ → List ℕ → LinearRelation → List (ℕ × ℤ)

@@ -4,7 +4,7 @@ use Rattle.rg_integers.specs.Sum.{sum_over}
 use Rattle.rg_linear.specs.Dictionary.{Relation, IsPrimitive}
 use Rattle.rg_linear.specs.Cycle.{vector_at, CycleBasis}
 use Rattle.rg_cycles.specs.Vectors.{vector_sum}
-use Rattle.rg_case_folds.specs.Rewriting.{free_labels}
+use Rattle.rg_folds.specs.Substitution.{free_labels}
 use Rattle.rg_cycles.specs.Basis.{vector_numbers}
 
 -- label t is not free

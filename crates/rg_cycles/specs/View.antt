@@ -2,7 +2,7 @@
 use Rattle.std.specs.Prelude.{ℕ, not, ◌&&◌, List, ℤ, pos, length}
 use Rattle.std.specs.Ordering.{int_eq}
 use Rattle.rg_linear.specs.Cycle.{CycleBasis}
-use Rattle.rg_case_folds.specs.Rewriting.{is_in, numbers_where}
+use Rattle.rg_folds.specs.Substitution.{is_in, numbers_where}
 use Rattle.rg_cycles.specs.declared.basis.Basis.{Basis}
 use Rattle.rg_cycles.specs.Basis.{cycle_basis}
 

@@ -4,8 +4,8 @@ use Rattle.std.specs.Int.{w64}
 use Rattle.rg_integers.specs.Range.{InRange}
 use Rattle.rg_integers.specs.Sum.{number_at, sum_below}
 use Rattle.rg_linear.specs.Cycle.{CycleBasis}
-use Rattle.rg_case_folds.specs.Fold.{and_then, whole, add}
-use Rattle.rg_case_folds.specs.Rewriting.{free_labels, dependent_term, coefficient_fold}
+use Rattle.rg_folds.specs.Fold.{and_then, whole, add}
+use Rattle.rg_folds.specs.Substitution.{free_labels, dependent_term, coefficient_fold}
 use Rattle.rg_cycles.specs.declared.basis.Basis.{Basis}
 use Rattle.rg_cycles.specs.View.{labels_of, cycle_of, counted_labels}
 

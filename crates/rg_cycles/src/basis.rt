@@ -1,7 +1,7 @@
 //! The free labels, and the relations of the others.
 ghost use Rattle.std.specs.Prelude.{◌≡◌, ◌<◌, ◌^◌, nat_lt, filter, List, ℤ, length, Contains, MatchOption, IfSome, IfOk};
 ghost use Rattle.rg_linear.specs.Cycle.{IsCycleBasis};
-ghost use Rattle.rg_case_folds.specs.Rewriting.{free_labels};
+ghost use Rattle.rg_folds.specs.Substitution.{free_labels};
 ghost use Rattle.rg_cycles.specs.Relating.{IsSolved, columns_of};
 ghost use Rattle.rg_cycles.specs.Basis.{ShowsRelation, IsRelationInRange, cycle_basis, AreRelations};
 

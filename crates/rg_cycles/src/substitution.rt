@@ -2,8 +2,8 @@
 ghost use Rattle.std.specs.Prelude.{◌≡◌, ℕ, ◌<◌, map, length, slice_index, IfOk};
 ghost use Rattle.rg_integers.specs.Range.{InRange};
 ghost use Rattle.rg_integers.specs.Sum.{number_at};
-ghost use Rattle.rg_case_folds.specs.Fold.{Comes, whole, ratio_of, shown_result, quotient, add, mul, and_then};
-ghost use Rattle.rg_case_folds.specs.Rewriting.{is_in, free_labels, dependent_labels, coefficient_fold, substitute_fold};
+ghost use Rattle.rg_folds.specs.Fold.{Comes, whole, ratio_of, shown_result, quotient, add, mul, and_then};
+ghost use Rattle.rg_folds.specs.Substitution.{is_in, free_labels, dependent_labels, coefficient_fold, substitute_fold};
 ghost use Rattle.rg_cycles.specs.Basis.{IsRelationInRange};
 ghost use Rattle.rg_cycles.specs.View.{labels_of, cycle_of, counted_labels};
 

@@ -3,8 +3,8 @@ ghost use Rattle.std.specs.Prelude.{◌≡◌, ℕ, ◌<◌, ◌+ℤ◌, ◌*ℤ
 ghost use Rattle.std.specs.Int.{w64};
 ghost use Rattle.rg_integers.specs.Range.{InRange};
 ghost use Rattle.rg_integers.specs.Sum.{number_at};
-ghost use Rattle.rg_case_folds.specs.Fold.{whole};
-ghost use Rattle.rg_case_folds.specs.Rewriting.{free_labels, substitute_fold};
+ghost use Rattle.rg_folds.specs.Fold.{whole};
+ghost use Rattle.rg_folds.specs.Substitution.{free_labels, substitute_fold};
 ghost use Rattle.rg_cycles.specs.View.{labels_of, cycle_of, counted_labels};
 ghost use Rattle.rg_cycles.specs.WholeSums.{IsWholeStep, AddsTimes, AddsLabel, AreCoefficients};
 ghost use Rattle.rg_cycles.specs.WholeSums.{StaysShort, StayShort, LabelIsShort, AreShort, numbers_of_label, sum_after};

@@ -12,7 +12,7 @@ use Rattle.std.proofs.lemmas.Option.{none-some}
 use Rattle.rg_integers.proofs.Ring.{ring}
 use Rattle.rg_integers.specs.Range.{InRange}
 use Rattle.rg_integers.proofs.Ranges.{in_range-neg}
-use Rattle.rg_case_folds.specs.Fold.{further, whole_sum, whole_product}
+use Rattle.rg_folds.specs.Fold.{further, whole_sum, whole_product}
 use Rattle.rg_case_folds.specs.Spreading.{ArcTimes, Addend, Addend.number, Addend.product, addend_fold, leaving}
 use Rattle.rg_cert_meaning.specs.declared.Variable.TheVariants.{Tokens}
 use Rattle.rg_farkas.specs.declared.multiplied.Row.{Row}

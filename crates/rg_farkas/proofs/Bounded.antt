@@ -13,7 +13,7 @@ use Rattle.rg_cert_meaning.specs.declared.Variable.{Variable}
 use Rattle.rg_cert_data.specs.declared.term.Term.{Term}
 use Rattle.rg_cert_data.specs.declared.term.Term.TheVariants.{Plus, Minus}
 use Rattle.rg_cert_data.specs.Sums.{term_of, terms_in}
-use Rattle.rg_case_folds.specs.Fold.{each, further, whole_sum, whole_product}
+use Rattle.rg_folds.specs.Fold.{each, further, whole_sum, whole_product}
 use Rattle.rg_farkas.specs.declared.multiplied.Row.{Row}
 use Rattle.rg_farkas.specs.View.{size_fold, coefficient_at}
 

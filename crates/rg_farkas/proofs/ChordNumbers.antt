@@ -14,24 +14,24 @@ use Rattle.rg_integers.proofs.Divisors.{IsGcd-neg_first}
 use Rattle.rg_integers.specs.declared.term.Wide.{Wide}
 use Rattle.rg_fraction.specs.declared.fraction.Fraction.{Fraction}
 use Rattle.rg_fraction.specs.Fractions.{numerator_of, denominator_of, IsValue, IsProduct}
-use Rattle.rg_case_folds.specs.Fold.{and_then, further, joined, Ratio, whole, ratio_of, shown_result, quotient, add, mul}
+use Rattle.rg_folds.specs.Fold.{and_then, further, joined, Ratio, whole, ratio_of, shown_result, quotient, add, mul}
 use Rattle.rg_case_folds.specs.Placing.{negated}
-use Rattle.rg_case_folds.proofs.FoldLemmas.{ratio_one, new_step, mul_step}
+use Rattle.rg_folds.proofs.FoldLemmas.{ratio_one, new_step, mul_step}
 use Rattle.rg_cycles.specs.declared.relation.Relation.{Relation}
 use Rattle.rg_cycles.specs.Basis.{ShowsRelation, number_with}
 use Rattle.rg_cycles.proofs.Labels.{filter_has, filter_from}
 use Rattle.rg_farkas.specs.View.{LabelCount, counted_of, count_fold, counts_fold}
 use Rattle.rg_farkas.specs.declared.multiplied.Counted.{Counted}
 use Rattle.rg_farkas.proofs.Steps.{sum_next, sum_unmade, sum_unjoined, sum_ends}
-use Rattle.rg_case_folds.proofs.Folding.{whole_is}
+use Rattle.rg_folds.proofs.Folding.{whole_is}
 use Rattle.rg_cycles.proofs.AddsNothing.{times_none, number_adds_nothing}
-use Rattle.rg_case_folds.proofs.Zeros.{count_adds_nothing}
+use Rattle.rg_folds.proofs.Zeros.{count_adds_nothing}
 use Rattle.rg_integers.specs.Range.{InRange}
 use Rattle.std.proofs.lemmas.List.{length-map, get_or-map}
 use Rattle.rg_theory.proofs.Lists.{Contains-cons_cases}
 use Rattle.std.proofs.lemmas.List.Elements.{Contains-get_or, All-from_get_or, All-head, All-tail}
 use Rattle.rg_theory.specs.System.{System, labels}
-use Rattle.rg_case_folds.specs.Rewriting.{is_in}
+use Rattle.rg_folds.specs.Substitution.{is_in}
 use Rattle.rg_case_folds.specs.Spreading.{used_chords}
 use Rattle.rg_case_folds.proofs.Lists.{where_is}
 use Rattle.rg_case_folds.proofs.PointEffects.{in_has}

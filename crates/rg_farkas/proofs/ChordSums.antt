@@ -18,10 +18,11 @@ use Rattle.rg_cert_meaning.specs.declared.Variable.{Variable}
 use Rattle.rg_cert_meaning.specs.declared.RowName.{RowName}
 use Rattle.rg_cert_meaning.specs.Refutes.{NamedRow}
 use Rattle.rg_linear.specs.Cycle.{CycleBasis}
-use Rattle.rg_case_folds.specs.Fold.{each, further, joined, Ratio, whole, add}
+use Rattle.rg_folds.specs.Fold.{each, further, joined, Ratio, whole, add}
 use Rattle.rg_case_folds.specs.Potentials.{chord_sum}
 use Rattle.rg_case_folds.specs.Chords.{IsBasis}
-use Rattle.rg_case_folds.specs.Rewriting.{start_of, count_of, dependent_labels}
+use Rattle.rg_folds.specs.Substitution.{dependent_labels}
+use Rattle.rg_case_folds.specs.Rewriting.{start_of, count_of}
 use Rattle.rg_case_folds.specs.Values.{NamesLabels, numbers_along}
 use Rattle.rg_case_folds.specs.Spreading.{Share, Pair, pairs_of, pair_fold, used_chords, chord_fold}
 use Rattle.rg_case_folds.proofs.RowValues.{IsOver, rewritten, quotient_over}

@@ -13,7 +13,7 @@ use Rattle.rg_linear.specs.Cycle.{vector_at, IsZeroVector, CycleBasis}
 use Rattle.rg_linear.proofs.Firsts.{kept_is}
 use Rattle.rg_linear.proofs.Members.{numbers_from-Contains}
 use Rattle.rg_case_folds.specs.Chords.{chord_vectors, IsBasis}
-use Rattle.rg_case_folds.specs.Rewriting.{is_in, numbers_where}
+use Rattle.rg_folds.specs.Substitution.{is_in, numbers_where}
 use Rattle.rg_case_folds.specs.Spreading.{used_chords, chord_arcs}
 use Rattle.rg_case_folds.proofs.Potentials.{chord_is_arc}
 use Rattle.rg_spanning.proofs.TreeTables.{among}

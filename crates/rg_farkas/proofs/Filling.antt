@@ -11,7 +11,7 @@ use Rattle.rg_integers.specs.Sign.{size}
 use Rattle.rg_integers.specs.declared.term.Wide.{Wide}
 use Rattle.rg_cert_meaning.specs.Expression.{Expression}
 use Rattle.rg_cert_meaning.specs.declared.RowName.{RowName}
-use Rattle.rg_case_folds.specs.Fold.{further, whole_sum}
+use Rattle.rg_folds.specs.Fold.{further, whole_sum}
 use Rattle.rg_case_folds.specs.Spreading.{ArcTimes, addend_fold, leaving, tree_fold}
 use Rattle.rg_case_folds.proofs.Items.{from_index}
 use Rattle.rg_farkas.specs.declared.multiplied.Row.{Row}

@@ -10,7 +10,7 @@ use Rattle.rg_integers.proofs.Ring.{ring}
 use Rattle.rg_integers.proofs.Order.{mul-cancel}
 use Rattle.rg_integers.proofs.Divisors.{exact}
 use Rattle.rg_integers.specs.declared.term.Wide.{Wide}
-use Rattle.rg_case_folds.specs.Fold.{each, further, joined, Ratio, whole, add, mul}
+use Rattle.rg_folds.specs.Fold.{each, further, joined, Ratio, whole, add, mul}
 use Rattle.rg_case_folds.specs.Placing.{negated}
 use Rattle.rg_case_folds.specs.Rewriting.{Scaled, scaled_fold}
 use Rattle.rg_case_folds.proofs.RowValues.{IsOver, add_over}

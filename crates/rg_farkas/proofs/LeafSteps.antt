@@ -17,9 +17,10 @@ use Rattle.rg_cert_meaning.specs.Expression.{Expression}
 use Rattle.rg_cert_meaning.specs.declared.RowName.{RowName}
 use Rattle.rg_cert_meaning.specs.Refutes.{NamedRow}
 use Rattle.rg_cert_data.specs.Trees.{named_row}
-use Rattle.rg_case_folds.specs.Fold.{each, joined, add, whole, Ratio, ratio_of}
+use Rattle.rg_folds.specs.Fold.{each, joined, add, whole, Ratio, ratio_of}
 use Rattle.rg_case_folds.specs.Chords.{IsBasis, chord_vectors, chord_at}
-use Rattle.rg_case_folds.specs.Rewriting.{is_in, dependent_labels, scaled_fold, Scaled as ScaledNumbers}
+use Rattle.rg_folds.specs.Substitution.{is_in, dependent_labels}
+use Rattle.rg_case_folds.specs.Rewriting.{scaled_fold, Scaled as ScaledNumbers}
 use Rattle.rg_case_folds.specs.Spreading.{Share, Pair, pairs_of, used_chords, chord_fold, chord_arcs, named_from, arc_name, ArcTimes, tree_fold, IsParts, multiplier_among, not_zero, checked_leaf, leaf_fold}
 use Rattle.rg_cycles.proofs.Equations.{kept_few}
 use Rattle.rg_cycles.proofs.Labels.{in_set}

@@ -21,7 +21,7 @@ use Rattle.rg_cert_meaning.specs.declared.Form.{Form as SplitForm}
 use Rattle.rg_cert_meaning.specs.declared.RowName.{RowName}
 use Rattle.rg_cert_meaning.specs.Refutes.{NamedRow, constant_sum}
 use Rattle.rg_case_folds.specs.Setting.{CaseSetting}
-use Rattle.rg_case_folds.specs.Fold.{each, whole, Ratio}
+use Rattle.rg_folds.specs.Fold.{each, whole, Ratio}
 use Rattle.rg_case_folds.specs.Rewriting.{has_start, split_forms, form_fold, KeptRow, CaseSystem, rows_of}
 use Rattle.rg_case_folds.specs.Values.{numbers_along, column_values}
 use Rattle.rg_case_folds.specs.Shown.{IsLive, named_side, named_sides}

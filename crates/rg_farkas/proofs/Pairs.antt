@@ -10,8 +10,8 @@ use Rattle.rg_case_folds.proofs.Lists.{where_is}
 use Rattle.rg_fraction.specs.declared.fraction.Fraction.{Fraction}
 use Rattle.rg_cert_meaning.specs.Expression.{Expression}
 use Rattle.rg_cert_meaning.specs.declared.RowName.{RowName}
-use Rattle.rg_case_folds.specs.Fold.{ratio_of}
-use Rattle.rg_case_folds.specs.Rewriting.{is_in, dependent_labels}
+use Rattle.rg_folds.specs.Fold.{ratio_of}
+use Rattle.rg_folds.specs.Substitution.{is_in, dependent_labels}
 use Rattle.rg_case_folds.specs.Spreading.{pairs_of}
 use Rattle.rg_farkas.specs.Leaves.{share_of}
 use Rattle.rg_cert_data.specs.declared.sum.Expression.{Expression as CodeExpression}

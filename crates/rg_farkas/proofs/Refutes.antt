@@ -26,10 +26,10 @@ use Rattle.rg_cert_meaning.specs.Expression.{Expression, plus, minus, coefficien
 use Rattle.rg_cert_meaning.specs.declared.Variable.{Variable}
 use Rattle.rg_cert_meaning.specs.declared.RowName.{RowName}
 use Rattle.rg_cert_meaning.specs.Refutes.{NamedRow, IsMultiplier, LeafRefutes, coefficient_sum, constant_sum}
-use Rattle.rg_case_folds.specs.Fold.{each, Ratio}
+use Rattle.rg_folds.specs.Fold.{each, Ratio}
 use Rattle.rg_case_folds.specs.Potentials.{chord_sum, potential}
 use Rattle.rg_case_folds.specs.Chords.{IsBasis}
-use Rattle.rg_case_folds.specs.Rewriting.{dependent_labels}
+use Rattle.rg_folds.specs.Substitution.{dependent_labels}
 use Rattle.rg_case_folds.specs.Values.{numbers_along}
 use Rattle.rg_case_folds.specs.Spreading.{tree_fold, checked_leaf, Share, ArcTimes, arc_name, named_from, not_zero, multiplier_among, chord_fold, chord_arcs, used_chords, leaf_fold}
 use Rattle.rg_case_folds.proofs.Potentials.{arc_sum, tree_sum, arc_label}

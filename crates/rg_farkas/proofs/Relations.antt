@@ -21,11 +21,11 @@ use Rattle.rg_linear.proofs.Cycles.{no_constant, cycle_set_knows}
 use Rattle.rg_linear.proofs.Firsts.{kept_is}
 use Rattle.rg_case_folds.specs.Potentials.{chord_sum}
 use Rattle.rg_case_folds.specs.Chords.{chord_vector, chord_vectors, chord_at, KeepsChords, chord_system, IsBasis}
-use Rattle.rg_case_folds.specs.Rewriting.{is_in, numbers_where, free_labels, dependent_labels}
+use Rattle.rg_folds.specs.Substitution.{is_in, numbers_where, free_labels, dependent_labels}
 use Rattle.rg_case_folds.specs.Spreading.{used_chords}
 use Rattle.rg_case_folds.proofs.ExactRows.{not_in, where_contains}
 use Rattle.rg_case_folds.proofs.PointEffects.{in_has}
-use Rattle.rg_case_folds.proofs.Scaling.{both_sums}
+use Rattle.rg_folds.proofs.Sums.{both_sums}
 
 none_plus : (i : ℕ) → 0 + i ≡ i
 none_plus i = omega arith

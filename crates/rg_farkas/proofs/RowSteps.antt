@@ -4,7 +4,7 @@ use Rattle.std.specs.Prelude.{ℤ, pos, slice_index_or}
 use Rattle.std.proofs.lemmas.List.{length-map, get_or-map, drop_all}
 use Rattle.rg_theory.specs.declared.Arc.{Arc}
 use Rattle.rg_integers.specs.declared.term.Wide.{Wide}
-use Rattle.rg_case_folds.specs.Fold.{further, whole_sum, whole_product}
+use Rattle.rg_folds.specs.Fold.{further, whole_sum, whole_product}
 use Rattle.rg_case_folds.specs.Spreading.{Addend.number, addend_fold, leaving}
 use Rattle.rg_farkas.specs.declared.multiplied.Row.{Row}
 use Rattle.rg_farkas.specs.View.{row_addend, size_fold, coefficient_at, arc_times}

@@ -13,7 +13,7 @@ use Rattle.rg_linear.specs.Branching.{weights_from, SplitSide}
 use Rattle.rg_cert_meaning.specs.declared.RowName.{RowName}
 use Rattle.rg_cert_meaning.specs.Row.{Side}
 use Rattle.rg_cert_meaning.specs.Refutes.{NamedRow}
-use Rattle.rg_case_folds.specs.Fold.{each}
+use Rattle.rg_folds.specs.Fold.{each}
 use Rattle.rg_case_folds.specs.Rewriting.{CaseSystem}
 use Rattle.rg_case_folds.specs.Spreading.{Share, name_of, factor_of, share_fold}
 use Rattle.rg_farkas.specs.Refuting.{AreShares}

@@ -15,7 +15,7 @@ use Rattle.rg_cert_meaning.specs.Expression.{Expression, coefficient_in}
 use Rattle.rg_cert_meaning.specs.declared.Variable.{Variable}
 use Rattle.rg_cert_meaning.specs.declared.RowName.{RowName}
 use Rattle.rg_cert_meaning.specs.Refutes.{NamedRow, IsSmall}
-use Rattle.rg_case_folds.specs.Fold.{and_then, gives, each, further, whole_sum, whole_product}
+use Rattle.rg_folds.specs.Fold.{and_then, gives, each, further, whole_sum, whole_product}
 use Rattle.rg_case_folds.specs.Rewriting.{all_numbers}
 use Rattle.rg_case_folds.specs.Spreading.{sizes_fold, variables_of, checked_leaf}
 use Rattle.rg_case_folds.proofs.Lists.{Contains-map, where_has}

@@ -3,9 +3,9 @@ use Rattle.std.proofs.Common.{◌≡◌, ℕ, suc, ◌+◌, ◌-◌, ◌<◌, �
 use Rattle.std.specs.Prelude.{slice_index_or}
 use Rattle.std.proofs.lemmas.List.{drop_all, append-nil}
 use Rattle.rg_integers.specs.declared.term.Wide.{Wide}
-use Rattle.rg_case_folds.specs.Fold.{further, joined}
-use Rattle.rg_case_folds.specs.Rewriting.{numbers_where}
-use Rattle.rg_case_folds.proofs.Folding.{further_next, further_unmade, further_unjoined}
+use Rattle.rg_folds.specs.Fold.{further, joined}
+use Rattle.rg_folds.specs.Substitution.{numbers_where}
+use Rattle.rg_folds.proofs.Folding.{further_next, further_unmade, further_unjoined}
 use Rattle.rg_case_folds.proofs.Items.{from_index}
 
 -- ---- a sum, item by item

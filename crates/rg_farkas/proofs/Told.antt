@@ -16,14 +16,14 @@ use Rattle.rg_cert_meaning.specs.Expression.{Expression, coefficient_in}
 use Rattle.rg_cert_meaning.specs.declared.Variable.{Variable}
 use Rattle.rg_cert_meaning.specs.declared.RowName.{RowName}
 use Rattle.rg_cert_meaning.specs.Refutes.{NamedRow}
-use Rattle.rg_case_folds.specs.Fold.{gives, and_then, each, further, joined, whole_sum, whole_product}
+use Rattle.rg_folds.specs.Fold.{gives, and_then, each, further, joined, whole_sum, whole_product}
 use Rattle.rg_case_folds.specs.Spreading.{ArcTimes, Addend, Addend.number, Addend.product, addend_fold, leaving, addends_at, tree_fold, sizes_fold, variables_of, checked_leaf}
 use Rattle.rg_farkas.specs.declared.multiplied.Row.{Row}
 use Rattle.rg_cert_data.specs.Sums.{expression_of}
 use Rattle.rg_farkas.specs.View.{named_of, Tells, row_addend, size_fold, coefficient_at, arc_times}
 use Rattle.rg_case_folds.proofs.Items.{from_index, item_next, item_fails, items_end}
 use Rattle.rg_farkas.proofs.Steps.{from_neutral}
-use Rattle.rg_case_folds.proofs.Folding.{behind}
+use Rattle.rg_folds.proofs.Folding.{behind}
 use Rattle.rg_cert_meaning.specs.declared.Variable.TheVariants.{Tokens}
 
 -- ---- sums over other items

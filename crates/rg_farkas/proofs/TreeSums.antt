@@ -16,7 +16,7 @@ use Rattle.rg_integers.specs.declared.term.Wide.{Wide}
 use Rattle.rg_cert_meaning.specs.Expression.{Expression, plus, minus, sum_of, coefficient_in}
 use Rattle.rg_cert_meaning.specs.declared.RowName.{RowName}
 use Rattle.rg_cert_meaning.specs.Refutes.{NamedRow}
-use Rattle.rg_case_folds.specs.Fold.{further, joined, whole_sum, whole_product}
+use Rattle.rg_folds.specs.Fold.{further, joined, whole_sum, whole_product}
 use Rattle.rg_case_folds.specs.Spreading.{ArcTimes, arc_name, Addend, Addend.number, Addend.product, addend_fold, leaving, addends_at, tree_fold}
 use Rattle.rg_cert_meaning.specs.declared.Variable.TheVariants.{Tokens, Effect}
 

@@ -14,7 +14,7 @@ use Rattle.rg_case_parts.specs.declared.setting.CaseSetting.{CaseSetting as Held
 use Rattle.rg_case_parts.specs.SettingViews.{shown_case}
 use Rattle.rg_case_folds.specs.Setting.{CaseSetting}
 use Rattle.rg_case_folds.specs.Chords.{IsBasis}
-use Rattle.rg_case_folds.specs.Fold.{ratio_of}
+use Rattle.rg_folds.specs.Fold.{ratio_of}
 use Rattle.rg_case_folds.specs.Spreading.{Share}
 use Rattle.rg_farkas.specs.Refuting.{SharesRefute}
 use Rattle.rg_cert_meaning.specs.declared.RowName.{RowName}

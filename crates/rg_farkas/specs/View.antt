@@ -10,7 +10,7 @@ use Rattle.rg_cert_meaning.specs.declared.RowName.{RowName}
 use Rattle.rg_cert_meaning.specs.Refutes.{NamedRow}
 use Rattle.rg_integers.specs.Sign.{size}
 use Rattle.rg_cert_data.specs.Certificates.{IsTermWithin}
-use Rattle.rg_case_folds.specs.Fold.{gives, and_then, joined, Ratio, whole, ratio_of, quotient, add, mul, whole_product}
+use Rattle.rg_folds.specs.Fold.{gives, and_then, joined, Ratio, whole, ratio_of, quotient, add, mul, whole_product}
 use Rattle.rg_case_folds.specs.Rewriting.{count_of}
 use Rattle.rg_case_folds.specs.Placing.{negated}
 use Rattle.rg_case_folds.specs.Spreading.{Share, Pair, ArcTimes, Addend, Addend.product}

@@ -10,9 +10,9 @@ ghost use Rattle.rg_cycles.specs.Basis.{number_with, IsRelationInRange};
 ghost use Rattle.rg_cycles.specs.View.{labels_of};
 ghost use Rattle.rg_case_parts.specs.SettingViews.{shown_setting};
 ghost use Rattle.rg_case_folds.specs.Chords.{IsBasis};
-ghost use Rattle.rg_case_folds.specs.Fold.{Comes, each, joined, add, whole, ratio_of, shown_result};
+ghost use Rattle.rg_folds.specs.Fold.{Comes, each, joined, add, whole, ratio_of, shown_result};
 ghost use Rattle.rg_case_folds.specs.Placing.{negated};
-ghost use Rattle.rg_case_folds.specs.Rewriting.{is_in, dependent_labels};
+ghost use Rattle.rg_folds.specs.Substitution.{is_in, dependent_labels};
 ghost use Rattle.rg_case_folds.specs.Spreading.{used_chords, chord_arcs};
 ghost use Rattle.rg_farkas.specs.View.{counted_of, counts_fold, count_fold};
 

@@ -3,8 +3,8 @@ ghost use Rattle.std.specs.Prelude.{◌≡◌, ◌<◌, ◌≤◌, ◌++◌, len
 ghost use Rattle.rg_theory.specs.System.{labels};
 ghost use Rattle.rg_spanning.specs.Spanning.{IsTreeOf};
 ghost use Rattle.rg_cycles.specs.View.{labels_of};
-ghost use Rattle.rg_case_folds.specs.Fold.{ratio_of};
-ghost use Rattle.rg_case_folds.specs.Rewriting.{dependent_labels};
+ghost use Rattle.rg_folds.specs.Fold.{ratio_of};
+ghost use Rattle.rg_folds.specs.Substitution.{dependent_labels};
 ghost use Rattle.rg_case_folds.specs.Spreading.{pairs_of};
 ghost use Rattle.rg_cert_data.specs.Sums.{expression_of};
 ghost use Rattle.rg_case_parts.specs.SettingViews.{shown_case};

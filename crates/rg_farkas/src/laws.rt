@@ -4,7 +4,7 @@ ghost use Rattle.rg_cert_meaning.specs.Row.{RowStands, row_expression};
 ghost use Rattle.rg_linear.specs.System.{AreFarkasMultipliers};
 ghost use Rattle.rg_linear.specs.Branching.{weights_from, SplitSide, node_system};
 ghost use Rattle.rg_case_folds.specs.Setting.{CaseSetting};
-ghost use Rattle.rg_case_folds.specs.Fold.{each};
+ghost use Rattle.rg_folds.specs.Fold.{each};
 ghost use Rattle.rg_case_folds.specs.Rewriting.{CaseSystem, rows_of};
 ghost use Rattle.rg_case_folds.specs.Shown.{IsLive, named_sides};
 ghost use Rattle.rg_case_folds.specs.Spreading.{Share, share_fold};

@@ -16,7 +16,7 @@ ghost use Rattle.rg_farkas.specs.Leaves.{share_of, said_in, IsLeafWith, RefutesC
 ghost use Rattle.rg_integers.specs.Range.{InRange};
 ghost use Rattle.rg_farkas.specs.Refuting.{SharesRefute};
 ghost use Rattle.rg_farkas.specs.View.{AreRowsWithin};
-ghost use Rattle.rg_case_folds.specs.Fold.{Comes};
+ghost use Rattle.rg_folds.specs.Fold.{Comes};
 
 use crate::chords::{chord_arcs, chord_shares, used_chords};
 use crate::counts::row_counts;

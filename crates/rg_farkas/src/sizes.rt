@@ -4,7 +4,7 @@ ghost use Rattle.rg_cert_meaning.specs.Expression.{Expression};
 ghost use Rattle.rg_cert_meaning.specs.declared.RowName.{RowName};
 ghost use Rattle.rg_integers.specs.declared.term.Wide.{Wide};
 ghost use Rattle.rg_fraction.specs.declared.fold_stop.FoldStop.TheVariants as stop;
-ghost use Rattle.rg_case_folds.specs.Fold.{Comes, each, further, whole_sum};
+ghost use Rattle.rg_folds.specs.Fold.{Comes, each, further, whole_sum};
 ghost use Rattle.rg_case_folds.specs.Spreading.{variables_of, checked_leaf};
 ghost use Rattle.rg_farkas.specs.View.{named_of, Tells, size_fold, coefficient_at};
 

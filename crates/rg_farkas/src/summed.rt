@@ -5,7 +5,7 @@ ghost use Rattle.rg_integers.specs.Sign.{size};
 ghost use Rattle.rg_cert_meaning.specs.Expression.{Expression as Sum, same_variable, coefficient_in};
 ghost use Rattle.rg_cert_meaning.specs.declared.RowName.{RowName};
 ghost use Rattle.rg_cert_meaning.specs.declared.Variable.TheVariants.{Tokens as tokens};
-ghost use Rattle.rg_case_folds.specs.Fold.{further, whole_sum};
+ghost use Rattle.rg_folds.specs.Fold.{further, whole_sum};
 ghost use Rattle.rg_case_folds.specs.Spreading.{tree_fold};
 ghost use Rattle.rg_cert_data.specs.Sums.{term_of};
 ghost use Rattle.rg_farkas.specs.View.{named_of, Tells, arc_times, coefficient_at, row_addend};

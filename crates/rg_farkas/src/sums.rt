@@ -4,7 +4,7 @@ ghost use Rattle.rg_integers.specs.Range.{InRange};
 ghost use Rattle.rg_integers.specs.Sign.{size};
 ghost use Rattle.rg_cert_meaning.specs.Expression.{Expression as Sum, same_variable, coefficient_in};
 ghost use Rattle.rg_cert_meaning.specs.declared.RowName.{RowName};
-ghost use Rattle.rg_case_folds.specs.Fold.{Comes, gives, and_then, further, whole_sum, whole_product};
+ghost use Rattle.rg_folds.specs.Fold.{Comes, gives, and_then, further, whole_sum, whole_product};
 ghost use Rattle.rg_case_folds.specs.Spreading.{tree_fold, addend_fold, leaving};
 ghost use Rattle.rg_cert_data.specs.Sums.{term_of, expression_of};
 ghost use Rattle.rg_farkas.specs.View.{named_of, Tells, arc_times, row_addend};

@@ -7,11 +7,11 @@ use Rattle.rg_linear.specs.Branching.{SplitTree, SplitSide, node_system, Branchi
 use Rattle.rg_branch_trees.specs.Trees.{Tree.leaf, Tree.split, low_side, high_side}
 use Rattle.rg_linear.proofs.Branches.{same_branch}
 use Rattle.rg_case_folds.specs.Setting.{CaseSetting}
-use Rattle.rg_case_folds.specs.Fold.{Ratio}
+use Rattle.rg_folds.specs.Fold.{Ratio}
 use Rattle.rg_case_folds.specs.Rewriting.{CaseSystem, rows_of, system_fold}
 use Rattle.rg_case_folds.specs.Placing.{place_fold}
 use Rattle.rg_case_folds.specs.Shown.{Stage, PointOf, named_side, named_sides}
-use Rattle.rg_case_folds.proofs.FoldLemmas.{ok_is, err_is, ok_not_err}
+use Rattle.rg_folds.proofs.FoldLemmas.{ok_is, err_is, ok_not_err}
 use Rattle.rg_case_folds.proofs.OneResult.{system_one, place_one, spread_one}
 use Rattle.rg_outcome.proofs.PointLemmas.{one_start, one_value, one_place}
 use Rattle.rg_outcome.specs.Casing.{CaseResult, CaseResult.makes, CaseResult.refutes, CaseResult.passes, LeafWide, spread_tree, step_at, term_at, CaseComes, CaseComes.row_passes, CaseComes.pivot_passes, CaseComes.place_passes, CaseComes.place_is_made, CaseComes.leaf_passes, CaseComes.is_refuted}

@@ -17,8 +17,9 @@ use Rattle.rg_linear.specs.Branching.{Form, Weight, form_at, SplitSide, SplitTre
 use Rattle.rg_linear.specs.Cycle.{CycleBasis}
 use Rattle.rg_linear.proofs.Firsts.{kept_is}
 use Rattle.rg_case_folds.specs.Setting.{CaseSetting}
-use Rattle.rg_case_folds.specs.Fold.{gives, and_then, each, joined, whole, quotient, add, mul, whole_sum, whole_product}
-use Rattle.rg_case_folds.specs.Rewriting.{dependent_labels, count_of, scaled_fold, Scaled, KeptRow, IsIdle, row_fold, names_of, CaseSystem, system_fold}
+use Rattle.rg_folds.specs.Fold.{gives, and_then, each, joined, whole, quotient, add, mul, whole_sum, whole_product}
+use Rattle.rg_folds.specs.Substitution.{dependent_labels}
+use Rattle.rg_case_folds.specs.Rewriting.{count_of, scaled_fold, Scaled, KeptRow, IsIdle, row_fold, names_of, CaseSystem, system_fold}
 use Rattle.rg_case_folds.specs.Placing.{negated}
 use Rattle.rg_case_folds.specs.Spreading.{Share, name_of, named_at, side_at, split_factor, factor_of, share_fold, Pair, pairs_of, pair_fold, used_chords, chord_fold}
 use Rattle.rg_case_folds.specs.Spreading.{ArcTimes, arc_name, Addend, Addend.number, Addend.product, addend_fold, addends_at, tree_fold, named_from, parts_of}

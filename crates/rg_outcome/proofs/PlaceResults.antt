@@ -9,8 +9,9 @@ use Rattle.rg_theory.specs.declared.Problem.{Problem}
 use Rattle.rg_integers.specs.declared.term.Wide.{Wide}
 use Rattle.rg_linear.specs.Cycle.{CycleBasis}
 use Rattle.rg_case_folds.specs.Setting.{Setting}
-use Rattle.rg_case_folds.specs.Fold.{gives, and_then, either, each, joined, Ratio, whole, quotient, add, mul, whole_sum, multiple_of_all}
-use Rattle.rg_case_folds.specs.Rewriting.{is_in, has_label, free_columns, all_numbers}
+use Rattle.rg_folds.specs.Fold.{gives, and_then, either, each, joined, Ratio, whole, quotient, add, mul, whole_sum, multiple_of_all}
+use Rattle.rg_folds.specs.Substitution.{is_in}
+use Rattle.rg_case_folds.specs.Rewriting.{has_label, free_columns, all_numbers}
 use Rattle.rg_case_folds.specs.Placing.{effect_fold, negated, made_whole, ratio_at, along_tree, lesser, least_from, least_of, is_shifted, is_lifted, missing, shift_fold, top_at, taken, place_of, place_fold}
 use Rattle.rg_case_folds.proofs.Lists.{first, behind, where_is, where_has, Contains-of_map}
 use Rattle.rg_outcome.proofs.Steps.{HasSome, Makes, Each, each_none, each_cons, some_given, some_then, makes_then, some_each, makes_each, some_joined, makes_joined, IsOver, whole_over, some_quotient, some_sum, some_product, some_term, sums_join, product_over, some_multiple}

@@ -13,7 +13,7 @@ use Rattle.rg_cert_meaning.specs.Row.{cases_of}
 use Rattle.rg_cert_meaning.specs.Refutes.{Tree}
 use Rattle.rg_linear.specs.Branching.{SplitSide, node_system, Branching, BranchOutcome.found}
 use Rattle.rg_case_folds.specs.Setting.{Setting, CaseSetting, case_at}
-use Rattle.rg_case_folds.specs.Fold.{Ratio}
+use Rattle.rg_folds.specs.Fold.{Ratio}
 use Rattle.rg_case_folds.specs.Chords.{IsBasis}
 use Rattle.rg_case_folds.specs.Shown.{Shown, PointOf, IsLive}
 use Rattle.rg_case_folds.specs.Rewriting.{CaseSystem, rows_of, system_fold}

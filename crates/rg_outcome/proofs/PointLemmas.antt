@@ -12,11 +12,12 @@ use Rattle.rg_linear.specs.Dictionary.{Relation}
 use Rattle.rg_linear.specs.Cycle.{CycleBasis}
 use Rattle.rg_linear.proofs.Unique.{same_relation}
 use Rattle.rg_case_folds.specs.Setting.{Setting}
-use Rattle.rg_case_folds.specs.Fold.{gives, and_then, either, each, further, joined, Ratio, whole, IsRatio, quotient, add, mul}
-use Rattle.rg_case_folds.specs.Rewriting.{is_in, has_label, free_columns, all_numbers, has_start}
+use Rattle.rg_folds.specs.Fold.{gives, and_then, either, each, further, joined, Ratio, whole, IsRatio, quotient, add, mul}
+use Rattle.rg_folds.specs.Substitution.{is_in}
+use Rattle.rg_case_folds.specs.Rewriting.{has_label, free_columns, all_numbers, has_start}
 use Rattle.rg_case_folds.specs.Placing.{effect_fold, place_fold}
 use Rattle.rg_case_folds.specs.Shown.{IsValueAt, PointOf}
-use Rattle.rg_case_folds.proofs.FoldLemmas.{ratio_one}
+use Rattle.rg_folds.proofs.FoldLemmas.{ratio_one}
 use Rattle.rg_case_folds.proofs.Lists.{first, behind, where_is, where_has}
 
 -- ---- one value each

@@ -29,8 +29,9 @@ use Rattle.rg_linear.proofs.Splits.{found_well}
 use Rattle.rg_linear.proofs.Endings.{branching_ends}
 use Rattle.rg_case_folds.specs.Setting.{Setting, case_at}
 use Rattle.rg_case_folds.specs.Chords.{IsBasis}
-use Rattle.rg_case_folds.specs.Fold.{Ratio, whole}
-use Rattle.rg_case_folds.specs.Rewriting.{is_in, numbers_where, free_columns, has_start, column_count, CaseSystem, rows_of, system_fold}
+use Rattle.rg_folds.specs.Fold.{Ratio, whole}
+use Rattle.rg_folds.specs.Substitution.{is_in, numbers_where}
+use Rattle.rg_case_folds.specs.Rewriting.{free_columns, has_start, column_count, CaseSystem, rows_of, system_fold}
 use Rattle.rg_case_folds.specs.Placing.{ratio_at, place_fold}
 use Rattle.rg_case_folds.specs.Meaning.{first_column, IsCaseOver}
 use Rattle.rg_case_folds.specs.Shown.{Stage, Shown, IsValueAt, PointOf, named_sides}

@@ -12,7 +12,7 @@ use Rattle.rg_integers.specs.declared.term.Wide.{Wide}
 use Rattle.rg_fraction.specs.Terms.{sum_top, sum_bottom, product_top, product_bottom}
 use Rattle.rg_integers.specs.Term.{FitsTerm, term_value}
 use Rattle.rg_fraction.proofs.Forms.{left_exact, right_exact, right_positive, quotients_reduced}
-use Rattle.rg_case_folds.specs.Fold.{gives, and_then, each, further, joined, Ratio, whole, IsRatio, quotient, term, two_terms, add, mul, common_multiple, multiple_of_all}
+use Rattle.rg_folds.specs.Fold.{gives, and_then, each, further, joined, Ratio, whole, IsRatio, quotient, term, two_terms, add, mul, common_multiple, multiple_of_all}
 use Rattle.rg_case_folds.proofs.Lists.{first, behind}
 
 -- it has a result

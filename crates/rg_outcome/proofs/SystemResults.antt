@@ -26,8 +26,9 @@ use Rattle.rg_linear.specs.Cycle.{CycleBasis, IsZeroVector}
 use Rattle.rg_linear.specs.Firsts.{KeepsEqualRows}
 use Rattle.rg_case_folds.specs.Setting.{Setting, CaseSetting}
 use Rattle.rg_case_folds.specs.Chords.{IsBasis}
-use Rattle.rg_case_folds.specs.Fold.{gives, and_then, each, Ratio, whole, quotient, add, mul, multiple_of_all}
-use Rattle.rg_case_folds.specs.Rewriting.{is_in, has_label, free_labels, dependent_labels, dependent_term, coefficient_fold, substitute_fold, has_start, pick}
+use Rattle.rg_folds.specs.Fold.{gives, and_then, each, Ratio, whole, quotient, add, mul, multiple_of_all}
+use Rattle.rg_folds.specs.Substitution.{is_in, free_labels, dependent_labels, dependent_term, coefficient_fold, substitute_fold}
+use Rattle.rg_case_folds.specs.Rewriting.{has_label, has_start, pick}
 use Rattle.rg_case_folds.specs.Rewriting.{columns_of, column_count, Scaled, scaled_fold, terms_fold, KeptRow, divided, row_fold, names_of, IsIdle, split_forms}
 use Rattle.rg_case_folds.specs.Rewriting.{form_low, form_high, form_fold, kept_of, system_fold, count_of, start_of}
 use Rattle.rg_case_folds.proofs.Lists.{first, behind, where_is}

@@ -9,7 +9,7 @@ use Rattle.rg_integers.specs.declared.term.Wide.{Wide}
 use Rattle.rg_linear.specs.Descent.{WideAt}
 use Rattle.rg_linear.specs.Branching.{SplitTree, SplitSide, node_system, Branching, BranchOutcome.found, BranchOutcome.tree, BranchOutcome.stopped}
 use Rattle.rg_case_folds.specs.Setting.{CaseSetting}
-use Rattle.rg_case_folds.specs.Fold.{Ratio}
+use Rattle.rg_folds.specs.Fold.{Ratio}
 use Rattle.rg_case_folds.specs.Rewriting.{CaseSystem, rows_of, system_fold}
 use Rattle.rg_case_folds.specs.Placing.{place_fold}
 use Rattle.rg_case_folds.specs.Spreading.{spread_fold}

@@ -11,8 +11,8 @@ use Rattle.rg_theory.proofs.Trees.{tree_arcs}
 use Rattle.rg_integers.specs.declared.term.Wide.{Wide}
 use Rattle.rg_fraction.specs.declared.fraction.Fraction.{Fraction}
 use Rattle.rg_fraction.specs.Fractions.{numerator_of, denominator_of, IsSum}
-use Rattle.rg_case_folds.specs.Fold.{Ratio, whole, add, ratio_of, shown_result}
-use Rattle.rg_case_folds.proofs.FoldLemmas.{add_step}
+use Rattle.rg_folds.specs.Fold.{Ratio, whole, add, ratio_of, shown_result}
+use Rattle.rg_folds.proofs.FoldLemmas.{add_step}
 use Rattle.rg_case_folds.specs.Rewriting.{all_numbers}
 use Rattle.rg_case_folds.specs.Placing.{along_tree, ratio_at}
 use Rattle.rg_places.specs.PointValues.{ratios_of}

@@ -6,7 +6,8 @@ use Rattle.std.proofs.lemmas.List.Elements.{All-append}
 use Rattle.rg_theory.specs.System.{System, labels}
 use Rattle.rg_fraction.specs.declared.fraction.Fraction.{Fraction}
 use Rattle.rg_linear.specs.Cycle.{CycleBasis}
-use Rattle.rg_case_folds.specs.Rewriting.{is_in, numbers_where, has_label, free_labels, free_columns}
+use Rattle.rg_folds.specs.Substitution.{is_in, numbers_where, free_labels}
+use Rattle.rg_case_folds.specs.Rewriting.{has_label, free_columns}
 use Rattle.rg_places.specs.Steps.{labels_in, IsPlaced, AreFreeColumns}
 use Rattle.rg_places.specs.declared.columns.Column.{Column}
 use Rattle.rg_places.proofs.FoldSteps.{left_at}

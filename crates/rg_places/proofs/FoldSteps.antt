@@ -4,8 +4,8 @@ use Rattle.std.proofs.lemmas.List.{drop_all, length-map}
 use Rattle.std.proofs.Math.ListN.{get_or-map}
 use Rattle.std.proofs.Math.Seq.{drop-cons}
 use Rattle.rg_integers.specs.declared.term.Wide.{Wide}
-use Rattle.rg_case_folds.specs.Fold.{each, further, joined}
-use Rattle.rg_case_folds.proofs.Folding.{behind, each_start, each_next, each_fails, each_ends, further_next, further_unmade, further_unjoined}
+use Rattle.rg_folds.specs.Fold.{each, further, joined}
+use Rattle.rg_folds.proofs.Folding.{behind, each_start, each_next, each_fails, each_ends, further_next, further_unmade, further_unjoined}
 
 -- what is left from a place on begins with its item
 pub left_at : {A : Type 0} (all : List A) (i : ℕ) (a : A) → i < length all → a ≡ slice_index_or all i a → drop i all ≡ a ∷ drop (i + 1) all

@@ -5,15 +5,15 @@ use Rattle.rg_integers.specs.declared.term.Wide.{Wide}
 use Rattle.rg_fraction.specs.declared.fraction.Fraction.{Fraction}
 use Rattle.rg_fraction.specs.Fractions.{numerator_of, denominator_of, IsValue, IsSum, IsProduct}
 use Rattle.rg_integers.proofs.Order.{mul_positive, positive_differs}
-use Rattle.rg_case_folds.specs.Fold.{and_then, joined, ratio_of, shown_result, quotient, add, mul, Ratio, whole}
+use Rattle.rg_folds.specs.Fold.{and_then, joined, ratio_of, shown_result, quotient, add, mul, Ratio, whole}
 use Rattle.rg_case_folds.specs.Placing.{negated, ratio_at, top_at}
 use Rattle.std.proofs.lemmas.List.{length-map, get_or_default}
 use Rattle.rg_integers.specs.Range.{InRange}
-use Rattle.rg_case_folds.proofs.Folding.{whole_is}
+use Rattle.rg_folds.proofs.Folding.{whole_is}
 use Rattle.rg_cycles.proofs.AddsNothing.{value_adds_nothing, number_adds_nothing}
 use Rattle.rg_places.specs.PointValues.{ratios_of}
 use Rattle.rg_places.proofs.FoldSteps.{map_at}
-use Rattle.rg_case_folds.proofs.FoldLemmas.{new_step, mul_step}
+use Rattle.rg_folds.proofs.FoldLemmas.{new_step, mul_step}
 
 -- a difference is the sum with the negated number
 pub sub_step : (f g : Fraction) (r : Result Fraction Wide) → IsSum (numerator_of f) (denominator_of f) (neg_ℤ (numerator_of g)) (denominator_of g) r → add (ratio_of f) (negated (ratio_of g)) (shown_result ratio_of r)

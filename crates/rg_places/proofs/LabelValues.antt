@@ -7,8 +7,8 @@ use Rattle.std.proofs.lemmas.Grind.{get_or-set_at}
 use Rattle.rg_theory.specs.System.{System, labels}
 use Rattle.rg_fraction.specs.declared.fraction.Fraction.{Fraction}
 use Rattle.rg_linear.specs.Cycle.{CycleBasis}
-use Rattle.rg_case_folds.specs.Fold.{whole, ratio_of}
-use Rattle.rg_case_folds.specs.Rewriting.{is_in, free_labels}
+use Rattle.rg_folds.specs.Fold.{whole, ratio_of}
+use Rattle.rg_folds.specs.Substitution.{is_in, free_labels}
 use Rattle.rg_case_folds.specs.Placing.{ratio_at}
 use Rattle.rg_cycles.proofs.Folding.{free_below}
 use Rattle.rg_places.specs.PointValues.{ratios_of}

@@ -5,7 +5,7 @@ use Rattle.std.proofs.lemmas.List.{map-append, take_more}
 use Rattle.std.proofs.lemmas.List.Elements.{Contains-get_or}
 use Rattle.rg_theory.specs.System.{System, states}
 use Rattle.rg_fraction.specs.declared.fraction.Fraction.{Fraction}
-use Rattle.rg_case_folds.specs.Fold.{ratio_of}
+use Rattle.rg_folds.specs.Fold.{ratio_of}
 use Rattle.rg_case_folds.specs.Rewriting.{has_label_at, states_with}
 use Rattle.rg_case_folds.specs.Placing.{ratio_at}
 use Rattle.rg_case_folds.proofs.Lists.{where_is}

@@ -9,8 +9,8 @@ use Rattle.rg_theory.specs.Net.{Place}
 use Rattle.rg_integers.specs.declared.term.Wide.{Wide}
 use Rattle.rg_linear.specs.Cycle.{CycleBasis}
 use Rattle.rg_case_folds.specs.Setting.{Setting}
-use Rattle.rg_case_folds.specs.Fold.{gives, and_then, either, each, IsOne, Ratio, whole, add, mul, multiple_of_all}
-use Rattle.rg_case_folds.proofs.FoldLemmas.{and_then_one, each_one}
+use Rattle.rg_folds.specs.Fold.{gives, and_then, either, each, IsOne, Ratio, whole, add, mul, multiple_of_all}
+use Rattle.rg_folds.proofs.FoldLemmas.{and_then_one, each_one}
 use Rattle.rg_case_folds.proofs.OneResult.{effect_one, whole_one, along_one, shift_one}
 use Rattle.rg_case_folds.specs.Rewriting.{all_numbers}
 use Rattle.rg_case_folds.specs.Placing.{effect_fold, negated, made_whole, ratio_at, along_tree, least_of, is_shifted, is_lifted, missing, shift_fold, top_at, taken, place_fold}

@@ -12,7 +12,7 @@ use Rattle.rg_integers.specs.Value.{SameValue}
 use Rattle.rg_linear.specs.System.{LinearSystem}
 use Rattle.rg_linear.specs.Cycle.{CycleBasis}
 use Rattle.rg_linear.proofs.Members.{IsInOrder}
-use Rattle.rg_case_folds.specs.Fold.{Ratio, whole, ratio_of}
+use Rattle.rg_folds.specs.Fold.{Ratio, whole, ratio_of}
 use Rattle.rg_case_folds.specs.Rewriting.{free_columns, has_start, column_count}
 use Rattle.rg_case_folds.proofs.ColumnValues.{count_is}
 use Rattle.rg_case_folds.specs.Placing.{ratio_at}

@@ -11,11 +11,11 @@ use Rattle.rg_fraction.specs.declared.fraction.Fraction.{Fraction}
 use Rattle.rg_integers.specs.Range.{greatest}
 use Rattle.rg_net.specs.Shown.{shown_place}
 use Rattle.rg_case_folds.specs.Setting.{Setting, case_at}
-use Rattle.rg_case_folds.specs.Fold.{Ratio}
+use Rattle.rg_folds.specs.Fold.{Ratio}
 use Rattle.rg_case_folds.specs.Rewriting.{column_count}
 use Rattle.rg_case_folds.specs.Placing.{place_fold}
 use Rattle.rg_case_folds.specs.Shown.{IsLive}
-use Rattle.rg_case_folds.proofs.FoldLemmas.{ok_is}
+use Rattle.rg_folds.proofs.FoldLemmas.{ok_is}
 use Rattle.rg_case_folds.specs.Places.{numbers_fold, tokens_of, PlaceIsMade}
 use Rattle.rg_places.specs.PointValues.{point_start, point_value, SolvesCase}
 use Rattle.rg_places.specs.RegionPlaces.{region_tokens, IsRegionPlace, PlaceSeparates}

@@ -7,8 +7,9 @@ use Rattle.rg_integers.specs.Sum.{number_at}
 use Rattle.rg_integers.specs.declared.term.Wide.{Wide}
 use Rattle.rg_linear.specs.Cycle.{CycleBasis}
 use Rattle.rg_linear.proofs.Members.{IsInOrder}
-use Rattle.rg_case_folds.specs.Fold.{gives, and_then, either, joined, Ratio, whole, ratio_of, quotient, add, mul}
-use Rattle.rg_case_folds.specs.Rewriting.{has_label, free_labels, free_columns}
+use Rattle.rg_folds.specs.Fold.{gives, and_then, either, joined, Ratio, whole, ratio_of, quotient, add, mul}
+use Rattle.rg_folds.specs.Substitution.{free_labels}
+use Rattle.rg_case_folds.specs.Rewriting.{has_label, free_columns}
 use Rattle.rg_case_folds.specs.Placing.{effect_fold}
 use Rattle.rg_cycles.specs.declared.relation.Relation.{Relation}
 use Rattle.rg_cycles.specs.Basis.{ShowsRelation}

@@ -10,7 +10,7 @@ use Rattle.rg_theory.specs.declared.Problem.TheVariants.{Event, States}
 use Rattle.rg_integers.specs.Range.{InRange}
 use Rattle.rg_fraction.specs.declared.fraction.Fraction.{Fraction}
 use Rattle.rg_fraction.specs.Fractions.{numerator_of}
-use Rattle.rg_case_folds.specs.Fold.{Ratio}
+use Rattle.rg_folds.specs.Fold.{Ratio}
 use Rattle.rg_case_folds.specs.Rewriting.{all_numbers}
 use Rattle.rg_case_folds.specs.Placing.{top_at, taken_by_effect, taken}
 use Rattle.rg_places.specs.PointValues.{ratios_of}

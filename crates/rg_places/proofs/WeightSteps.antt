@@ -11,7 +11,7 @@ use Rattle.rg_integers.specs.Sum.{number_at}
 use Rattle.rg_integers.specs.declared.term.Wide.{Wide}
 use Rattle.rg_fraction.specs.declared.fraction.Fraction.{Fraction}
 use Rattle.rg_fraction.specs.Fractions.{numerator_of}
-use Rattle.rg_case_folds.specs.Fold.{Ratio, each, whole_sum, ratio_of}
+use Rattle.rg_folds.specs.Fold.{Ratio, each, whole_sum, ratio_of}
 use Rattle.rg_case_folds.specs.Rewriting.{all_numbers}
 use Rattle.rg_case_folds.specs.Placing.{top_at, taken, place_of}
 use Rattle.rg_places.specs.PointValues.{ratios_of}

@@ -9,7 +9,7 @@ use Rattle.rg_linear.specs.System.{IsPoint, MeetsRows}
 use Rattle.rg_linear.specs.Branching.{FormsWhole}
 use Rattle.rg_linear.specs.Cycle.{CycleBasis}
 use Rattle.rg_case_folds.specs.Setting.{Setting, case_at}
-use Rattle.rg_case_folds.specs.Fold.{Ratio, whole, ratio_of}
+use Rattle.rg_folds.specs.Fold.{Ratio, whole, ratio_of}
 use Rattle.rg_case_folds.specs.Rewriting.{free_columns, has_start, CaseSystem, rows_of}
 use Rattle.rg_case_folds.specs.Placing.{ratio_at}
 use Rattle.rg_case_folds.specs.Meaning.{IsCaseOver, first_column}

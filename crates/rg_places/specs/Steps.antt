@@ -9,8 +9,9 @@ use Rattle.rg_integers.specs.declared.term.Wide.{Wide}
 use Rattle.rg_integers.specs.Sum.{number_at}
 use Rattle.rg_linear.specs.Cycle.{CycleBasis}
 use Rattle.rg_cycles.specs.declared.relation.Relation.{Relation}
-use Rattle.rg_case_folds.specs.Fold.{gives, and_then, either, each, joined, Ratio, whole, ratio_of, quotient, add, mul, whole_sum}
-use Rattle.rg_case_folds.specs.Rewriting.{is_in, free_labels, free_columns, all_numbers, states_with}
+use Rattle.rg_folds.specs.Fold.{gives, and_then, either, each, joined, Ratio, whole, ratio_of, quotient, add, mul, whole_sum}
+use Rattle.rg_folds.specs.Substitution.{is_in, free_labels}
+use Rattle.rg_case_folds.specs.Rewriting.{free_columns, all_numbers, states_with}
 use Rattle.rg_case_folds.specs.Placing.{effect_fold, made_whole, ratio_at, along_tree, least_of, top_at, taken, place_of}
 use Rattle.rg_places.specs.PointValues.{ratio_beside}
 use Rattle.rg_places.specs.declared.columns.Column.{Column}

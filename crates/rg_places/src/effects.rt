@@ -1,7 +1,7 @@
 //! The effects of all labels, from those of the columns.
 ghost use Rattle.std.specs.Prelude.{◌≡◌, ℕ, ◌<◌, pos, length, All, IfOk};
 ghost use Rattle.rg_theory.specs.System.{System, labels};
-ghost use Rattle.rg_case_folds.specs.Fold.{Comes, each, joined, add, whole, ratio_of, shown_result};
+ghost use Rattle.rg_folds.specs.Fold.{Comes, each, joined, add, whole, ratio_of, shown_result};
 ghost use Rattle.rg_case_folds.specs.Rewriting.{all_numbers};
 ghost use Rattle.rg_case_folds.specs.Placing.{effect_fold, ratio_at};
 ghost use Rattle.rg_cycles.specs.Basis.{IsRelationInRange};

@@ -6,7 +6,7 @@ ghost use Rattle.rg_theory.specs.Net.{Place};
 ghost use Rattle.rg_linear.specs.System.{IsPoint, MeetsRows};
 ghost use Rattle.rg_linear.specs.Branching.{SplitSide, BranchOutcome, node_system, Branching, FormsWhole};
 ghost use Rattle.rg_case_folds.specs.Setting.{Setting, CaseSetting};
-ghost use Rattle.rg_case_folds.specs.Fold.{IsOne, Ratio};
+ghost use Rattle.rg_folds.specs.Fold.{IsOne, Ratio};
 ghost use Rattle.rg_case_folds.specs.Shown.{IsLive, PointOf};
 ghost use Rattle.rg_case_folds.specs.Rewriting.{CaseSystem, rows_of};
 ghost use Rattle.rg_case_folds.specs.Placing.{place_fold};

@@ -7,7 +7,7 @@ ghost use Rattle.rg_cycles.specs.View.{labels_of, cycle_of};
 ghost use Rattle.rg_case_folds.specs.Rewriting.{has_start, column_count};
 ghost use Rattle.rg_case_folds.specs.Placing.{place_fold};
 ghost use Rattle.rg_case_folds.specs.Shown.{IsLive};
-ghost use Rattle.rg_case_folds.specs.Fold.{Comes, ratio_of};
+ghost use Rattle.rg_folds.specs.Fold.{Comes, ratio_of};
 ghost use Rattle.rg_case_folds.specs.Meaning.{first_column};
 ghost use Rattle.rg_net.specs.Shown.{shown_place};
 ghost use Rattle.rg_places.specs.PointValues.{ratios_of, point_start, point_value, SolvesCase};

@@ -3,7 +3,7 @@ ghost use Rattle.std.specs.Prelude.{◌≡◌, ℕ, ◌<◌, ◌+◌, ◌∷◌,
 ghost use Rattle.rg_theory.specs.System.{states, labels};
 ghost use Rattle.rg_theory.specs.Tree.{IsTree};
 ghost use Rattle.rg_integers.specs.declared.term.Wide.{Wide};
-ghost use Rattle.rg_case_folds.specs.Fold.{Comes, gives, either, each, add, whole, Ratio, ratio_of};
+ghost use Rattle.rg_folds.specs.Fold.{Comes, gives, either, each, add, whole, Ratio, ratio_of};
 ghost use Rattle.rg_case_folds.specs.Rewriting.{all_numbers};
 ghost use Rattle.rg_case_folds.specs.Placing.{along_tree, ratio_at, negated, lesser, least_of, is_shifted, is_lifted, missing, top_at, shift_fold};
 ghost use Rattle.rg_fraction.specs.declared.fold_stop.FoldStop.TheVariants as stop;

@@ -5,7 +5,7 @@ ghost use Rattle.rg_cert_meaning.specs.Refutes.{IsSeparationProblem};
 ghost use Rattle.rg_integers.specs.Range.{InRange};
 ghost use Rattle.rg_integers.specs.Sum.{number_at};
 ghost use Rattle.rg_fraction.specs.Fractions.{numerator_of};
-ghost use Rattle.rg_case_folds.specs.Fold.{Comes, each, whole_sum, ratio_of};
+ghost use Rattle.rg_folds.specs.Fold.{Comes, each, whole_sum, ratio_of};
 ghost use Rattle.rg_case_folds.specs.Rewriting.{all_numbers, states_with};
 ghost use Rattle.rg_case_folds.specs.Placing.{ratio_at, top_at, taken_by_effect, taken};
 ghost use Rattle.rg_places.specs.PointValues.{ratios_of};

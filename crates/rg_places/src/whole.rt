@@ -1,7 +1,7 @@
 //! Fractions without denominators.
 ghost use Rattle.std.specs.Prelude.{◌≡◌, ◌||◌, is_some, unwrap_or, pos};
 ghost use Rattle.rg_integers.specs.Range.{InRange};
-ghost use Rattle.rg_case_folds.specs.Fold.{Comes, gives, either, each, mul, whole};
+ghost use Rattle.rg_folds.specs.Fold.{Comes, gives, either, each, mul, whole};
 ghost use Rattle.rg_case_folds.specs.Placing.{made_whole};
 ghost use Rattle.rg_places.specs.PointValues.{ratios_of};
 

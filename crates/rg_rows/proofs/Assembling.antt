@@ -10,7 +10,7 @@ use Rattle.rg_integers.specs.Sum.{sum_over}
 use Rattle.rg_linear.specs.Branching.{Form, form_at, AreBounded}
 use Rattle.rg_cert_meaning.specs.declared.RowName.{RowName}
 use Rattle.rg_case_folds.specs.Setting.{CaseSetting}
-use Rattle.rg_case_folds.specs.Fold.{each}
+use Rattle.rg_folds.specs.Fold.{each}
 use Rattle.rg_case_folds.specs.Rewriting.{split_forms, form_low, KeptRow, CaseSystem, rows_of}
 use Rattle.rg_case_folds.specs.Meaning.{IsCaseOver}
 use Rattle.rg_case_folds.proofs.FormBounds.{forms_bounded}

@@ -14,7 +14,7 @@ use Rattle.rg_linear.specs.Branching.{Form}
 use Rattle.rg_linear.specs.Cycle.{IsZeroVector}
 use Rattle.rg_cert_meaning.specs.Row.{shared_expression}
 use Rattle.rg_case_folds.specs.Setting.{Setting}
-use Rattle.rg_case_folds.specs.Fold.{shown_result, each}
+use Rattle.rg_folds.specs.Fold.{shown_result, each}
 use Rattle.rg_case_folds.specs.FormRows.{form_row}
 use Rattle.rg_case_folds.specs.Rewriting.{Scaled, KeptRow, terms_fold, row_fold, form_fold, form_low, form_high}
 use Rattle.rg_case_parts.specs.declared.columns.Columns.{Columns}

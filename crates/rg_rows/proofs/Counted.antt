@@ -6,8 +6,8 @@ use Rattle.std.proofs.lemmas.List.{get_or_append_left}
 use Rattle.rg_integers.specs.Sum.{number_at}
 use Rattle.rg_integers.specs.declared.term.Wide.{Wide}
 use Rattle.rg_linear.specs.Cycle.{CycleBasis}
-use Rattle.rg_case_folds.specs.Fold.{and_then, each, further, Ratio, whole, quotient, add, mul}
-use Rattle.rg_case_folds.specs.Rewriting.{is_in, numbers_where, free_labels, dependent_labels, dependent_term, coefficient_fold, substitute_fold}
+use Rattle.rg_folds.specs.Fold.{and_then, each, further, Ratio, whole, quotient, add, mul}
+use Rattle.rg_folds.specs.Substitution.{is_in, numbers_where, free_labels, dependent_labels, dependent_term, coefficient_fold, substitute_fold}
 use Rattle.rg_cycles.proofs.Labels.{where_from}
 
 module _ {A X : Type 0} (make make' : A → Result X Wide → Type 0) where

@@ -10,7 +10,7 @@ use Rattle.rg_integers.specs.Sum.{number_at}
 use Rattle.rg_integers.proofs.Divisors.{gcd_below_is_one}
 use Rattle.rg_integers.proofs.Ring.{one-mul}
 use Rattle.rg_fraction.specs.Rows.{IsRowGcd, IsPrimitivePart}
-use Rattle.rg_case_folds.specs.Fold.{IsRatio}
+use Rattle.rg_folds.specs.Fold.{IsRatio}
 use Rattle.rg_case_folds.specs.Rewriting.{Scaled, KeptRow, IsDivided}
 use Rattle.rg_rows.proofs.Keeping.{ends}
 

@@ -11,7 +11,8 @@ use Rattle.rg_theory.specs.System.{System, states, labels}
 use Rattle.rg_cert_meaning.specs.declared.RowName.{RowName}
 use Rattle.rg_cert_meaning.specs.Row.{case_consumer}
 use Rattle.rg_cert_meaning.specs.declared.Form.{Form}
-use Rattle.rg_case_folds.specs.Rewriting.{numbers_where, has_label, used_labels, states_with, has_start, all_numbers, problem_rows, names_of, splits_start, split_forms}
+use Rattle.rg_folds.specs.Substitution.{numbers_where}
+use Rattle.rg_case_folds.specs.Rewriting.{has_label, used_labels, states_with, has_start, all_numbers, problem_rows, names_of, splits_start, split_forms}
 use Rattle.rg_case_folds.proofs.Forms.{start_of_bound}
 use Rattle.rg_case_folds.proofs.Lists.{Contains-map, where_has}
 use Rattle.rg_rows.specs.Forms.{form_in, put_form, forms_in, case_forms}

@@ -14,12 +14,12 @@ use Rattle.rg_cert_meaning.specs.Row.{row_expression}
 use Rattle.rg_cert_meaning.specs.Row.{form_variable, step_of}
 use Rattle.rg_cert_meaning.specs.declared.Form.{Form as SplitForm}
 use Rattle.rg_case_folds.specs.Setting.{Setting, CaseSetting}
-use Rattle.rg_case_folds.specs.Fold.{each}
+use Rattle.rg_folds.specs.Fold.{each}
 use Rattle.rg_case_folds.specs.Rewriting.{Scaled, column_count, terms_fold, form_fold, form_low, form_high, KeptRow}
 use Rattle.rg_case_folds.specs.FormRows.{form_row}
 use Rattle.rg_case_folds.proofs.FormRows.{same_terms, form_over_row}
 use Rattle.rg_case_folds.proofs.Forms.{each_at}
-use Rattle.rg_case_folds.proofs.Folding.{behind, each_next, each_fails, each_ends}
+use Rattle.rg_folds.proofs.Folding.{behind, each_next, each_fails, each_ends}
 use Rattle.rg_case_folds.proofs.Items.{from_index}
 use Rattle.rg_integers.specs.Range.{InRange}
 use Rattle.rg_rows.specs.declared.case_row.CaseRow.{CaseRow}

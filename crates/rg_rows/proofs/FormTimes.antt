@@ -20,7 +20,7 @@ use Rattle.rg_linear.specs.Cycle.{IsZeroVector}
 use Rattle.rg_cert_meaning.specs.Row.{row_expression}
 use Rattle.rg_cert_meaning.specs.declared.RowName.{RowName}
 use Rattle.rg_case_folds.specs.Setting.{CaseSetting}
-use Rattle.rg_case_folds.specs.Fold.{each}
+use Rattle.rg_folds.specs.Fold.{each}
 use Rattle.rg_case_folds.specs.Rewriting.{KeptRow, CaseSystem, rows_of}
 use Rattle.rg_case_folds.specs.FormRows.{form_row, IsMultipleOfRow}
 use Rattle.rg_case_folds.proofs.FormRows.{multiple_of_kept, number_times, number_zero}

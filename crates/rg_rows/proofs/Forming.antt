@@ -14,7 +14,8 @@ use Rattle.rg_cert_meaning.specs.declared.RowName.{RowName}
 use Rattle.rg_linear.specs.System.{LinearRow, row_at}
 use Rattle.rg_linear.specs.Firsts.{KeepsEqualRows}
 use Rattle.rg_linear.proofs.Firsts.{kept_is, kept_count}
-use Rattle.rg_case_folds.specs.Rewriting.{numbers_where, used_labels, has_label, has_label_at, states_with, has_start, problem_rows, names_of, KeptRow, IsIdle}
+use Rattle.rg_folds.specs.Substitution.{numbers_where}
+use Rattle.rg_case_folds.specs.Rewriting.{used_labels, has_label, has_label_at, states_with, has_start, problem_rows, names_of, KeptRow, IsIdle}
 use Rattle.rg_linear.specs.declared.row.Row.{Row}
 use Rattle.rg_linear.specs.View.{linear_row, linear_system, IsWellFormed}
 use Rattle.rg_rows.specs.declared.case_row.CaseRow.{CaseRow}

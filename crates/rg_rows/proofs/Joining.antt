@@ -14,7 +14,7 @@ use Rattle.rg_cert_meaning.specs.declared.RowName.{RowName}
 use Rattle.rg_linear.specs.Firsts.{KeepsEqualRows}
 use Rattle.rg_linear.specs.System.{LinearRow}
 use Rattle.rg_linear.proofs.Members.{Contains-cons_cases}
-use Rattle.rg_case_folds.specs.Fold.{each}
+use Rattle.rg_folds.specs.Fold.{each}
 use Rattle.rg_case_folds.specs.Rewriting.{KeptRow, IsIdle, problem_rows, names_of}
 use Rattle.rg_rows.specs.declared.held_row.HeldRow.{HeldRow}
 use Rattle.rg_rows.specs.View.{kept_row, row_in, AreIndices}

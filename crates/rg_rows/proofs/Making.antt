@@ -11,10 +11,11 @@ use Rattle.rg_cert_meaning.specs.declared.RowName.{RowName}
 use Rattle.rg_fraction.specs.declared.fraction.Fraction.{Fraction}
 use Rattle.rg_fraction.specs.Fractions.{numerator_of, denominator_of, IsValue, IsProduct}
 use Rattle.rg_case_folds.specs.Setting.{Setting, CaseSetting}
-use Rattle.rg_case_folds.proofs.FoldLemmas.{mul_step}
+use Rattle.rg_folds.proofs.FoldLemmas.{mul_step}
 use Rattle.rg_fraction.specs.declared.fold_stop.FoldStop.{FoldStop}
-use Rattle.rg_case_folds.specs.Fold.{Comes, shown_result, ratio_of, each, Ratio, whole, mul}
-use Rattle.rg_case_folds.specs.Rewriting.{start_of, count_of, substitute_fold, columns_of, Scaled, scaled_fold, terms_fold, KeptRow, divided, row_fold, names_of, split_forms, form_fold, column_count, CaseSystem, IsIdle, system_fold}
+use Rattle.rg_folds.specs.Fold.{Comes, shown_result, ratio_of, each, Ratio, whole, mul}
+use Rattle.rg_folds.specs.Substitution.{substitute_fold}
+use Rattle.rg_case_folds.specs.Rewriting.{start_of, count_of, columns_of, Scaled, scaled_fold, terms_fold, KeptRow, divided, row_fold, names_of, split_forms, form_fold, column_count, CaseSystem, IsIdle, system_fold}
 use Rattle.rg_linear.specs.Firsts.{KeepsEqualRows}
 use Rattle.rg_rows.specs.View.{fold_of}
 use Rattle.rg_rows.proofs.Counted.{substitute_same}
@@ -22,7 +23,7 @@ use Rattle.rg_case_folds.proofs.Items.{each_length}
 use Rattle.rg_case_parts.proofs.Multiples.{scaled_wholes}
 use Rattle.rg_case_parts.proofs.Picking.{columns_length}
 use Rattle.rg_rows.specs.Columns.{columns_fold}
-use Rattle.rg_case_folds.proofs.Folding.{whole_is}
+use Rattle.rg_folds.proofs.Folding.{whole_is}
 
 -- ---- from the counts of labels to the columns
 

@@ -8,8 +8,9 @@ use Rattle.rg_theory.specs.declared.Problem.{Problem}
 use Rattle.rg_theory.specs.System.{System, states, labels}
 use Rattle.rg_cert_meaning.specs.Row.{case_consumer}
 use Rattle.rg_cert_meaning.specs.declared.RowName.{RowName}
-use Rattle.rg_case_folds.specs.Rewriting.{numbers_where, has_label, used_labels, has_start, all_numbers, problem_rows, names_of}
-use Rattle.rg_case_folds.proofs.Folding.{where_taken, where_left, where_ends}
+use Rattle.rg_folds.specs.Substitution.{numbers_where}
+use Rattle.rg_case_folds.specs.Rewriting.{has_label, used_labels, has_start, all_numbers, problem_rows, names_of}
+use Rattle.rg_folds.proofs.Folding.{where_taken, where_left, where_ends}
 use Rattle.rg_case_parts.specs.declared.columns.Columns.{Columns}
 use Rattle.rg_case_parts.specs.ColumnViews.{TellsUsedLabels, AreColumns}
 use Rattle.rg_rows.specs.View.{users, makers}

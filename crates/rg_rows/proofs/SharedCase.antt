@@ -17,7 +17,7 @@ use Rattle.rg_linear.proofs.Firsts.{kept_count}
 use Rattle.rg_cert_meaning.specs.declared.Form.{Form as SplitForm}
 use Rattle.rg_cert_meaning.specs.declared.RowName.{RowName}
 use Rattle.rg_case_folds.specs.Setting.{CaseSetting}
-use Rattle.rg_case_folds.specs.Fold.{each}
+use Rattle.rg_folds.specs.Fold.{each}
 use Rattle.rg_case_folds.specs.Meaning.{IsCaseOver}
 use Rattle.rg_case_folds.specs.Rewriting.{CaseSystem, IsIdle, KeptRow, column_count, problem_rows, names_of, form_fold, rows_of, split_forms, splits_start, system_fold}
 use Rattle.rg_case_folds.proofs.Items.{each_length}

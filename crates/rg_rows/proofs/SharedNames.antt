@@ -11,7 +11,7 @@ use Rattle.rg_cert_meaning.specs.Expression.{Expression, plus, minus}
 use Rattle.rg_cert_meaning.specs.Row.{row_expression, shared_expression}
 use Rattle.rg_cert_meaning.specs.declared.RowName.{RowName}
 use Rattle.rg_case_folds.specs.Setting.{Setting, case_at}
-use Rattle.rg_case_folds.specs.Fold.{each}
+use Rattle.rg_folds.specs.Fold.{each}
 use Rattle.rg_case_folds.specs.Rewriting.{KeptRow, has_start, all_numbers, used_labels, row_fold}
 use Rattle.rg_case_folds.proofs.Lists.{where_is}
 use Rattle.rg_rows.specs.declared.kind.Kind.TheVariants as kind

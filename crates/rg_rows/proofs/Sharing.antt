@@ -14,7 +14,7 @@ use Rattle.rg_cert_meaning.specs.Expression.{Expression, plus, minus}
 use Rattle.rg_cert_meaning.specs.Row.{row_expression, shared_expression}
 use Rattle.rg_cert_meaning.specs.declared.RowName.{RowName}
 use Rattle.rg_case_folds.specs.Setting.{Setting, CaseSetting}
-use Rattle.rg_case_folds.specs.Fold.{Comes, shown_result}
+use Rattle.rg_folds.specs.Fold.{Comes, shown_result}
 use Rattle.rg_case_folds.specs.Rewriting.{has_start, column_count, terms_fold, row_fold}
 use Rattle.rg_case_parts.specs.StatesNamed.{TermNamesStateBelow}
 use Rattle.rg_rows.specs.declared.case_row.CaseRow.{CaseRow}

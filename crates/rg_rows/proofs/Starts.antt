@@ -11,7 +11,7 @@ use Rattle.rg_integers.specs.declared.term.Wide.{Wide}
 use Rattle.rg_integers.specs.Range.{InRange}
 use Rattle.rg_cert_meaning.specs.Row.{row_expression, step_of}
 use Rattle.rg_case_folds.specs.Setting.{CaseSetting}
-use Rattle.rg_case_folds.specs.Fold.{each}
+use Rattle.rg_folds.specs.Fold.{each}
 use Rattle.rg_case_folds.specs.Rewriting.{Scaled, terms_fold, form_fold, form_low, form_high}
 use Rattle.rg_case_folds.specs.FormRows.{form_row}
 use Rattle.rg_case_folds.proofs.StartAlone.{start_alone}

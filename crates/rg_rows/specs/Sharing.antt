@@ -11,7 +11,7 @@ use Rattle.rg_fraction.specs.declared.fold_stop.FoldStop.TheVariants as stop
 use Rattle.rg_cert_meaning.specs.Row.{shared_expression, row_expression}
 use Rattle.rg_cert_meaning.specs.declared.RowName.{RowName}
 use Rattle.rg_case_folds.specs.Setting.{Setting, CaseSetting, case_at}
-use Rattle.rg_case_folds.specs.Fold.{shown_result, each}
+use Rattle.rg_folds.specs.Fold.{shown_result, each}
 use Rattle.rg_case_folds.specs.Rewriting.{has_start, all_numbers, used_labels, column_count, terms_fold, row_fold, form_fold, KeptRow, IsIdle}
 use Rattle.rg_case_parts.specs.ColumnViews.{AreColumns}
 use Rattle.rg_rows.specs.declared.case_row.CaseRow.{CaseRow}

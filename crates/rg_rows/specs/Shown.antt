@@ -4,7 +4,7 @@ use Rattle.rg_theory.specs.System.{IsAllReachable}
 use Rattle.rg_theory.specs.ClassWords.{HasNumbersInRange}
 use Rattle.rg_case_folds.specs.Chords.{IsBasis}
 use Rattle.rg_case_folds.specs.Setting.{CaseSetting}
-use Rattle.rg_case_folds.specs.Fold.{ratio_of}
+use Rattle.rg_folds.specs.Fold.{ratio_of}
 use Rattle.rg_case_folds.specs.Rewriting.{CaseSystem, rows_of, split_forms, system_fold}
 use Rattle.rg_rows.specs.Forms.{linear_form, split_of, StandsInRow, AreFormsOf}
 use Rattle.rg_rows.specs.declared.named_system.NamedSystem.{NamedSystem}

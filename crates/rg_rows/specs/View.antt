@@ -7,8 +7,9 @@ use Rattle.rg_integers.specs.declared.term.Wide.{Wide}
 use Rattle.rg_cert_meaning.specs.Row.{row_expression}
 use Rattle.rg_cert_meaning.specs.declared.RowName.{RowName}
 use Rattle.rg_case_folds.specs.Setting.{Setting, CaseSetting}
-use Rattle.rg_case_folds.specs.Fold.{ratio_of}
-use Rattle.rg_case_folds.specs.Rewriting.{numbers_where, Scaled, KeptRow, IsIdle, column_count, row_fold}
+use Rattle.rg_folds.specs.Fold.{ratio_of}
+use Rattle.rg_folds.specs.Substitution.{numbers_where}
+use Rattle.rg_case_folds.specs.Rewriting.{Scaled, KeptRow, IsIdle, column_count, row_fold}
 use Rattle.rg_case_parts.specs.StatesNamed.{TermNamesStateBelow}
 use Rattle.rg_linear.specs.View.{linear_row}
 use Rattle.rg_rows.specs.declared.case_row.CaseRow.{CaseRow}

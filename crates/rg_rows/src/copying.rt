@@ -1,7 +1,7 @@
 //! Rows and forms in memory of their own.
 ghost use Rattle.std.specs.Prelude.{◌≡◌, List, map, IfOk, IfSome};
 ghost use Rattle.rg_case_folds.specs.Setting.{Setting};
-ghost use Rattle.rg_case_folds.specs.Fold.{shown_result};
+ghost use Rattle.rg_folds.specs.Fold.{shown_result};
 ghost use Rattle.rg_case_folds.specs.Rewriting.{KeptRow};
 ghost use Rattle.rg_linear.specs.View.{linear_row};
 ghost use Rattle.rg_rows.specs.View.{kept_row, terms_of, ShowsRows};

@@ -6,7 +6,7 @@ ghost use Rattle.rg_theory.specs.System.{labels};
 ghost use Rattle.rg_linear.specs.Cycle.{IsZeroVector};
 ghost use Rattle.rg_spanning.specs.Spanning.{IsTreeOf};
 ghost use Rattle.rg_cycles.specs.View.{labels_of};
-ghost use Rattle.rg_case_folds.specs.Fold.{Comes, each};
+ghost use Rattle.rg_folds.specs.Fold.{Comes, each};
 ghost use Rattle.rg_case_folds.specs.Rewriting.{terms_fold, form_fold, form_low, form_high, splits_start};
 ghost use Rattle.rg_case_parts.specs.SettingViews.{shown_setting, shown_case};
 ghost use Rattle.rg_cert_meaning.specs.Row.{row_expression, step_of};

@@ -9,7 +9,7 @@ ghost use Rattle.rg_cycles.specs.View.{labels_of};
 ghost use Rattle.rg_case_parts.specs.SettingViews.{shown_setting, shown_case};
 ghost use Rattle.rg_rows.specs.View.{kept_row, row_in, columns_in, IsNameWithin, fold_of};
 ghost use Rattle.rg_rows.specs.Sharing.{IsCommonOf};
-ghost use Rattle.rg_case_folds.specs.Fold.{Comes};
+ghost use Rattle.rg_folds.specs.Fold.{Comes};
 
 use crate::case_row::CaseRow;
 use crate::common::Common;

@@ -10,7 +10,7 @@ ghost use Rattle.rg_spanning.specs.Spanning.{IsTreeOf};
 ghost use Rattle.rg_case_folds.specs.Rewriting.{CaseSystem, split_forms, splits_start, system_fold};
 ghost use Rattle.rg_case_folds.specs.Setting.{setting_at, case_at};
 ghost use Rattle.rg_case_folds.specs.Chords.{IsBasis};
-ghost use Rattle.rg_case_folds.specs.Fold.{Comes, each};
+ghost use Rattle.rg_folds.specs.Fold.{Comes, each};
 ghost use Rattle.rg_cycles.specs.View.{labels_of, cycle_of};
 ghost use Rattle.rg_fraction.specs.declared.fold_stop.FoldStop.TheVariants as stop;
 ghost use Rattle.rg_rows.specs.View.{kept_row, row_in, columns_in, AreNamesWithin, fold_of};

@@ -7,7 +7,8 @@ ghost use Rattle.rg_theory.specs.System.{labels};
 ghost use Rattle.rg_fraction.specs.Rows.{IsRowGcd};
 ghost use Rattle.rg_linear.specs.Cycle.{IsZeroVector};
 ghost use Rattle.rg_spanning.specs.Spanning.{IsTreeOf};
-ghost use Rattle.rg_case_folds.specs.Rewriting.{free_labels, substitute_fold, terms_fold, row_fold, divided};
+ghost use Rattle.rg_folds.specs.Substitution.{free_labels, substitute_fold};
+ghost use Rattle.rg_case_folds.specs.Rewriting.{terms_fold, row_fold, divided};
 ghost use Rattle.rg_cycles.specs.View.{labels_of, cycle_of};
 ghost use Rattle.rg_cert_data.specs.Sums.{expression_of};
 ghost use Rattle.rg_case_parts.specs.SettingViews.{shown_setting};
@@ -16,7 +17,7 @@ ghost use Rattle.rg_case_parts.specs.WholeNumbers.{scaled_of};
 ghost use Rattle.rg_case_parts.specs.ColumnViews.{AreColumns};
 ghost use Rattle.rg_rows.specs.View.{kept_row, terms_of, columns_in};
 ghost use Rattle.rg_rows.specs.Columns.{columns_fold};
-ghost use Rattle.rg_case_folds.specs.Fold.{Comes, whole};
+ghost use Rattle.rg_folds.specs.Fold.{Comes, whole};
 
 use crate::case_row::CaseRow;
 use crate::counts::counts;

@@ -13,10 +13,10 @@ use Rattle.rg_integers.specs.Range.{InRange}
 use Rattle.rg_cert_meaning.specs.Row.{Side}
 use Rattle.rg_linear.specs.System.{LinearSystem}
 use Rattle.rg_linear.specs.Branching.{Weight, weights_from, form_at, SplitSide}
-use Rattle.rg_case_folds.specs.Fold.{Ratio, whole, ratio_of, shown_result, mul}
+use Rattle.rg_folds.specs.Fold.{Ratio, whole, ratio_of, shown_result, mul}
 use Rattle.rg_case_folds.specs.Rewriting.{CaseSystem}
 use Rattle.rg_case_folds.specs.Spreading.{share_fold, kept_at, name_of, side_at, named_at, split_factor, factor_of}
-use Rattle.rg_case_folds.proofs.FoldLemmas.{ratio_one, new_step, mul_step}
+use Rattle.rg_folds.proofs.FoldLemmas.{ratio_one, new_step, mul_step}
 use Rattle.rg_case_folds.proofs.Scaling.{whole_ratio}
 use Rattle.rg_rows.specs.declared.named_system.NamedSystem.{NamedSystem}
 use Rattle.rg_rows.specs.declared.named_form.NamedForm.{NamedForm}

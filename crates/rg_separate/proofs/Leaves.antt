@@ -15,7 +15,7 @@ use Rattle.rg_integers.specs.declared.term.Wide.{Wide}
 use Rattle.rg_fraction.specs.declared.fraction.Fraction.{Fraction}
 use Rattle.rg_linear.specs.Branching.{SplitSide, side_row, Weight, SplitTree, BranchOutcome.tree, Branching, Form, form_at, weights_from, node_system}
 use Rattle.rg_case_folds.specs.Setting.{Setting as ShownSetting}
-use Rattle.rg_case_folds.specs.Fold.{each}
+use Rattle.rg_folds.specs.Fold.{each}
 use Rattle.rg_case_folds.specs.Meaning.{IsCaseOver}
 use Rattle.rg_case_folds.specs.Rewriting.{CaseSystem, split_forms, form_low, form_fold, rows_of}
 use Rattle.rg_case_folds.proofs.Forms.{IsSplitOf, split_is}

@@ -19,7 +19,7 @@ use Rattle.rg_linear.proofs.Having.{columns_have}
 use Rattle.rg_linear.proofs.Widths.{descent_has}
 use Rattle.rg_linear.proofs.Splits.{found_well}
 use Rattle.rg_linear.specs.Cycle.{CycleBasis}
-use Rattle.rg_case_folds.specs.Fold.{Ratio, whole, ratio_of}
+use Rattle.rg_folds.specs.Fold.{Ratio, whole, ratio_of}
 use Rattle.rg_case_folds.specs.Rewriting.{column_count, rows_of}
 use Rattle.rg_case_folds.specs.Placing.{ratio_at, place_fold}
 use Rattle.rg_case_folds.specs.Shown.{IsValueAt, PointOf, PlaceShown, named_sides}

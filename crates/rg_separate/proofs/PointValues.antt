@@ -11,9 +11,9 @@ use Rattle.rg_linear.specs.Dictionary.{Relation, DictionaryRow, HasDictionary}
 use Rattle.rg_linear.proofs.Members.{is_member}
 use Rattle.rg_linear.proofs.Points.{constant_left, zero_point_of}
 use Rattle.rg_linear.specs.Descent.{IsBasicPoint}
-use Rattle.rg_case_folds.specs.Fold.{whole, ratio_of, IsRatio}
+use Rattle.rg_folds.specs.Fold.{whole, ratio_of, IsRatio}
 use Rattle.rg_case_folds.specs.Shown.{IsValueAt}
-use Rattle.rg_case_folds.proofs.FoldLemmas.{ratio_one, new_step}
+use Rattle.rg_folds.proofs.FoldLemmas.{ratio_one, new_step}
 use Rattle.rg_case_folds.proofs.Scaling.{whole_ratio}
 
 -- ---- the values at a set

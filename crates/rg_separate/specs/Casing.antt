@@ -10,7 +10,7 @@ use Rattle.rg_branch_trees.specs.Trees as splits
 use Rattle.rg_branch_trees.specs.Trees.{low_side, TreeNode.leaf_node, TreeNode.split_node}
 use Rattle.rg_branch_trees.specs.Turning.{turned}
 use Rattle.rg_linear.specs.Branching.{Form, form_at, SplitSide, Weight, weights_from, node_system}
-use Rattle.rg_case_folds.specs.Fold.{each}
+use Rattle.rg_folds.specs.Fold.{each}
 use Rattle.rg_case_folds.specs.Rewriting.{CaseSystem, split_forms, system_fold}
 use Rattle.rg_case_folds.specs.Spreading.{Share, share_fold, spread_fold}
 use Rattle.rg_case_folds.specs.Shown.{IsLive, named_sides}

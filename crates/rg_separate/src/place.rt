@@ -7,7 +7,7 @@ ghost use Rattle.rg_spanning.specs.Spanning.{IsTreeOf};
 ghost use Rattle.rg_cycles.specs.View.{labels_of, cycle_of};
 ghost use Rattle.rg_case_folds.specs.Setting.{setting_at};
 ghost use Rattle.rg_case_folds.specs.Rewriting.{column_count};
-ghost use Rattle.rg_case_folds.specs.Fold.{Comes};
+ghost use Rattle.rg_folds.specs.Fold.{Comes};
 ghost use Rattle.rg_case_folds.specs.Placing.{place_fold};
 ghost use Rattle.rg_net.specs.Shown.{shown_place};
 ghost use Rattle.rg_places.specs.PointValues.{point_start, point_value};

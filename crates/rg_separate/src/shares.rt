@@ -1,7 +1,7 @@
 //! The named rows of a leaf with their multipliers.
 ghost use Rattle.std.specs.Prelude.{◌≡◌, ◌+◌, ◌<◌, ◌≤ℤ◌, pos, length, map, All, IfOk};
 ghost use Rattle.rg_integers.specs.Range.{InRange};
-ghost use Rattle.rg_case_folds.specs.Fold.{Comes, whole, ratio_of, shown_result};
+ghost use Rattle.rg_folds.specs.Fold.{Comes, whole, ratio_of, shown_result};
 ghost use Rattle.rg_case_folds.specs.Rewriting.{CaseSystem};
 ghost use Rattle.rg_case_folds.specs.Spreading.{share_fold, name_of, split_factor, factor_of};
 ghost use Rattle.rg_branch.specs.View.{weight_of};

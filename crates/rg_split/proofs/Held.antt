@@ -26,7 +26,7 @@ use Rattle.rg_linear.specs.Branching.{SplitSide, weights_from, node_system}
 use Rattle.rg_cert_data.specs.Certificates.{IsFormOf, IsRowNameOf, IsVariableWithin}
 use Rattle.rg_case_folds.specs.Setting.{Setting, setting_at, case_at}
 use Rattle.rg_case_folds.specs.Chords.{IsBasis}
-use Rattle.rg_case_folds.specs.Fold.{and_then, gives, each, joined, further, whole, whole_sum, whole_product}
+use Rattle.rg_folds.specs.Fold.{and_then, gives, each, joined, further, whole, whole_sum, whole_product}
 use Rattle.rg_case_folds.specs.Rewriting.{CaseSystem, rows_of, system_fold}
 use Rattle.rg_case_folds.specs.Shown.{IsLive}
 use Rattle.rg_case_folds.specs.Meaning.{IsCaseOver}

@@ -1,4 +1,4 @@
-use Rattle.rg_case_folds.proofs.FoldLemmas.{new_step, add_step, mul_step}
+use Rattle.rg_folds.proofs.FoldLemmas.{new_step, add_step, mul_step}
 use Rattle.rg_case_folds.proofs.folds.calls_are_steps.Goals as goal
 
 pub returns-clause-new : goal.returns-clause-new

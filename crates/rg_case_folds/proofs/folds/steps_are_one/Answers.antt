@@ -1,4 +1,4 @@
-use Rattle.rg_case_folds.proofs.FoldLemmas.{quotient_one, term_one, add_one, mul_one, multiple_one}
+use Rattle.rg_folds.proofs.FoldLemmas.{quotient_one, term_one, add_one, mul_one, multiple_one}
 use Rattle.rg_case_folds.proofs.folds.steps_are_one.Goals as goal
 
 pub returns-clause-quotient : goal.returns-clause-quotient

@@ -1,5 +1,5 @@
-use Rattle.rg_case_folds.specs.Rewriting.{dependent_term}
-use Rattle.rg_case_folds.proofs.Zeros.{count_adds_nothing, entry_adds_nothing, plus_zero, passes_over, fraction_within}
+use Rattle.rg_folds.specs.Substitution.{dependent_term}
+use Rattle.rg_folds.proofs.Zeros.{count_adds_nothing, entry_adds_nothing, plus_zero, passes_over, fraction_within}
 use Rattle.rg_case_folds.proofs.folds.zeros_add_nothing.Goals as goal
 
 pub returns : goal.returns

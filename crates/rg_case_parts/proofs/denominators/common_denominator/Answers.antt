@@ -4,7 +4,7 @@ use Rattle.std.specs.Int.{w128, cast_signed}
 use Rattle.std.proofs.lemmas.List.{length-map, get_or-map}
 use Rattle.rg_integers.proofs.Casts.{back}
 use Rattle.rg_fraction.specs.Fractions.{denominator_of}
-use Rattle.rg_case_folds.specs.Fold.{common_multiple, multiple_of_all}
+use Rattle.rg_folds.specs.Fold.{common_multiple, multiple_of_all}
 use Rattle.rg_case_folds.proofs.Signs.{multiple_positive}
 use Rattle.rg_case_parts.proofs.Multiples.{multiple_next, multiple_fails}
 use Rattle.rg_case_parts.proofs.denominators.common_denominator.Goals as goal

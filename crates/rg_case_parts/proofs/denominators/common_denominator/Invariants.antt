@@ -3,7 +3,7 @@ use Rattle.std.specs.Prelude.{ℤ, pos, ◌<ℤ◌}
 use Rattle.rg_integers.specs.Range.{InRange}
 use Rattle.rg_integers.specs.declared.term.Wide.{Wide}
 use Rattle.rg_fraction.specs.Fractions.{denominator_of}
-use Rattle.rg_case_folds.specs.Fold.{gives, further, common_multiple, multiple_of_all}
+use Rattle.rg_folds.specs.Fold.{gives, further, common_multiple, multiple_of_all}
 use Rattle.rg_case_parts.proofs.denominators.common_denominator.Given as goal
 
 abbrev pub invariant-loop-fraction : goal.invariant-loop-fraction

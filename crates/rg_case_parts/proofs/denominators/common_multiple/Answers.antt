@@ -3,7 +3,7 @@ use Rattle.std.specs.Prelude.{pos}
 use Rattle.std.specs.Int.{w128, cast_signed, cast_unsigned}
 use Rattle.rg_integers.proofs.Casts.{back}
 use Rattle.rg_fraction.proofs.Ones.{is_one}
-use Rattle.rg_case_folds.specs.Fold.{common_multiple}
+use Rattle.rg_folds.specs.Fold.{common_multiple}
 use Rattle.rg_case_parts.proofs.Multiples.{multiple_with_one}
 use Rattle.rg_case_parts.proofs.denominators.common_multiple.Goals as goal
 

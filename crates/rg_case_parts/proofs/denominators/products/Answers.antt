@@ -3,10 +3,10 @@ use Rattle.std.specs.Prelude.{pos}
 use Rattle.std.specs.Int.{w128, cast_signed, cast_unsigned}
 use Rattle.std.proofs.lemmas.List.{length-map, get_or-map}
 use Rattle.rg_integers.proofs.Casts.{back}
-use Rattle.rg_case_folds.specs.Fold.{ratio_of, whole, each, mul, shown_result}
-use Rattle.rg_case_folds.proofs.FoldLemmas.{mul_step}
+use Rattle.rg_folds.specs.Fold.{ratio_of, whole, each, mul, shown_result}
+use Rattle.rg_folds.proofs.FoldLemmas.{mul_step}
 use Rattle.rg_fraction.specs.declared.fold_stop.FoldStop.TheVariants as stop
-use Rattle.rg_case_folds.proofs.Folding.{whole_is}
+use Rattle.rg_folds.proofs.Folding.{whole_is}
 use Rattle.rg_case_folds.proofs.Items.{map_push}
 use Rattle.rg_case_folds.proofs.Items.{item_next, item_fails, items_end}
 use Rattle.rg_fraction.proofs.Ones.{is_one}

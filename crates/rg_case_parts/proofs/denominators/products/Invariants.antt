@@ -1,7 +1,7 @@
 use Rattle.std.proofs.Common.{map, drop, List, Result}
 use Rattle.rg_integers.specs.declared.term.Wide.{Wide}
-use Rattle.rg_case_folds.specs.Fold.{Ratio, ratio_of, whole, each, mul}
-use Rattle.rg_case_folds.proofs.Folding.{behind}
+use Rattle.rg_folds.specs.Fold.{Ratio, ratio_of, whole, each, mul}
+use Rattle.rg_folds.proofs.Folding.{behind}
 use Rattle.rg_case_parts.proofs.denominators.products.Given as goal
 
 abbrev pub invariant-loop-fraction : goal.invariant-loop-fraction

@@ -3,7 +3,7 @@ use Rattle.std.specs.Prelude.{pos}
 use Rattle.std.specs.Int.{w128, cast_signed, cast_unsigned}
 use Rattle.std.proofs.lemmas.List.{length-map}
 use Rattle.rg_integers.proofs.Casts.{back}
-use Rattle.rg_case_folds.specs.Fold.{ratio_of, whole, mul, each, multiple_of_all}
+use Rattle.rg_folds.specs.Fold.{ratio_of, whole, mul, each, multiple_of_all}
 use Rattle.rg_case_folds.specs.Rewriting.{scaled_fold}
 use Rattle.rg_fraction.specs.Fractions.{numerator_of}
 use Rattle.rg_fraction.proofs.Ones.{is_one}

@@ -3,12 +3,12 @@ use Rattle.std.specs.Prelude.{slice_index}
 use Rattle.rg_integers.specs.Range.{InRange}
 use Rattle.rg_integers.specs.Sum.{number_at}
 use Rattle.rg_integers.proofs.Casts.{back}
-use Rattle.rg_case_folds.specs.Fold.{ratio_of, shown_result}
-use Rattle.rg_case_folds.specs.Rewriting.{free_labels}
+use Rattle.rg_folds.specs.Fold.{ratio_of, shown_result}
+use Rattle.rg_folds.specs.Substitution.{free_labels}
 use Rattle.rg_cycles.specs.View.{labels_of, cycle_of}
 use Rattle.rg_cycles.proofs.Folding.{free_below, leads_end, leads_with, passes_with, stepped}
 use Rattle.rg_cycles.proofs.Counted.{counted_start, other_below, other_outside}
-use Rattle.rg_case_folds.proofs.Folding.{whole_is}
+use Rattle.rg_folds.proofs.Folding.{whole_is}
 use Rattle.rg_cycles.proofs.substitution.coefficient.Goals as goal
 use Rattle.rg_cycles.proofs.substitution.coefficient.Goals.{in-Some+in_ok-sum, in_default}
 

@@ -1,7 +1,7 @@
 use Rattle.std.proofs.Common.{drop}
 use Rattle.std.specs.Prelude.{slice_index}
-use Rattle.rg_case_folds.specs.Fold.{ratio_of}
-use Rattle.rg_case_folds.specs.Rewriting.{free_labels}
+use Rattle.rg_folds.specs.Fold.{ratio_of}
+use Rattle.rg_folds.specs.Substitution.{free_labels}
 use Rattle.rg_cycles.specs.View.{labels_of, cycle_of}
 use Rattle.rg_cycles.proofs.Folding.{AddsOn}
 use Rattle.rg_cycles.proofs.substitution.coefficient.Given as goal

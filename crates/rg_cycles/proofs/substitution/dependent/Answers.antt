@@ -1,7 +1,7 @@
 use Rattle.std.proofs.Common.{not, ap, sym, ◌∙◌}
 use Rattle.rg_cycles.specs.View.{cycle_of}
-use Rattle.rg_case_folds.specs.Rewriting.{is_in, dependent_labels}
-use Rattle.rg_case_folds.proofs.Folding.{number_taken, number_left}
+use Rattle.rg_folds.specs.Substitution.{is_in, dependent_labels}
+use Rattle.rg_folds.proofs.Folding.{number_taken, number_left}
 use Rattle.rg_cycles.proofs.substitution.dependent.Goals as goal
 use Rattle.rg_cycles.proofs.substitution.dependent.Goals.{then-not-is_free+in_ok-push, else-not-is_free}
 

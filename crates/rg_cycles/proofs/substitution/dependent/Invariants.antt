@@ -1,6 +1,6 @@
 use Rattle.std.proofs.Common.{◌≡◌, ◌-◌, ◌++◌, not}
 use Rattle.rg_cycles.specs.View.{cycle_of}
-use Rattle.rg_case_folds.specs.Rewriting.{is_in, numbers_where, dependent_labels}
+use Rattle.rg_folds.specs.Substitution.{is_in, numbers_where, dependent_labels}
 use Rattle.rg_cycles.proofs.substitution.dependent.Given as goal
 
 abbrev pub invariant-loop-t : goal.invariant-loop-t

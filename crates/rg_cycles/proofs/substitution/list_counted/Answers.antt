@@ -4,8 +4,8 @@ use Rattle.std.specs.Ordering.{int_eq}
 use Rattle.std.specs.Int.{w128, cast_unsigned}
 use Rattle.rg_integers.specs.Sum.{number_at}
 use Rattle.rg_integers.proofs.Casts.{back}
-use Rattle.rg_case_folds.specs.Rewriting.{is_in}
-use Rattle.rg_case_folds.proofs.Folding.{number_taken, number_left}
+use Rattle.rg_folds.specs.Substitution.{is_in}
+use Rattle.rg_folds.proofs.Folding.{number_taken, number_left}
 use Rattle.rg_cycles.specs.View.{labels_of, cycle_of, counted_labels}
 use Rattle.rg_cycles.proofs.AddsNothing.{zero_of_bits}
 use Rattle.rg_cycles.proofs.Counted.{is_counted, is_zero, is_inside}

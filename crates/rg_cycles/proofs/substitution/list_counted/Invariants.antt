@@ -2,7 +2,7 @@ use Rattle.std.proofs.Common.{◌≡◌, ◌-◌, ◌++◌, not, ◌&&◌}
 use Rattle.std.specs.Prelude.{pos}
 use Rattle.std.specs.Ordering.{int_eq}
 use Rattle.rg_integers.specs.Sum.{number_at}
-use Rattle.rg_case_folds.specs.Rewriting.{is_in, numbers_where}
+use Rattle.rg_folds.specs.Substitution.{is_in, numbers_where}
 use Rattle.rg_cycles.specs.View.{labels_of, cycle_of, counted_labels}
 use Rattle.rg_cycles.proofs.substitution.list_counted.Given as goal
 

@@ -1,8 +1,8 @@
 use Rattle.std.proofs.Common.{rules, ◌≡◌, ◌<◌, ◌≤◌, Err, map, length, ap, subst, ◌∙◌}
 use Rattle.std.proofs.lemmas.List.{map-append}
 use Rattle.rg_integers.specs.Sum.{number_at}
-use Rattle.rg_case_folds.specs.Fold.{ratio_of}
-use Rattle.rg_case_folds.specs.Rewriting.{free_labels, coefficient_fold}
+use Rattle.rg_folds.specs.Fold.{ratio_of}
+use Rattle.rg_folds.specs.Substitution.{free_labels, coefficient_fold}
 use Rattle.rg_fraction.specs.declared.fold_stop.FoldStop.TheVariants as stop
 use Rattle.rg_cycles.specs.View.{labels_of, cycle_of}
 use Rattle.rg_cycles.proofs.Folding.{index_next, index_fails, indices_end}

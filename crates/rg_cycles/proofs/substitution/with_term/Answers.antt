@@ -3,8 +3,8 @@ use Rattle.rg_integers.specs.Sum.{number_at}
 use Rattle.rg_integers.proofs.Casts.{back}
 use Rattle.rg_integers.proofs.Order.{positive_differs}
 use Rattle.std.proofs.lemmas.List.{get_or_default}
-use Rattle.rg_case_folds.specs.Fold.{and_then, whole, ratio_of, quotient, mul}
-use Rattle.rg_case_folds.proofs.FoldLemmas.{add_step}
+use Rattle.rg_folds.specs.Fold.{and_then, whole, ratio_of, quotient, mul}
+use Rattle.rg_folds.proofs.FoldLemmas.{add_step}
 use Rattle.rg_cycles.proofs.AddsNothing.{entry_passed_over, term_added}
 use Rattle.rg_cycles.proofs.substitution.with_term.Goals as goal
 

@@ -6,7 +6,7 @@ use Rattle.std.proofs.lemmas.List.{map-append}
 use Rattle.std.proofs.Math.Seq.{take-suc}
 use Rattle.rg_integers.specs.Sum.{number_at}
 use Rattle.rg_integers.proofs.Casts.{back}
-use Rattle.rg_case_folds.specs.Rewriting.{free_labels}
+use Rattle.rg_folds.specs.Substitution.{free_labels}
 use Rattle.rg_cycles.specs.View.{labels_of, cycle_of}
 use Rattle.rg_cycles.proofs.Folding.{free_below}
 use Rattle.rg_cycles.proofs.whole.own_counts.Goals as goal

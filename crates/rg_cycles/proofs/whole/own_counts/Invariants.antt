@@ -1,6 +1,6 @@
 use Rattle.std.proofs.Common.{◌≡◌, map, take}
 use Rattle.rg_integers.specs.Sum.{number_at}
-use Rattle.rg_case_folds.specs.Rewriting.{free_labels}
+use Rattle.rg_folds.specs.Substitution.{free_labels}
 use Rattle.rg_cycles.specs.View.{labels_of, cycle_of}
 use Rattle.rg_cycles.proofs.whole.own_counts.Given as goal
 

@@ -1,8 +1,8 @@
 use Rattle.std.proofs.Common.{◌≡◌, ◌<◌, rules, length, map, vec_len, ap, subst, sym, ◌∙◌, arith}
 use Rattle.std.proofs.lemmas.List.{length-map}
 use Rattle.rg_integers.specs.Sum.{number_at}
-use Rattle.rg_case_folds.specs.Fold.{whole}
-use Rattle.rg_case_folds.specs.Rewriting.{free_labels, coefficient_fold}
+use Rattle.rg_folds.specs.Fold.{whole}
+use Rattle.rg_folds.specs.Substitution.{free_labels, coefficient_fold}
 use Rattle.rg_cycles.specs.View.{labels_of, cycle_of}
 use Rattle.rg_cycles.proofs.WholeSteps.{each_of_all, written_back}
 use Rattle.rg_cycles.proofs.whole.whole_sums.Goals as goal

@@ -1,6 +1,6 @@
 use Rattle.std.proofs.Common.{rules, ◌≡◌, ◌+◌, Err, map}
 use Rattle.rg_theory.specs.System.{labels}
-use Rattle.rg_case_folds.specs.Fold.{ratio_of}
+use Rattle.rg_folds.specs.Fold.{ratio_of}
 use Rattle.rg_case_parts.specs.SettingViews.{shown_setting}
 use Rattle.rg_farkas.specs.View.{counted_of}
 use Rattle.rg_farkas.proofs.ChordNumbers.{share_unsummed, share_made}

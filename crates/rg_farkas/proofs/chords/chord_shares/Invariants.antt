@@ -1,9 +1,9 @@
 use Rattle.std.proofs.Common.{map, drop, List, ◌+◌, Result}
 use Rattle.rg_theory.specs.System.{labels}
 use Rattle.rg_integers.specs.declared.term.Wide.{Wide}
-use Rattle.rg_case_folds.specs.Fold.{each, Ratio, ratio_of}
+use Rattle.rg_folds.specs.Fold.{each, Ratio, ratio_of}
 use Rattle.rg_case_parts.specs.SettingViews.{shown_setting}
-use Rattle.rg_case_folds.proofs.Folding.{behind}
+use Rattle.rg_folds.proofs.Folding.{behind}
 use Rattle.rg_farkas.specs.View.{counted_of, counts_fold}
 use Rattle.rg_farkas.proofs.chords.chord_shares.Given as goal
 

@@ -1,7 +1,7 @@
 use Rattle.std.proofs.Common.{rules, ◌≡◌, ◌+◌, Err, Ok, sym, ◌∙◌}
 use Rattle.rg_theory.specs.System.{labels}
-use Rattle.rg_case_folds.specs.Fold.{ratio_of}
-use Rattle.rg_case_folds.proofs.FoldLemmas.{add_step}
+use Rattle.rg_folds.specs.Fold.{ratio_of}
+use Rattle.rg_folds.proofs.FoldLemmas.{add_step}
 use Rattle.rg_case_parts.specs.SettingViews.{shown_setting}
 use Rattle.rg_farkas.specs.View.{count_fold}
 use Rattle.rg_farkas.proofs.ChordNumbers.{IsDependent, first_count, rest_count, no_counts, first_fails, first_made, next_fails, next_unjoined, next_made, counts_end}

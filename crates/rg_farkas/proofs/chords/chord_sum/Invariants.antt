@@ -2,7 +2,7 @@ use Rattle.std.proofs.Common.{map, drop, ◌+◌, Result}
 use Rattle.std.specs.Prelude.{pos}
 use Rattle.rg_theory.specs.System.{labels}
 use Rattle.rg_integers.specs.declared.term.Wide.{Wide}
-use Rattle.rg_case_folds.specs.Fold.{further, joined, add, whole, Ratio, ratio_of}
+use Rattle.rg_folds.specs.Fold.{further, joined, add, whole, Ratio, ratio_of}
 use Rattle.rg_case_parts.specs.SettingViews.{shown_setting}
 use Rattle.rg_farkas.specs.View.{counted_of, count_fold}
 use Rattle.rg_farkas.proofs.chords.chord_sum.Given as goal

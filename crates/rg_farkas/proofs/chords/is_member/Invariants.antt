@@ -1,5 +1,5 @@
 use Rattle.std.proofs.Common.{◌≡◌, drop}
-use Rattle.rg_case_folds.specs.Rewriting.{is_in}
+use Rattle.rg_folds.specs.Substitution.{is_in}
 use Rattle.rg_farkas.proofs.chords.is_member.Given as goal
 
 abbrev pub invariant-loop-m : goal.invariant-loop-m

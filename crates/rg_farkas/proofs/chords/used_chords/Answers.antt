@@ -1,9 +1,9 @@
 use Rattle.std.proofs.Common.{◌+◌, ◌<◌, length, ap, ap₂, subst, sym, ◌∙◌}
 use Rattle.rg_theory.specs.System.{labels}
 use Rattle.rg_case_parts.specs.SettingViews.{shown_setting}
-use Rattle.rg_case_folds.specs.Rewriting.{is_in}
+use Rattle.rg_folds.specs.Substitution.{is_in}
 use Rattle.rg_case_folds.specs.Spreading.{used_chords}
-use Rattle.rg_case_folds.proofs.Folding.{number_taken, number_left}
+use Rattle.rg_folds.proofs.Folding.{number_taken, number_left}
 use Rattle.rg_farkas.proofs.chords.used_chords.Goals as goal
 use Rattle.rg_farkas.proofs.chords.used_chords.Goals.{then-is_member+in_ok-push, else-is_member}
 

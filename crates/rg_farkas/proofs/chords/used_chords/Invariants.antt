@@ -1,7 +1,7 @@
 use Rattle.std.proofs.Common.{◌≡◌, ◌+◌, ◌-◌, ◌++◌, length}
 use Rattle.rg_theory.specs.System.{labels}
 use Rattle.rg_case_parts.specs.SettingViews.{shown_setting}
-use Rattle.rg_case_folds.specs.Rewriting.{is_in, numbers_where}
+use Rattle.rg_folds.specs.Substitution.{is_in, numbers_where}
 use Rattle.rg_case_folds.specs.Spreading.{used_chords}
 use Rattle.rg_farkas.proofs.chords.used_chords.Given as goal
 

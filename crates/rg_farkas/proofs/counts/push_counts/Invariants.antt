@@ -1,5 +1,5 @@
 use Rattle.std.proofs.Common.{◌≡◌, ◌++◌, map, drop}
-use Rattle.rg_case_folds.specs.Fold.{ratio_of}
+use Rattle.rg_folds.specs.Fold.{ratio_of}
 use Rattle.rg_cert_data.specs.Sums.{terms_in}
 use Rattle.rg_farkas.specs.View.{counted_of, label_count}
 use Rattle.rg_farkas.proofs.counts.push_counts.Given as goal

@@ -1,7 +1,7 @@
 use Rattle.std.proofs.Common.{◌≡◌, ◌++◌, map, drop}
 use Rattle.rg_theory.specs.System.{labels}
 use Rattle.rg_case_parts.specs.SettingViews.{shown_case}
-use Rattle.rg_case_folds.specs.Rewriting.{dependent_labels}
+use Rattle.rg_folds.specs.Substitution.{dependent_labels}
 use Rattle.rg_case_folds.specs.Spreading.{pairs_of}
 use Rattle.rg_farkas.specs.Leaves.{share_of, said_in}
 use Rattle.rg_farkas.specs.View.{counted_of, pair_count}

@@ -3,7 +3,7 @@ use Rattle.rg_theory.specs.System.{IsArcBefore}
 use Rattle.rg_integers.specs.Range.{InRange}
 use Rattle.rg_case_parts.specs.SettingViews.{shown_case}
 use Rattle.rg_cert_data.specs.Trees.{named_row}
-use Rattle.rg_case_folds.specs.Fold.{ratio_of}
+use Rattle.rg_folds.specs.Fold.{ratio_of}
 use Rattle.rg_case_folds.specs.Rewriting.{scaled_fold}
 use Rattle.rg_case_folds.specs.Spreading.{chord_arcs, tree_fold, leaf_fold, checked_leaf}
 use Rattle.rg_farkas.specs.Leaves.{share_of, said_in}

@@ -2,7 +2,7 @@ use Rattle.std.proofs.Common.{drop, Result}
 use Rattle.std.specs.Prelude.{ℤ, pos}
 use Rattle.rg_integers.specs.Range.{InRange}
 use Rattle.rg_integers.specs.declared.term.Wide.{Wide}
-use Rattle.rg_case_folds.specs.Fold.{further, whole_sum}
+use Rattle.rg_folds.specs.Fold.{further, whole_sum}
 use Rattle.rg_farkas.specs.View.{size_fold, coefficient_at}
 use Rattle.rg_farkas.proofs.sizes.coefficient_sizes.Given as goal
 

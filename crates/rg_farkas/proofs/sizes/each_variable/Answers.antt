@@ -2,8 +2,8 @@ use Rattle.std.proofs.Common.{rules, ◌≡◌, ◌∙◌, ◌++◌, ◌∷◌, 
 use Rattle.std.specs.Prelude.{pos}
 use Rattle.rg_integers.specs.declared.term.Wide.{Wide}
 use Rattle.rg_fraction.specs.declared.fold_stop.FoldStop.TheVariants as stop
-use Rattle.rg_case_folds.proofs.Folding.{each_start}
-use Rattle.rg_case_folds.specs.Fold.{each, further, whole_sum}
+use Rattle.rg_folds.proofs.Folding.{each_start}
+use Rattle.rg_folds.specs.Fold.{each, further, whole_sum}
 use Rattle.rg_case_folds.specs.Spreading.{variables_of}
 use Rattle.rg_farkas.specs.View.{size_fold, coefficient_at}
 use Rattle.rg_farkas.proofs.Told.{variable_fails, variable_next, variables_end}

@@ -1,8 +1,8 @@
 use Rattle.std.proofs.Common.{drop, List, Result}
 use Rattle.std.specs.Prelude.{ℤ, pos}
 use Rattle.rg_integers.specs.declared.term.Wide.{Wide}
-use Rattle.rg_case_folds.specs.Fold.{each, further, whole_sum}
-use Rattle.rg_case_folds.proofs.Folding.{behind}
+use Rattle.rg_folds.specs.Fold.{each, further, whole_sum}
+use Rattle.rg_folds.proofs.Folding.{behind}
 use Rattle.rg_farkas.specs.View.{size_fold, coefficient_at}
 use Rattle.rg_farkas.proofs.sizes.each_variable.Given as goal
 

@@ -1,6 +1,7 @@
 use Rattle.std.proofs.Common.{◌≡◌, ◌-◌, ◌++◌, map, true}
 use Rattle.rg_theory.specs.System.{states, labels}
-use Rattle.rg_case_folds.specs.Rewriting.{numbers_where, all_numbers}
+use Rattle.rg_folds.specs.Substitution.{numbers_where}
+use Rattle.rg_case_folds.specs.Rewriting.{all_numbers}
 use Rattle.rg_farkas.proofs.sizes.variables.Given as goal
 use Rattle.rg_cert_meaning.specs.declared.Variable.TheVariants.{Tokens, Effect}
 

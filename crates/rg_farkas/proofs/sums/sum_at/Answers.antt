@@ -1,7 +1,7 @@
 use Rattle.std.proofs.Common.{rules, ◌≡◌, Err, map}
 use Rattle.std.specs.Prelude.{pos}
 use Rattle.rg_integers.proofs.Casts.{back}
-use Rattle.rg_case_folds.specs.Fold.{whole_sum}
+use Rattle.rg_folds.specs.Fold.{whole_sum}
 use Rattle.rg_case_folds.specs.Spreading.{addend_fold, leaving}
 use Rattle.rg_farkas.specs.View.{arc_times, row_addend}
 use Rattle.rg_farkas.proofs.Steps.{further-append, further-fails}

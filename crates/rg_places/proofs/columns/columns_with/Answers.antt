@@ -1,7 +1,7 @@
 use Rattle.std.proofs.Common.{◌≡◌, ◌<◌, ◌≤◌, length, ap, refl, subst, sym, ◌∙◌, arith}
 use Rattle.std.specs.Prelude.{slice_index}
 use Rattle.rg_theory.specs.System.{labels}
-use Rattle.rg_case_folds.specs.Rewriting.{free_labels}
+use Rattle.rg_folds.specs.Substitution.{free_labels}
 use Rattle.rg_cycles.specs.View.{cycle_of}
 use Rattle.rg_cycles.proofs.Folding.{free_below}
 use Rattle.rg_places.proofs.ColumnSteps.{columns_start, columns_passed, columns_taken, value_within, columns_end, values_end}

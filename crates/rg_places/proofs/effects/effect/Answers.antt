@@ -1,5 +1,5 @@
 use Rattle.std.proofs.Common.{subst, sym}
-use Rattle.rg_case_folds.specs.Fold.{ratio_of, shown_result}
+use Rattle.rg_folds.specs.Fold.{ratio_of, shown_result}
 use Rattle.rg_cycles.specs.View.{cycle_of}
 use Rattle.rg_cycles.specs.Basis.{ShowsRelation}
 use Rattle.rg_places.proofs.ShareSteps.{dependent_made, indices_within, free_made}

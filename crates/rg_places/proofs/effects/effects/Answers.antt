@@ -2,11 +2,11 @@ use Rattle.std.proofs.Common.{rules, ◌≡◌, ◌<◌, ◌≤◌, Err, ap, sub
 use Rattle.std.specs.Prelude.{pos}
 use Rattle.std.proofs.lemmas.List.{map-append}
 use Rattle.rg_theory.specs.System.{labels}
-use Rattle.rg_case_folds.specs.Fold.{ratio_of, shown_result}
+use Rattle.rg_folds.specs.Fold.{ratio_of, shown_result}
 use Rattle.rg_case_folds.specs.Placing.{effect_fold}
 use Rattle.rg_fraction.specs.declared.fold_stop.FoldStop.TheVariants as stop
 use Rattle.rg_cycles.specs.View.{cycle_of}
-use Rattle.rg_case_folds.proofs.Folding.{whole_is}
+use Rattle.rg_folds.proofs.Folding.{whole_is}
 use Rattle.rg_places.specs.PointValues.{ratios_of}
 use Rattle.rg_places.specs.Steps.{value_by}
 use Rattle.rg_places.proofs.FractionSteps.{ratio_there}

@@ -1,11 +1,11 @@
 use Rattle.std.proofs.Common.{rules, ◌≡◌, ◌<◌, Err, length, subst, sym, ◌∙◌}
 use Rattle.std.specs.Prelude.{pos}
-use Rattle.rg_case_folds.specs.Fold.{joined, add, whole, ratio_of}
-use Rattle.rg_case_folds.proofs.FoldLemmas.{add_step}
-use Rattle.rg_case_folds.proofs.Folding.{whole_is}
+use Rattle.rg_folds.specs.Fold.{joined, add, whole, ratio_of}
+use Rattle.rg_folds.proofs.FoldLemmas.{add_step}
+use Rattle.rg_folds.proofs.Folding.{whole_is}
 use Rattle.rg_integers.specs.Sum.{number_at}
 use Rattle.rg_integers.proofs.Order.{positive_differs}
-use Rattle.rg_case_folds.proofs.Zeros.{plus_zero, fraction_within}
+use Rattle.rg_folds.proofs.Zeros.{plus_zero, fraction_within}
 use Rattle.rg_cycles.proofs.AddsNothing.{zero_of_bits, plus_none, value_adds_nothing}
 use Rattle.rg_places.specs.Steps.{column_share}
 use Rattle.rg_places.proofs.FractionSteps.{joined_none}

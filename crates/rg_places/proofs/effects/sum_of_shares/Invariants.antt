@@ -1,4 +1,4 @@
-use Rattle.rg_case_folds.specs.Fold.{joined, add, whole, ratio_of}
+use Rattle.rg_folds.specs.Fold.{joined, add, whole, ratio_of}
 use Rattle.std.specs.Prelude.{pos}
 use Rattle.rg_places.specs.Steps.{column_share}
 use Rattle.rg_places.proofs.FoldSteps.{SumLeads}

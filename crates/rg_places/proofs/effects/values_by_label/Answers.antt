@@ -2,7 +2,7 @@ use Rattle.std.proofs.Common.{rules, ◌≡◌, replicate, ap, ◌∙◌, arith}
 use Rattle.std.specs.Prelude.{pos}
 use Rattle.rg_theory.specs.System.{labels}
 use Rattle.rg_cycles.specs.View.{cycle_of}
-use Rattle.rg_case_folds.proofs.Folding.{whole_is}
+use Rattle.rg_folds.proofs.Folding.{whole_is}
 use Rattle.rg_places.proofs.ShareSteps.{column_value}
 use Rattle.rg_places.proofs.LabelValues.{column_below, values_start, values_next, values_end}
 use Rattle.rg_places.proofs.effects.values_by_label.Goals as goal

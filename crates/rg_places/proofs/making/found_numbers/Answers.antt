@@ -1,7 +1,7 @@
 use Rattle.std.proofs.Common.{rules, ◌≡◌, [], ◌∷◌, ◌++◌, Err, Ok, ap, sym, subst, ◌∙◌, Vec, Global}
 use Rattle.std.proofs.lemmas.List.{length-map, map-append}
 use Rattle.rg_theory.specs.System.{labels}
-use Rattle.rg_case_folds.specs.Fold.{each, ratio_of}
+use Rattle.rg_folds.specs.Fold.{each, ratio_of}
 use Rattle.rg_case_folds.specs.Rewriting.{all_numbers}
 use Rattle.rg_case_folds.specs.Placing.{effect_fold, made_whole}
 use Rattle.rg_case_parts.specs.SettingViews.{shown_setting}

@@ -1,6 +1,6 @@
 use Rattle.std.proofs.Common.{rules, ◌≡◌, Err, Ok, map, unsigned_abs, ap, sym, ◌∙◌}
 use Rattle.std.proofs.lemmas.List.{length-map}
-use Rattle.rg_case_folds.specs.Fold.{Ratio, ratio_of}
+use Rattle.rg_folds.specs.Fold.{Ratio, ratio_of}
 use Rattle.rg_case_folds.specs.Shown.{IsLive}
 use Rattle.rg_case_folds.specs.Placing.{place_fold}
 use Rattle.rg_net.specs.Shown.{shown_place}

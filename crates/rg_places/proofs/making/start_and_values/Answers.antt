@@ -1,8 +1,8 @@
 use Rattle.std.proofs.Common.{if◌then◌else◌, ap, sym, ◌∙◌}
 use Rattle.std.specs.Prelude.{pos}
-use Rattle.rg_case_folds.specs.Fold.{whole}
+use Rattle.rg_folds.specs.Fold.{whole}
 use Rattle.rg_case_folds.specs.Placing.{ratio_at}
-use Rattle.rg_case_folds.proofs.Folding.{whole_is}
+use Rattle.rg_folds.proofs.Folding.{whole_is}
 use Rattle.rg_places.specs.PointValues.{ratios_of}
 use Rattle.rg_places.proofs.making.start_and_values.Goals as goal
 

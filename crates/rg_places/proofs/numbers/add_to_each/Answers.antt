@@ -1,6 +1,6 @@
 use Rattle.std.proofs.Common.{rules, ◌≡◌, Err, ap, ◌∙◌}
 use Rattle.std.proofs.lemmas.List.{map-append}
-use Rattle.rg_case_folds.specs.Fold.{ratio_of, add}
+use Rattle.rg_folds.specs.Fold.{ratio_of, add}
 use Rattle.rg_places.proofs.FractionSteps.{add_step}
 use Rattle.rg_fraction.specs.declared.fold_stop.FoldStop.TheVariants as stop
 use Rattle.rg_places.specs.PointValues.{ratios_of}

@@ -1,4 +1,4 @@
-use Rattle.rg_case_folds.specs.Fold.{add, ratio_of}
+use Rattle.rg_folds.specs.Fold.{add, ratio_of}
 use Rattle.rg_places.specs.PointValues.{ratios_of}
 use Rattle.rg_places.proofs.FoldSteps.{EachLeads}
 use Rattle.rg_places.proofs.numbers.add_to_each.Given as goal

@@ -2,7 +2,7 @@ use Rattle.std.proofs.Common.{rules, ◌≡◌, replicate, slice_index_or, Err, 
 use Rattle.std.proofs.lemmas.List.{length-map}
 use Rattle.rg_theory.specs.declared.Arc.{Arc}
 use Rattle.rg_theory.specs.System.{labels}
-use Rattle.rg_case_folds.specs.Fold.{ratio_of}
+use Rattle.rg_folds.specs.Fold.{ratio_of}
 use Rattle.rg_case_folds.specs.Placing.{along_tree, ratio_at}
 use Rattle.rg_fraction.specs.declared.fold_stop.FoldStop.TheVariants as stop
 use Rattle.rg_places.specs.PointValues.{ratios_of}

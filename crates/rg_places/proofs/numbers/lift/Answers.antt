@@ -2,7 +2,7 @@ use Rattle.std.proofs.Common.{◌<◌, unsigned_abs, length, ap, ap₂, sym, sub
 use Rattle.std.specs.Prelude.{pos}
 use Rattle.rg_theory.specs.System.{states}
 use Rattle.rg_integers.proofs.Casts.{back}
-use Rattle.rg_case_folds.specs.Fold.{whole, ratio_of}
+use Rattle.rg_folds.specs.Fold.{whole, ratio_of}
 use Rattle.rg_case_folds.specs.Placing.{missing, top_at}
 use Rattle.rg_places.specs.PointValues.{ratios_of}
 use Rattle.rg_places.proofs.FractionSteps.{top_there}

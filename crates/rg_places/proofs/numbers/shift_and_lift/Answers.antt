@@ -1,6 +1,6 @@
 use Rattle.std.proofs.Common.{rules, ◌≡◌, Err, sym, ◌∙◌, Vec, Global}
 use Rattle.std.proofs.lemmas.List.{length-map}
-use Rattle.rg_case_folds.specs.Fold.{ratio_of}
+use Rattle.rg_folds.specs.Fold.{ratio_of}
 use Rattle.rg_fraction.specs.declared.fraction.Fraction.{Fraction}
 use Rattle.rg_case_folds.specs.Placing.{shift_fold}
 use Rattle.rg_case_folds.proofs.Comes.{comes_by, comes_unless}

@@ -2,7 +2,7 @@ use Rattle.std.proofs.Common.{subst, ◌∙◌}
 use Rattle.std.specs.Prelude.{pos}
 use Rattle.rg_fraction.specs.Fractions.{IsValue}
 use Rattle.rg_integers.proofs.Casts.{back}
-use Rattle.rg_case_folds.proofs.Folding.{whole_is}
+use Rattle.rg_folds.proofs.Folding.{whole_is}
 use Rattle.rg_places.proofs.numbers.whole_number.Goals as goal
 
 pub returns : goal.returns

@@ -2,7 +2,7 @@ use Rattle.std.proofs.Common.{rules, ◌≡◌, ◌<◌, Err, arith, length}
 use Rattle.std.specs.Prelude.{pos}
 use Rattle.rg_integers.specs.Sum.{number_at}
 use Rattle.rg_integers.proofs.Casts.{back}
-use Rattle.rg_case_folds.specs.Fold.{whole_sum}
+use Rattle.rg_folds.specs.Fold.{whole_sum}
 use Rattle.rg_case_folds.specs.Placing.{top_at}
 use Rattle.rg_fraction.specs.declared.fold_stop.FoldStop.TheVariants as stop
 use Rattle.rg_places.specs.PointValues.{ratios_of}

@@ -1,6 +1,6 @@
 use Rattle.std.specs.Prelude.{length}
 use Rattle.rg_integers.specs.Sum.{number_at}
-use Rattle.rg_case_folds.specs.Fold.{whole_sum}
+use Rattle.rg_folds.specs.Fold.{whole_sum}
 use Rattle.rg_case_folds.specs.Rewriting.{all_numbers}
 use Rattle.rg_case_folds.specs.Placing.{top_at}
 use Rattle.rg_places.specs.PointValues.{ratios_of}

@@ -3,7 +3,7 @@ use Rattle.std.specs.Int.{w128, cast_signed, cast_unsigned}
 use Rattle.rg_integers.proofs.Casts.{back}
 use Rattle.rg_fraction.specs.declared.fraction.Fraction.{Fraction}
 use Rattle.rg_fraction.specs.Fractions.{denominator_of}
-use Rattle.rg_case_folds.specs.Fold.{each, mul, whole, ratio_of, multiple_of_all}
+use Rattle.rg_folds.specs.Fold.{each, mul, whole, ratio_of, multiple_of_all}
 use Rattle.rg_fraction.specs.declared.fold_stop.FoldStop.TheVariants as stop
 use Rattle.rg_case_parts.proofs.Multiples.{bottoms}
 use Rattle.rg_case_folds.specs.Placing.{made_whole}

@@ -2,7 +2,7 @@ use Rattle.std.proofs.Common.{List, map, subst, ◌∙◌, Vec, Global}
 use Rattle.std.specs.Int.{w128, cast_signed, cast_unsigned}
 use Rattle.rg_integers.proofs.Casts.{back}
 use Rattle.rg_fraction.specs.declared.fraction.Fraction.{Fraction}
-use Rattle.rg_case_folds.specs.Fold.{each, mul, whole, ratio_of}
+use Rattle.rg_folds.specs.Fold.{each, mul, whole, ratio_of}
 use Rattle.rg_case_folds.proofs.Found.{TimesMarking}
 use Rattle.rg_case_folds.proofs.Comes.{comes_by}
 use Rattle.rg_places.specs.PointValues.{ratios_of}

@@ -1,5 +1,5 @@
 use Rattle.std.proofs.Common.{map, ap, ◌∙◌}
-use Rattle.rg_case_folds.specs.Fold.{ratio_of}
+use Rattle.rg_folds.specs.Fold.{ratio_of}
 use Rattle.rg_linear.specs.View.{linear_row}
 use Rattle.rg_rows.proofs.copying.copy_kept.Goals as goal
 

@@ -1,6 +1,6 @@
 use Rattle.std.proofs.Common.{[], map, ap, ◌∙◌}
 use Rattle.std.proofs.lemmas.List.{take_all}
-use Rattle.rg_case_folds.specs.Fold.{shown_result}
+use Rattle.rg_folds.specs.Fold.{shown_result}
 use Rattle.rg_rows.specs.View.{kept_row}
 use Rattle.rg_rows.proofs.Copies.{told_next}
 use Rattle.rg_rows.proofs.copying.copy_rows.Goals as goal

@@ -1,5 +1,5 @@
 use Rattle.std.proofs.Common.{◌≡◌, map, take}
-use Rattle.rg_case_folds.specs.Fold.{shown_result}
+use Rattle.rg_folds.specs.Fold.{shown_result}
 use Rattle.rg_rows.specs.View.{kept_row}
 use Rattle.rg_rows.proofs.copying.copy_rows.Given as goal
 

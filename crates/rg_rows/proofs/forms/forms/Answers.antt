@@ -8,11 +8,11 @@ use Rattle.rg_integers.proofs.Casts.{back}
 use Rattle.std.specs.Prelude.{pos, ◌<ℤ◌}
 use Rattle.rg_case_parts.specs.SettingViews.{shown_setting, shown_case}
 use Rattle.rg_theory.specs.System.{states}
-use Rattle.rg_case_folds.proofs.Folding.{behind}
+use Rattle.rg_folds.proofs.Folding.{behind}
 use Rattle.rg_integers.specs.declared.term.Wide.{Wide}
 use Rattle.rg_linear.specs.Branching.{Form}
 use Rattle.rg_cert_meaning.specs.declared.Form.{Form as SplitForm}
-use Rattle.rg_case_folds.specs.Fold.{each}
+use Rattle.rg_folds.specs.Fold.{each}
 use Rattle.rg_rows.specs.declared.named_form.NamedForm.{NamedForm}
 use Rattle.rg_rows.specs.View.{kept_row, row_in, terms_of}
 use Rattle.rg_rows.specs.Forms.{linear_form, split_of, forms_in}

@@ -2,7 +2,7 @@ use Rattle.std.proofs.Common.{◌≡◌, Ok, Err, length, ap, subst, sym, ◌∙
 use Rattle.std.specs.Prelude.{[], IfOk}
 use Rattle.rg_cert_meaning.specs.Expression.{Expression}
 use Rattle.rg_cert_meaning.specs.Row.{row_expression}
-use Rattle.rg_case_folds.specs.Fold.{Comes, shown_result}
+use Rattle.rg_folds.specs.Fold.{Comes, shown_result}
 use Rattle.rg_case_folds.specs.Rewriting.{Scaled as ScaledNumbers, column_count, terms_fold}
 use Rattle.rg_case_parts.specs.SettingViews.{shown_setting, shown_case}
 use Rattle.std.specs.Arc.{arc_slice_items}

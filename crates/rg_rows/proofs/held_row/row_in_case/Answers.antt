@@ -1,7 +1,7 @@
 use Rattle.std.proofs.Common.{rules, ◌≡◌, Ok, Err, length, subst, sym}
 use Rattle.std.specs.Prelude.{IfOk}
 use Rattle.std.specs.Arc.{arc_slice_items}
-use Rattle.rg_case_folds.specs.Fold.{shown_result}
+use Rattle.rg_folds.specs.Fold.{shown_result}
 use Rattle.rg_case_folds.specs.Rewriting.{column_count, row_fold}
 use Rattle.rg_rows.specs.declared.case_row.CaseRow.{CaseRow}
 use Rattle.rg_rows.specs.View.{kept_row, row_in, fold_of}

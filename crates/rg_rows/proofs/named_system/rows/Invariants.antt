@@ -1,10 +1,10 @@
 use Rattle.std.proofs.Common.{◌≡◌, map, drop, length, List, Result, All}
 use Rattle.std.specs.Arc.{arc_slice_items}
 use Rattle.rg_integers.specs.declared.term.Wide.{Wide}
-use Rattle.rg_case_folds.specs.Fold.{each}
+use Rattle.rg_folds.specs.Fold.{each}
 use Rattle.rg_case_folds.specs.Rewriting.{KeptRow, column_count}
 use Rattle.rg_cycles.specs.View.{cycle_of}
-use Rattle.rg_case_folds.proofs.Folding.{behind}
+use Rattle.rg_folds.proofs.Folding.{behind}
 use Rattle.rg_rows.specs.View.{kept_row, row_in, fold_of}
 use Rattle.rg_rows.proofs.named_system.rows.Given as goal
 use Rattle.rg_case_parts.specs.SettingViews.{shown_case}

@@ -6,7 +6,7 @@ use Rattle.rg_fraction.specs.declared.fold_stop.FoldStop.TheVariants as stop
 use Rattle.rg_linear.specs.Firsts.{KeepsEqualRows}
 use Rattle.rg_cert_meaning.specs.declared.RowName.{RowName}
 use Rattle.rg_cert_meaning.specs.declared.Form.{Form}
-use Rattle.rg_case_folds.specs.Fold.{each}
+use Rattle.rg_folds.specs.Fold.{each}
 use Rattle.rg_case_folds.specs.Rewriting.{CaseSystem, IsIdle, KeptRow, column_count, names_of, form_fold, rows_of}
 use Rattle.rg_case_folds.specs.Meaning.{IsCaseOver}
 use Rattle.rg_linear.specs.System.{LinearSystem}

@@ -1,5 +1,6 @@
 use Rattle.std.proofs.Common.{◌≡◌, ◌-◌, ◌++◌, true, map}
-use Rattle.rg_case_folds.specs.Rewriting.{numbers_where, all_numbers}
+use Rattle.rg_folds.specs.Substitution.{numbers_where}
+use Rattle.rg_case_folds.specs.Rewriting.{all_numbers}
 use Rattle.rg_rows.proofs.names.push_caps.Given as goal
 use Rattle.rg_cert_meaning.specs.declared.RowName.TheVariants as row_name
 

@@ -1,6 +1,6 @@
 use Rattle.std.proofs.Common.{◌≡◌, ◌-◌, ◌++◌, false, map, length}
 use Rattle.std.specs.Prelude.{slice_index_or}
-use Rattle.rg_case_folds.specs.Rewriting.{numbers_where}
+use Rattle.rg_folds.specs.Substitution.{numbers_where}
 use Rattle.rg_rows.specs.View.{users}
 use Rattle.rg_rows.proofs.names.push_downs.Given as goal
 use Rattle.rg_cert_meaning.specs.declared.RowName.TheVariants as row_name

@@ -10,7 +10,7 @@ use Rattle.rg_fraction.specs.Fractions.{IsValue}
 use Rattle.rg_linear.specs.Norm.{row_norm, kept_norm}
 use Rattle.rg_linear.specs.Cycle.{IsZeroVector}
 use Rattle.rg_fraction.specs.Rows.{IsRowGcd, IsPrimitivePart}
-use Rattle.rg_case_folds.proofs.FoldLemmas.{new_step}
+use Rattle.rg_folds.proofs.FoldLemmas.{new_step}
 use Rattle.rg_case_parts.specs.WholeNumbers.{scaled_of}
 use Rattle.rg_rows.proofs.Dividing.{written_back, parts_in_range, bigger_is, row_divided}
 use Rattle.rg_rows.proofs.rewriting.divide_by_common.Goals as goal

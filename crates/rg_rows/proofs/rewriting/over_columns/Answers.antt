@@ -3,8 +3,9 @@ use Rattle.std.proofs.lemmas.List.{length-map}
 use Rattle.rg_theory.specs.System.{labels}
 use Rattle.rg_integers.specs.Sum.{number_at}
 use Rattle.rg_integers.proofs.Casts.{back}
-use Rattle.rg_case_folds.specs.Fold.{whole}
-use Rattle.rg_case_folds.specs.Rewriting.{free_labels, substitute_fold, coefficient_fold, column_count}
+use Rattle.rg_folds.specs.Fold.{whole}
+use Rattle.rg_folds.specs.Substitution.{free_labels, substitute_fold, coefficient_fold}
+use Rattle.rg_case_folds.specs.Rewriting.{column_count}
 use Rattle.rg_case_folds.proofs.Comes.{comes_by}
 use Rattle.rg_case_folds.proofs.Items.{each_length}
 use Rattle.rg_cycles.specs.View.{labels_of, cycle_of}

@@ -4,7 +4,7 @@ use Rattle.std.specs.Arc.{arc_slice_items}
 use Rattle.rg_integers.proofs.Casts.{back}
 use Rattle.rg_fraction.specs.Fractions.{IsValue}
 use Rattle.rg_case_parts.specs.SettingViews.{shown_setting}
-use Rattle.rg_case_folds.specs.Fold.{ratio_of}
+use Rattle.rg_folds.specs.Fold.{ratio_of}
 use Rattle.rg_case_folds.specs.Rewriting.{row_fold}
 use Rattle.rg_fraction.specs.declared.fold_stop.FoldStop.TheVariants as stop
 use Rattle.rg_cert_data.specs.Sums.{expression_of}

@@ -2,9 +2,10 @@ use Rattle.std.proofs.Common.{rules, ◌≡◌, Ok, Err, map, length, subst, sym
 use Rattle.std.proofs.lemmas.List.{length-map}
 use Rattle.rg_integers.specs.Sum.{number_at}
 use Rattle.rg_integers.proofs.Casts.{back}
-use Rattle.rg_case_folds.specs.Fold.{ratio_of}
-use Rattle.rg_case_folds.specs.Rewriting.{free_labels, substitute_fold, columns_of, coefficient_fold}
-use Rattle.rg_case_folds.proofs.Folding.{whole_is}
+use Rattle.rg_folds.specs.Fold.{ratio_of}
+use Rattle.rg_folds.specs.Substitution.{free_labels, substitute_fold, coefficient_fold}
+use Rattle.rg_case_folds.specs.Rewriting.{columns_of}
+use Rattle.rg_folds.proofs.Folding.{whole_is}
 use Rattle.rg_case_folds.proofs.Comes.{comes_by, comes_unless}
 use Rattle.rg_case_folds.proofs.Items.{each_length}
 use Rattle.rg_cycles.specs.View.{labels_of, cycle_of}

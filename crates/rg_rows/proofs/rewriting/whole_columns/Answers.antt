@@ -1,6 +1,6 @@
 use Rattle.std.proofs.Common.{◌≡◌, map, ap, sym}
 use Rattle.rg_integers.proofs.Casts.{back}
-use Rattle.rg_case_folds.specs.Fold.{whole}
+use Rattle.rg_folds.specs.Fold.{whole}
 use Rattle.rg_case_folds.specs.Rewriting.{columns_of}
 use Rattle.rg_cycles.specs.View.{cycle_of}
 use Rattle.rg_case_parts.specs.SettingViews.{shown_setting}

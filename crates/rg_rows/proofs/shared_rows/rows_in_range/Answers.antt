@@ -5,7 +5,7 @@ use Rattle.rg_theory.specs.System.{states, labels}
 use Rattle.rg_theory.specs.declared.Problem.TheVariants.{States}
 use Rattle.rg_cert_meaning.specs.declared.RowName.{RowName}
 use Rattle.rg_case_folds.specs.Setting.{case_at}
-use Rattle.rg_case_folds.specs.Fold.{each}
+use Rattle.rg_folds.specs.Fold.{each}
 use Rattle.rg_case_folds.specs.Rewriting.{KeptRow, IsIdle, form_fold}
 use Rattle.rg_linear.specs.Firsts.{KeepsEqualRows}
 use Rattle.rg_linear.specs.System.{LinearRow}

@@ -1,9 +1,9 @@
 use Rattle.std.proofs.Common.{◌≡◌, map, drop, length, List, Result}
 use Rattle.rg_integers.specs.declared.term.Wide.{Wide}
-use Rattle.rg_case_folds.specs.Fold.{each}
+use Rattle.rg_folds.specs.Fold.{each}
 use Rattle.rg_case_folds.specs.Rewriting.{CaseSystem}
 use Rattle.rg_case_folds.specs.Spreading.{Share, share_fold}
-use Rattle.rg_case_folds.proofs.Folding.{behind}
+use Rattle.rg_folds.proofs.Folding.{behind}
 use Rattle.rg_branch.specs.View.{weight_of}
 use Rattle.rg_rows.specs.Forms.{split_of}
 use Rattle.rg_rows.specs.Shown.{ShowsCase}

@@ -1,7 +1,8 @@
 use Rattle.std.proofs.Common.{rules, ◌+◌, ◌<◌, ◌≤◌, ◌≡◌, length, vec_len, subst, sym, ◌∙◌, arith}
 use Rattle.std.specs.Prelude.{slice_index}
 use Rattle.std.proofs.num.Orders.{Bool-small}
-use Rattle.rg_case_folds.specs.Rewriting.{is_in, has_label, free_labels}
+use Rattle.rg_folds.specs.Substitution.{is_in, free_labels}
+use Rattle.rg_case_folds.specs.Rewriting.{has_label}
 use Rattle.rg_cycles.specs.View.{labels_of, cycle_of}
 use Rattle.rg_cycles.proofs.Folding.{free_below}
 use Rattle.rg_case_parts.proofs.Picking.{where_few, used_is, count_starts, count_taken, count_left}

@@ -1,7 +1,8 @@
 use Rattle.std.proofs.Common.{◌≡◌, ◌+◌, ◌≤◌, length, drop}
 use Rattle.rg_theory.specs.declared.Class.{Class}
 use Rattle.rg_theory.specs.System.{System, labels}
-use Rattle.rg_case_folds.specs.Rewriting.{has_label, free_labels, column_count}
+use Rattle.rg_folds.specs.Substitution.{free_labels}
+use Rattle.rg_case_folds.specs.Rewriting.{has_label, column_count}
 use Rattle.rg_cycles.specs.View.{labels_of, cycle_of}
 use Rattle.rg_case_parts.specs.ColumnViews.{AreColumns}
 use Rattle.rg_case_parts.proofs.Picking.{chosen}

@@ -1,8 +1,9 @@
 use Rattle.std.proofs.Common.{◌<◌, ◌≤◌, ◌≡◌, ◌++◌, ◌∷◌, [], if◌then◌else◌, map, length, vec_len, ap, subst, sym, ◌∙◌, arith}
 use Rattle.std.specs.Prelude.{pos, slice_index}
 use Rattle.std.proofs.lemmas.List.{length-map, get_or-map}
-use Rattle.rg_case_folds.specs.Fold.{whole}
-use Rattle.rg_case_folds.specs.Rewriting.{has_label, free_labels}
+use Rattle.rg_folds.specs.Fold.{whole}
+use Rattle.rg_folds.specs.Substitution.{free_labels}
+use Rattle.rg_case_folds.specs.Rewriting.{has_label}
 use Rattle.rg_cycles.specs.View.{labels_of, cycle_of}
 use Rattle.rg_cycles.proofs.Folding.{free_below}
 use Rattle.rg_case_folds.proofs.Items.{map_push}

@@ -2,8 +2,9 @@ use Rattle.std.proofs.Common.{◌≡◌, ◌++◌, map, drop}
 use Rattle.std.specs.Prelude.{ℤ}
 use Rattle.rg_theory.specs.declared.Class.{Class}
 use Rattle.rg_theory.specs.System.{System, labels}
-use Rattle.rg_case_folds.specs.Fold.{Ratio, whole}
-use Rattle.rg_case_folds.specs.Rewriting.{has_label, free_labels, pick, columns_of}
+use Rattle.rg_folds.specs.Fold.{Ratio, whole}
+use Rattle.rg_folds.specs.Substitution.{free_labels}
+use Rattle.rg_case_folds.specs.Rewriting.{has_label, pick, columns_of}
 use Rattle.rg_cycles.specs.View.{labels_of, cycle_of}
 use Rattle.rg_case_parts.specs.ColumnViews.{AreColumns}
 use Rattle.rg_case_parts.proofs.columns.Columns.pick.Given as goal

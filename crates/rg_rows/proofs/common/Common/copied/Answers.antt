@@ -1,5 +1,5 @@
 use Rattle.std.proofs.Common.{map, ap, ◌∙◌}
-use Rattle.rg_case_folds.specs.Fold.{shown_result}
+use Rattle.rg_folds.specs.Fold.{shown_result}
 use Rattle.rg_rows.specs.declared.kind.Kind.TheVariants as kind
 use Rattle.rg_rows.specs.View.{kept_row, terms_of}
 use Rattle.rg_rows.specs.Sharing.{AreSharedRows}

@@ -1,6 +1,6 @@
 use Rattle.std.proofs.Common.{map, ap, ap₂, sym, ◌++◌, ◌∙◌}
 use Rattle.std.proofs.lemmas.List.{map-append}
-use Rattle.rg_case_folds.specs.Fold.{ratio_of}
+use Rattle.rg_folds.specs.Fold.{ratio_of}
 use Rattle.rg_case_folds.specs.Rewriting.{KeptRow}
 use Rattle.rg_linear.specs.View.{linear_row}
 use Rattle.rg_rows.proofs.kept.CaseRows.extend.Goals as goal

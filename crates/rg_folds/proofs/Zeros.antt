@@ -14,7 +14,7 @@ use Rattle.rg_fraction.specs.Terms.{product_term, sum_top, sum_bottom, product_t
 use Rattle.rg_integers.specs.Term.{FitsTerm}
 use Rattle.rg_fraction.proofs.Ones.{one_is_reduced, first_part, second_part}
 use Rattle.rg_fraction.proofs.Forms.{left_exact, right_exact, right_positive, quotients_reduced}
-use Rattle.rg_case_folds.specs.Fold.{and_then, further, Ratio, whole, ratio_of, IsRatio, quotient, add, mul, IsWithin}
+use Rattle.rg_folds.specs.Fold.{and_then, further, Ratio, whole, ratio_of, IsRatio, quotient, add, mul, IsWithin}
 
 -- a quotient is no greater than the number
 smaller : (z : ℤ) (n : ℕ) → InRange z → InRange (int_div z (pos n))

@@ -9,7 +9,7 @@ use Rattle.rg_fraction.specs.Fractions.{IsValue}
 use Rattle.rg_integers.specs.Value.{IsReducedForm}
 use Rattle.rg_integers.proofs.Values.{one_reduced_form}
 use Rattle.rg_integers.proofs.Order.{mul_positive, positive_differs}
-use Rattle.rg_case_folds.specs.Fold.{gives, and_then, IsOne, shown_result, each, further, joined, Ratio, ratio_of, IsRatio, quotient, term, two_terms, add, mul, common_multiple, multiple_of_all}
+use Rattle.rg_folds.specs.Fold.{gives, and_then, IsOne, shown_result, each, further, joined, Ratio, ratio_of, IsRatio, quotient, term, two_terms, add, mul, common_multiple, multiple_of_all}
 
 -- ---- results of the parts
 

@@ -7,9 +7,9 @@ use Rattle.std.proofs.Math.Nat.{one-dvd}
 use Rattle.rg_integers.specs.declared.term.Wide.{Wide}
 use Rattle.rg_fraction.specs.declared.fraction.Fraction.{Fraction}
 use Rattle.rg_fraction.specs.Fractions.{IsValue}
-use Rattle.rg_case_folds.specs.Fold.{each, further, whole, ratio_of, shown_result, IsRatio}
-use Rattle.rg_case_folds.specs.Rewriting.{numbers_where}
-use Rattle.rg_case_folds.proofs.FoldLemmas.{ratio_one, new_step}
+use Rattle.rg_folds.specs.Fold.{each, further, whole, ratio_of, shown_result, IsRatio}
+use Rattle.rg_folds.specs.Substitution.{numbers_where}
+use Rattle.rg_folds.proofs.FoldLemmas.{ratio_one, new_step}
 
 -- ---- fractions
 

@@ -1,0 +1,4 @@
+pub mod FoldLemmas
+pub mod Folding
+pub mod Zeros
+pub mod Sums
