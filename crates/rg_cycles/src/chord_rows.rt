@@ -17,7 +17,7 @@ pub trait ChordRows {
     /// The rows, in order.
     ghost rows: { Self → List (List ℤ) };
 
-    /// The row that a key stands for.
+    /// The row of a key.
     ghost row_of: { Self.Key → List ℤ };
 
     /// The number of rows.

@@ -10,5 +10,5 @@ mod pruning;
 mod stops;
 mod tokens;
 
-pub use pruning::{prune, prune_with_firsts};
+pub use pruning::{compact_all, prune, prune_with_firsts};
 pub use rg_memory::NoMemory;

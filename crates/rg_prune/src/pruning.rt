@@ -89,8 +89,13 @@ fn drop_unneeded(
     Ok(left)
 }
 
-// The places with their weights that aren't 0.
-fn compact_all(alloc: Global, lts: &Lts, places: &[Place]) -> Result<Vec<CompactPlace>, AllocError>
+/// Returns the places of a system, each with its weights that aren't 0, as `prune_with_firsts` takes them. Returns
+/// `AllocError` if memory runs out.
+pub fn compact_all(
+    alloc: Global,
+    lts: &Lts,
+    places: &[Place],
+) -> Result<Vec<CompactPlace>, AllocError>
     requires { All (λ p. IsNarrow lts.now (shown_place p)) places.now }
     ensures { IfOk result (λ all. all.items ≡ map shown_place places.now) }
 {

@@ -3,6 +3,8 @@
 #![tactic(auto)]
 
 #[cfg(test)]
+mod compact;
+#[cfg(test)]
 mod laws;
 #[cfg(test)]
 mod rows;

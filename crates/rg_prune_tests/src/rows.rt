@@ -11,7 +11,7 @@ use rg_lts::{Arc, Lts};
 use rg_marks::{Firsts, Separated};
 use rg_net::{Net, Place};
 use rg_net_verdict::{NetVerdict, check_net, verdict_is_sound};
-use rg_prune::{prune, prune_with_firsts};
+use rg_prune::{compact_all, prune, prune_with_firsts};
 use rg_samples::{CHOICE, CHOICE_NET, DEAD, LOOP, STEP, net, system};
 use rg_spanning::Tree;
 use rg_theory::{ALL_NETS, solved_is_separated};
@@ -179,7 +179,10 @@ fn left(alloc: Global, lts: &Lts, net: &Net) -> Option<Vec<Place>> {
 fn left_with_firsts(alloc: Global, lts: &Lts, net: &Net) -> Option<Vec<Place>> {
     let places = solving_places(alloc, lts, net)?;
     let firsts = all_firsts(alloc, lts, &places).ok()?;
-    prune_with_firsts(alloc, lts, places, firsts).ok()
+    let Ok(compact) = compact_all(alloc, lts, &places) else {
+        return None;
+    };
+    prune_with_firsts(alloc, lts, compact, firsts).ok()
 }
 
 // Whether the places are the same, in order.

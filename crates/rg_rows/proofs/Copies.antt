@@ -24,7 +24,7 @@ use Rattle.rg_rows.specs.declared.form_terms.FormTerms.{FormTerms}
 use Rattle.rg_rows.specs.declared.kind.Kind.{Kind}
 use Rattle.rg_rows.specs.declared.named_form.NamedForm.{NamedForm}
 use Rattle.rg_rows.specs.declared.shared_rows.SharedRows.{SharedRows}
-use Rattle.rg_rows.specs.Forms.{PlainForm, plain_form, row_behind, form_behind, linear_form, split_of, forms_in, IsPartOf}
+use Rattle.rg_rows.specs.Forms.{PlainForm, plain_form, row_after, form_after, linear_form, split_of, forms_in, IsPartOf}
 use Rattle.rg_rows.specs.Making.{IsMade}
 use Rattle.rg_rows.specs.View.{kept_row, terms_of, columns_in, ShowsRows}
 use Rattle.rg_rows.specs.Sharing.{row_of_kind, shared_names, AreRowsOfKind, AreTermsOfKind, AreSharedRows}
@@ -103,13 +103,13 @@ columns_copied lts class columns copy start used are = record { start = start �
 
 -- ---- forms
 
-pub behind_none : (before : ℕ) (t : ℤ) (row : ℕ) → t ≡ pos 0 → row_behind before t row ≡ 0
-behind_none before t row none = ap (λ z. row_behind before z row) none
+pub after_none : (before : ℕ) (t : ℤ) (row : ℕ) → t ≡ pos 0 → row_after before t row ≡ 0
+after_none before t row none = ap (λ z. row_after before z row) none
 
-pub behind_some : (before : ℕ) (t : ℤ) (row : ℕ) → (t ≡ pos 0 → ⊥) → row_behind before t row ≡ before + row
-behind_some before (pos zero) row some = absurd (some refl)
-behind_some before (pos (suc n)) row some = refl
-behind_some before (negsuc n) row some = refl
+pub after_some : (before : ℕ) (t : ℤ) (row : ℕ) → (t ≡ pos 0 → ⊥) → row_after before t row ≡ before + row
+after_some before (pos zero) row some = absurd (some refl)
+after_some before (pos (suc n)) row some = refl
+after_some before (negsuc n) row some = refl
 
 part_as : (f g : NamedForm) (coeffs : List ℤ) (index moved : ℕ) → g.times ≡ f.times → arc_slice_items g.coeffs ≡ arc_slice_items f.coeffs
     → (pos 0 <ℤ f.times → f.row ≡ index → g.row ≡ moved) → (f.times ≡ pos 0 → f.row ≡ 0 → g.row ≡ 0) → IsPartOf f coeffs index → IsPartOf g coeffs moved
@@ -146,9 +146,9 @@ module _ (lts : System) (class : Class) (columns : ℕ) (all : List KeptRow) (in
       (ap (λ (p : PlainForm). p.times) e) (λ _ row. ap (λ (p : PlainForm). p.row) e ∙ row) (λ _ row. ap (λ (p : PlainForm). p.row) e ∙ row)
 
   -- so many rows come before its row
-  pub made_behind : (own : List KeptRow) (places moved : List ℕ) (before : ℕ) → plain_form g ≡ form_behind before f → length places ≡ length own → length indices ≡ length all
+  pub made_after : (own : List KeptRow) (places moved : List ℕ) (before : ℕ) → plain_form g ≡ form_after before f → length places ≡ length own → length indices ≡ length all
       → moved ≡ places ++ map (λ i. before + i) indices → IsMade lts class columns (own ++ all) moved g
-  made_behind own places moved before e one_each each_one told =
+  made_after own places moved before e one_each each_one told =
       let within = slice_get_within all is.number is.row is.at in
       let here : slice_index_or moved (length own + is.number) 0 ≡ before + slice_index_or indices is.number 0 =
       ap (λ l. slice_index_or l (length own + is.number) 0) told
@@ -159,8 +159,8 @@ module _ (lts : System) (class : Class) (columns : ℕ) (all : List KeptRow) (in
       made_as (own ++ all) moved (length own + is.number) (get_right own all (length own + is.number) is.number refl ∙ is.at)
       (ap (λ (p : PlainForm). p.form) e) (ap (λ (p : PlainForm). p.scale) e) (ap (λ (p : PlainForm). p.coeffs) e) (ap (λ (p : PlainForm). p.low) e) (ap (λ (p : PlainForm). p.high) e)
       (ap (λ (p : PlainForm). p.times) e)
-      (λ positive at. row ∙ behind_some before f.times f.row (λ e. busy f.times positive e) ∙ ap (λ n. before + n) at ∙ sym here)
-      (λ none _. row ∙ ap (λ z. row_behind before z f.row) none)
+      (λ positive at. row ∙ after_some before f.times f.row (λ e. busy f.times positive e) ∙ ap (λ n. before + n) at ∙ sym here)
+      (λ none _. row ∙ ap (λ z. row_after before z f.row) none)
     where
       busy : (t : ℤ) → pos 0 <ℤ t → t ≡ pos 0 → ⊥
       busy t positive e = omega (arith, ints)

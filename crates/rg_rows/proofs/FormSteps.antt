@@ -10,8 +10,7 @@ use Rattle.rg_integers.specs.declared.term.Wide.{Wide}
 use Rattle.rg_linear.specs.Branching.{Form}
 use Rattle.rg_cert_meaning.specs.Expression.{Term, Expression, plus}
 use Rattle.rg_cert_meaning.specs.declared.RowName.{RowName}
-use Rattle.rg_cert_meaning.specs.Row.{row_expression}
-use Rattle.rg_cert_meaning.specs.Row.{form_variable, step_of}
+use Rattle.rg_cert_meaning.specs.Row.{row_expression, form_variable, step_of}
 use Rattle.rg_cert_meaning.specs.declared.Form.{Form as SplitForm}
 use Rattle.rg_case_folds.specs.Setting.{Setting, CaseSetting}
 use Rattle.rg_folds.specs.Fold.{each}

@@ -13,7 +13,7 @@ use Rattle.rg_linear.specs.System.{LinearRow}
 use Rattle.rg_linear.specs.Firsts.{KeepsEqualRows}
 use Rattle.rg_linear.proofs.Members.{Contains-cons_cases}
 use Rattle.rg_case_folds.specs.Rewriting.{KeptRow, IsIdle}
-use Rattle.rg_cycles.proofs.Firsts.{has_numbers}
+use Rattle.rg_rows.proofs.Slices.{has_numbers}
 use Rattle.rg_rows.specs.declared.case_row.CaseRow.{CaseRow}
 use Rattle.rg_rows.specs.View.{numbers_of, kept_row}
 

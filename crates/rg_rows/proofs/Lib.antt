@@ -1,3 +1,4 @@
+mod Slices
 mod Naming
 mod Making
 mod Keeping

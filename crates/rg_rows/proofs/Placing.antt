@@ -14,7 +14,7 @@ use Rattle.std.proofs.Math.Seq.{get_or-append_seam}
 use Rattle.rg_linear.specs.System.{LinearRow}
 use Rattle.rg_linear.proofs.Splits.{index-front}
 use Rattle.rg_case_folds.specs.Rewriting.{KeptRow, IsIdle}
-use Rattle.rg_cycles.proofs.Firsts.{has_numbers}
+use Rattle.rg_rows.proofs.Slices.{has_numbers}
 use Rattle.rg_rows.specs.View.{numbers_of, kept_row, AreIndices}
 use Rattle.rg_rows.proofs.Keeping.{same_row}
 

@@ -27,11 +27,11 @@ use Rattle.rg_rows.specs.declared.kept.CaseRows.{CaseRows}
 use Rattle.rg_rows.specs.declared.named_form.NamedForm.{NamedForm}
 use Rattle.rg_rows.specs.declared.shared_rows.SharedRows.{SharedRows}
 use Rattle.rg_rows.specs.View.{kept_row, columns_in, fold_of, ShowsRows, AreIndices}
-use Rattle.rg_rows.specs.Forms.{PlainForm, plain_form, form_behind, linear_form, split_of, forms_in, StandsInRow, AreFormsOf}
+use Rattle.rg_rows.specs.Forms.{PlainForm, plain_form, form_after, linear_form, split_of, forms_in, StandsInRow, AreFormsOf}
 use Rattle.rg_rows.specs.Making.{IsMade}
 use Rattle.rg_rows.specs.Sharing.{shared_names, AreSharedRows}
 use Rattle.rg_rows.proofs.Assembling.{all_stand, all_forms}
-use Rattle.rg_rows.proofs.Copies.{as_told, each_as, made_behind}
+use Rattle.rg_rows.proofs.Copies.{as_told, each_as, made_after}
 use Rattle.rg_rows.proofs.FormNames.{shared_forms}
 use Rattle.rg_rows.proofs.FormTimes.{times_zero}
 use Rattle.rg_rows.proofs.Forming.{names_few, well_formed}
@@ -123,12 +123,12 @@ module _ (s : CaseSetting) (shared : SharedRows) (are : AreSharedRows s.setting 
         all_indices = subst (λ l. AreIndices l (kept ++ are.kept) all_places) (sym rows_are)
             (indices_append (map kept_row own) (map kept_row are.all) kept are.kept places are.indices (map (λ i. length kept + i) are.indices) are_places are.are_indices refl)
 
-        module _ (forms : List NamedForm) (moved : map plain_form forms ≡ map (form_behind (length kept)) shared.forms.items) (start : IsFalse (splits_start s.class s.problem)) where
+        module _ (forms : List NamedForm) (moved : map plain_form forms ≡ map (form_after (length kept)) shared.forms.items) (start : IsFalse (splits_start s.class s.problem)) where
           linear_are : map linear_form forms ≡ map linear_form shared.forms.items
-          linear_are = as_told (form_behind (length kept)) plain_form linear_form linear_form shared.forms.items forms (λ x y e i. record { scale = (e i).scale; coeffs = (e i).coeffs; low = (e i).low; high = (e i).high }) moved
+          linear_are = as_told (form_after (length kept)) plain_form linear_form linear_form shared.forms.items forms (λ x y e i. record { scale = (e i).scale; coeffs = (e i).coeffs; low = (e i).low; high = (e i).high }) moved
 
           pub splits_are : map split_of forms ≡ split_forms s.lts s.class s.problem
-          splits_are = as_told (form_behind (length kept)) plain_form split_of split_of shared.forms.items forms (λ x y e. ap (λ (p : PlainForm). p.form) e) moved
+          splits_are = as_told (form_after (length kept)) plain_form split_of split_of shared.forms.items forms (λ x y e. ap (λ (p : PlainForm). p.form) e) moved
               ∙ are.splits ∙ shared_forms s.lts s.class s.problem s.number are.alone start
 
           forms_made : each (form_fold s.setting) (split_forms s.lts s.class s.problem) (Ok (map linear_form forms))
@@ -137,9 +137,9 @@ module _ (s : CaseSetting) (shared : SharedRows) (are : AreSharedRows s.setting 
 
           are_made : All (IsMade s.lts s.class (columns_in s.setting) (map kept_row all) all_places) forms
           are_made = subst (λ l. All (IsMade s.lts s.class (columns_in s.setting) l all_places) forms) (sym rows_are)
-              (each_as (form_behind (length kept)) plain_form (IsMade s.lts s.class (columns_in s.setting) (map kept_row are.all) are.indices)
+              (each_as (form_after (length kept)) plain_form (IsMade s.lts s.class (columns_in s.setting) (map kept_row are.all) are.indices)
               (IsMade s.lts s.class (columns_in s.setting) (map kept_row own ++ map kept_row are.all) all_places) shared.forms.items forms moved
-              (λ f g is e. made_behind s.lts s.class (columns_in s.setting) (map kept_row are.all) are.indices f is g (map kept_row own) places all_places (length kept) e are_places.one_each are.are_indices.one_each refl)
+              (λ f g is e. made_after s.lts s.class (columns_in s.setting) (map kept_row are.all) are.indices f is g (map kept_row own) places all_places (length kept) e are_places.one_each are.are_indices.one_each refl)
               are.are_made)
 
           module _ (columns : ℕ) (columns_are : columns ≡ columns_in s.setting) where

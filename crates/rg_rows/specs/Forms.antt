@@ -40,14 +40,14 @@ abbrev pub plain_form : NamedForm → PlainForm
 plain_form f = record { form = f.form; scale = f.scale; coeffs = arc_slice_items f.coeffs; low = f.low; high = f.high; row = f.row; times = f.times }
 
 -- the number of the form's row, where so many rows come before it; 0 if the form is no row's
-abbrev pub row_behind : ℕ → ℤ → ℕ → ℕ
-row_behind before (pos zero) row = 0
-row_behind before (pos (suc n)) row = before + row
-row_behind before (negsuc n) row = before + row
+abbrev pub row_after : ℕ → ℤ → ℕ → ℕ
+row_after before (pos zero) row = 0
+row_after before (pos (suc n)) row = before + row
+row_after before (negsuc n) row = before + row
 
 -- the form, where so many rows come before its row
-abbrev pub form_behind : ℕ → NamedForm → PlainForm
-form_behind before f = record (plain_form f) { row = row_behind before f.times f.row }
+abbrev pub form_after : ℕ → NamedForm → PlainForm
+form_after before f = record (plain_form f) { row = row_after before f.times f.row }
 
 -- ---- the forms in the order of the named rows
 

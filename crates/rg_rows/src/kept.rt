@@ -64,9 +64,7 @@ impl CaseRows {
         self.factors.push(row.factor)?;
         Ok(())
     }
-}
 
-impl CaseRows {
     // Adds rows after these, with the same coefficients in memory.
     pub(crate) fn extend(&mut self, more: &CaseRows) -> Result<(), AllocError>
         ensures { OnOk result ((kept rest : List KeptRow) → ShowsRows self.old kept → ShowsRows more.now rest → ShowsRows self.new (kept ++ rest)) }

@@ -26,7 +26,7 @@ use crate::kept::firsts;
 use crate::named_form::NamedForm;
 use crate::names::names;
 use crate::problem_names::problem_rows;
-use crate::shared_rows::{SharedRows, all_negative, forms_behind};
+use crate::shared_rows::{SharedRows, all_negative, forms_after};
 use rg_case_parts::{CaseSetting, Setting};
 use rg_cert_meaning::RowName;
 use rg_cycles::Basis;
@@ -159,7 +159,7 @@ fn system_before(
         return Ok(None);
     }
     let (mut kept, _) = firsts(alloc, &own)?;
-    let forms = forms_behind(alloc, &shared.forms, kept.rows.len() as u32)?;
+    let forms = forms_after(alloc, &shared.forms, kept.rows.len() as u32)?;
     kept.extend(&shared.kept)?;
     Ok(Some(NamedSystem {
         system: System::new(common.columns.count(c.setting.basis), kept.rows),

@@ -6,7 +6,7 @@ ghost use Rattle.rg_spanning.specs.Spanning.{IsTreeOf};
 ghost use Rattle.rg_cycles.specs.View.{labels_of};
 ghost use Rattle.rg_case_parts.specs.SettingViews.{shown_setting};
 ghost use Rattle.rg_rows.specs.View.{kept_row, row_in};
-ghost use Rattle.rg_rows.specs.Forms.{plain_form, row_behind, form_behind};
+ghost use Rattle.rg_rows.specs.Forms.{plain_form, row_after, form_after};
 ghost use Rattle.rg_rows.specs.Sharing.{AreSharedRows, IsCommonOf};
 
 use crate::case_row::CaseRow;
@@ -114,25 +114,25 @@ fn is_negative(row: &CaseRow) -> bool
 }
 
 // The forms, where so many rows come before theirs, with the same coefficients in memory.
-pub(crate) fn forms_behind(
+pub(crate) fn forms_after(
     alloc: Global,
     forms: &[NamedForm],
     before: u32,
 ) -> Result<Vec<NamedForm>, AllocError>
     requires fits { All (λ f. before + f.row < 2 ^ 32) forms.now }
-    ensures { IfOk result (λ v. map plain_form v.items ≡ map (form_behind before) forms.now) }
+    ensures { IfOk result (λ v. map plain_form v.items ≡ map (form_after before) forms.now) }
 {
     let mut moved = Vec::with_capacity(alloc, forms.len())?;
     for form in forms {
-        moved.push(form_behind(form, before)?)?;
+        moved.push(form_after(form, before)?)?;
     }
     Ok(moved)
 }
 
 // The form, where so many rows come before its row.
-fn form_behind(form: &NamedForm, before: u32) -> Result<NamedForm, AllocError>
+fn form_after(form: &NamedForm, before: u32) -> Result<NamedForm, AllocError>
     requires { before + form.now.row < 2 ^ 32 }
-    ensures { IfOk result (λ f. plain_form f ≡ form_behind before form.now) }
+    ensures { IfOk result (λ f. plain_form f ≡ form_after before form.now) }
 {
     let coeffs = form.coeffs.clone()?;
     Ok(NamedForm {
@@ -141,15 +141,15 @@ fn form_behind(form: &NamedForm, before: u32) -> Result<NamedForm, AllocError>
         coeffs,
         low: form.low,
         high: form.high,
-        row: row_behind(form, before),
+        row: row_after(form, before),
         times: form.times,
     })
 }
 
 // The number of the form's row, where so many rows come before it; 0 if the form is no row's.
-fn row_behind(form: &NamedForm, before: u32) -> u32
+fn row_after(form: &NamedForm, before: u32) -> u32
     requires { before + form.now.row < 2 ^ 32 }
-    ensures { result ≡ row_behind before form.now.times form.now.row }
+    ensures { result ≡ row_after before form.now.times form.now.row }
 {
     if form.times == 0 {
         0

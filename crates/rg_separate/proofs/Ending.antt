@@ -1,5 +1,5 @@
 -- How the search for places ends.
-use Rattle.std.proofs.Common.{◌≡◌, ◌⊎◌, inl, inr, List, map, refl, sym, ap, subst, ◌∙◌, arith}
+use Rattle.std.proofs.Common.{◌≡◌, ◌⊎◌, inl, inr, List, refl, sym, ap, subst, ◌∙◌}
 use Rattle.rg_theory.specs.System.{System}
 use Rattle.rg_lts.specs.WellFormed.{IsWellFormed}
 use Rattle.rg_theory.specs.Net.{Place}

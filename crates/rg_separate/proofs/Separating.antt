@@ -1,5 +1,5 @@
 -- What the search comes to.
-use Rattle.std.proofs.Common.{◌≡◌, ◌<◌, ◌≤◌, List, length, get_or, All, subst}
+use Rattle.std.proofs.Common.{◌<◌, ◌≤◌, List, length, get_or, All, subst}
 use Rattle.rg_theory.specs.System.{System, IsInRange, IsAllReachable}
 use Rattle.rg_theory.specs.declared.Class.{Class}
 use Rattle.rg_theory.specs.ClassWords.{HasNumbersInRange}

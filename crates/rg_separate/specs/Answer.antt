@@ -44,24 +44,24 @@ pub data Ending : Type 0 where
 
 -- what the separation has
 abbrev pub ending_of : Separation → Ending
-ending_of (Places places) = Ending.places (map shown_place places.items)
+ending_of (Places ps) = Ending.places (map shown_place ps.items)
 ending_of (Unsolvable cert) = unsolvable cert
 ending_of (TooWide w) = too_wide w
 
 -- the same of one with the problems that each place is the first to separate
 abbrev pub ending_with_firsts : SeparationWithFirsts → Ending
-ending_with_firsts (with_firsts.Places places firsts) = Ending.places places.items
+ending_with_firsts (with_firsts.Places ps firsts) = Ending.places ps.items
 ending_with_firsts (with_firsts.Unsolvable cert) = unsolvable cert
 ending_with_firsts (with_firsts.TooWide w) = too_wide w
 
 -- the fact holds of the places, of the certificate, of the term
 abbrev pub IfPlaces : Ending → (List Place → Type 0) → Type 0
-IfPlaces (Ending.places places) P = P places
+IfPlaces (Ending.places ps) P = P ps
 IfPlaces _ P = Unit {0}
 
 -- the fact holds of the places with the problems that each is the first to separate
 abbrev pub IfFirsts : SeparationWithFirsts → (List Place → List Firsts → Type 0) → Type 0
-IfFirsts (with_firsts.Places places firsts) P = P places.items firsts.items
+IfFirsts (with_firsts.Places ps firsts) P = P ps.items firsts.items
 IfFirsts _ P = Unit {0}
 
 abbrev pub IfUnsolvable : Ending → (Certificate → Type 0) → Type 0
@@ -80,13 +80,13 @@ pub record IsGoodCertificate (lts : System) (class : Class) (cert : Certificate)
 
 -- what a separation says: of the places also which problems each is the first to separate
 abbrev pub SeparationTells : System → Class → SeparationWithFirsts → Type 0
-SeparationTells lts class (with_firsts.Places places firsts) = AreSeparating lts class places.items × AreAllFirsts lts places.items firsts.items
+SeparationTells lts class (with_firsts.Places ps firsts) = AreSeparating lts class ps.items × AreAllFirsts lts ps.items firsts.items
 SeparationTells lts class (with_firsts.Unsolvable cert) = IsGoodCertificate lts class cert
 SeparationTells lts class (with_firsts.TooWide w) = ShownWide lts class (shown_of w)
 
 -- the separation is this one, in the words of the one answer
 abbrev pub ShowsSeparation : Ending → outcome.Separation → Type 0
-ShowsSeparation (Ending.places places) o = o ≡ outcome.Separation.places places
+ShowsSeparation (Ending.places ps) o = o ≡ outcome.Separation.places ps
 ShowsSeparation (unsolvable cert) o = (problem : Problem) × (trees : List Tree) × (reason_of cert.reason ≡ refuted problem trees) × (o ≡ outcome.Separation.unsolvable problem trees)
 ShowsSeparation (too_wide w) o = o ≡ outcome.Separation.too_wide (shown_of w)
 

@@ -137,7 +137,9 @@ impl SeparationWithFirsts {
             SeparationWithFirsts::Places(places, _) => {
                 Ok(Separation::Places(all_places(alloc, &places)?))
             }
-            SeparationWithFirsts::Unsolvable(certificate) => Ok(Separation::Unsolvable(certificate)),
+            SeparationWithFirsts::Unsolvable(certificate) => Ok(Separation::Unsolvable(
+                certificate,
+            )),
             SeparationWithFirsts::TooWide(at) => Ok(Separation::TooWide(at)),
         }
     }

@@ -1,6 +1,6 @@
-use Rattle.std.proofs.Common.{◌≡◌, ◌<◌, ◌≤◌, ◌-◌, get_or, length, ap, sym, ◌∙◌, arith, refl}
+use Rattle.std.proofs.Common.{◌≤◌, ◌-◌, length, ◌∙◌, arith}
 use Rattle.rg_marks.specs.declared.compact_place.LabelWeights.{LabelWeights}
-use Rattle.rg_marks.proofs.Compacting.{kept_start, kept_earlier, kept_long}
+use Rattle.rg_marks.proofs.Compacting.{kept_start, kept_earlier}
 use Rattle.rg_marks.proofs.compact_place.all_weights.Goals as goal
 
 pub loop-k-init : goal.loop-k-init

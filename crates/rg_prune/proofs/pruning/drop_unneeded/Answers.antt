@@ -1,8 +1,7 @@
-use Rattle.std.proofs.Common.{◌≡◌, ◌∙◌, List, sym, subst, map, [], append-nil}
+use Rattle.std.proofs.Common.{◌≡◌, ◌∙◌, List, sym, subst, [], append-nil}
 use Rattle.std.proofs.lemmas.List.{nil_from_length}
 use Rattle.rg_theory.specs.System.{states}
 use Rattle.rg_marks.specs.Tokens.{IsNarrow}
-use Rattle.rg_net.specs.Shown.{shown_place}
 use Rattle.rg_prune.proofs.Dropping.{written_length}
 use Rattle.rg_prune.proofs.Asking.{asked_start, asked_end, narrow_last, pending, asked_drops, asked_keeps, some_firsts}
 use Rattle.rg_marks.specs.Separated.{AddsOne, SeparateSoMuch}
@@ -39,19 +38,19 @@ loop-place-preserved c =
     let asked = c.loop-place.invariant.asked in
     elim c.if-branch.branch [
       | then-branch+in_ok-place+in_ok-add+in_ok-push w ↦ rw (w.separated-is, w.tokens-is, w.left-is, w.in_ok-push.ensures.items) (record {
-          asked = asked_keeps c.args.lts.now c.args.places.items c.loop-place.places.items c.loop-place.all_firsts.items c.loop-place.left.items c.loop-place.separated asked
-              c.pop.new.self.items c.in-Some.place c.in-Some.ensures.items c.pop-in-Some.new.self.items c.in-Some-pop.firsts c.in-Some-pop.ensures.items
-              w.in_ok-place.place w.add.new.self w.in_ok-place.ensures (c.in_ok-is_needed.ensures.yes w.if-branch.true)
-              (subst (λ (p : PlaceOfTheory). (places more : List PlaceOfTheory) → AddsOne p places more → SeparateSoMuch c.args.lts.now places c.loop-place.separated → SeparateSoMuch c.args.lts.now more w.add.new.self)
-              w.in_ok-place.ensures w.in_ok-add.ensures.separated);
-          one_each = written_length c.loop-place.tokens w.fill.new.tokens w.deref_mut.result.now (states c.args.lts.now) w.fill.auto.tokens w.deref_mut.ensures.value c.loop-place.invariant.one_each;
-        })
+        asked = asked_keeps c.args.lts.now c.args.places.items c.loop-place.places.items c.loop-place.all_firsts.items c.loop-place.left.items c.loop-place.separated asked
+            c.pop.new.self.items c.in-Some.place c.in-Some.ensures.items c.pop-in-Some.new.self.items c.in-Some-pop.firsts c.in-Some-pop.ensures.items
+            w.in_ok-place.place w.add.new.self w.in_ok-place.ensures (c.in_ok-is_needed.ensures.yes w.if-branch.true)
+            (subst (λ (p : PlaceOfTheory). (places more : List PlaceOfTheory) → AddsOne p places more → SeparateSoMuch c.args.lts.now places c.loop-place.separated → SeparateSoMuch c.args.lts.now more w.add.new.self)
+            w.in_ok-place.ensures w.in_ok-add.ensures.separated);
+        one_each = written_length c.loop-place.tokens w.fill.new.tokens w.deref_mut.result.now (states c.args.lts.now) w.fill.auto.tokens w.deref_mut.ensures.value c.loop-place.invariant.one_each;
+      })
       | else-branch w ↦ rw (w.separated-is, w.tokens-is, w.left-is) (record {
-          asked = asked_drops c.args.lts.now c.args.places.items c.loop-place.places.items c.loop-place.all_firsts.items c.loop-place.left.items c.loop-place.separated asked
-              c.pop.new.self.items c.in-Some.place c.in-Some.ensures.items c.pop-in-Some.new.self.items c.in-Some-pop.firsts c.in-Some-pop.ensures.items
-              (c.in_ok-is_needed.ensures.no w.if-branch.false);
-          one_each = c.loop-place.invariant.one_each;
-        })
+        asked = asked_drops c.args.lts.now c.args.places.items c.loop-place.places.items c.loop-place.all_firsts.items c.loop-place.left.items c.loop-place.separated asked
+            c.pop.new.self.items c.in-Some.place c.in-Some.ensures.items c.pop-in-Some.new.self.items c.in-Some-pop.firsts c.in-Some-pop.ensures.items
+            (c.in_ok-is_needed.ensures.no w.if-branch.false);
+        one_each = c.loop-place.invariant.one_each;
+      })
     ]
 
 pub loop-place-preserved-in_default-pop : goal.loop-place-preserved-in_default-pop

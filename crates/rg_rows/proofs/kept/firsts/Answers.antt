@@ -3,7 +3,7 @@ use Rattle.std.proofs.lemmas.Bool.{false≢true}
 use Rattle.std.proofs.lemmas.List.{length-map}
 use Rattle.rg_folds.specs.Fold.{ratio_of}
 use Rattle.rg_linear.specs.View.{linear_row}
-use Rattle.rg_cycles.proofs.Firsts.{has_numbers}
+use Rattle.rg_rows.proofs.Slices.{has_numbers}
 use Rattle.rg_rows.specs.View.{kept_row, row_in}
 use Rattle.rg_rows.proofs.Keeping.{kept-start, kept-end, kept-drop, row_next, asked-new, asked-old}
 use Rattle.rg_rows.proofs.Placing.{IndicesSoFar, indices-start, indices-end, indices-idle, indices-new, indices-old, keys_stay, index_fits, row_got}

@@ -1,6 +1,6 @@
 use Rattle.std.proofs.Common.{map, List}
 use Rattle.rg_case_folds.specs.Rewriting.{KeptRow}
-use Rattle.rg_cycles.proofs.Firsts.{has_numbers}
+use Rattle.rg_rows.proofs.Slices.{has_numbers}
 use Rattle.rg_rows.specs.View.{kept_row, row_in, ShowsRows}
 use Rattle.rg_rows.proofs.Keeping.{KeptSoFar}
 use Rattle.rg_rows.proofs.Placing.{IndicesSoFar}

@@ -7,12 +7,11 @@ use Rattle.rg_case_folds.specs.Rewriting.{column_count}
 use Rattle.rg_cycles.specs.View.{cycle_of}
 use Rattle.rg_rows.specs.declared.case_row.CaseRow.{CaseRow}
 use Rattle.rg_rows.specs.View.{kept_row, row_in, fold_of}
-use Rattle.rg_case_folds.proofs.Items.{map_push}
+use Rattle.rg_case_folds.proofs.Items.{map_push, item_next, item_fails, items_end}
 use Rattle.rg_folds.specs.Fold.{each}
 use Rattle.rg_rows.specs.declared.held_row.HeldRow.{HeldRow}
 use Rattle.rg_case_folds.proofs.Comes.{comes_unless}
 use Rattle.rg_rows.proofs.Terms.{name_within}
-use Rattle.rg_case_folds.proofs.Items.{item_next, item_fails, items_end}
 use Rattle.rg_rows.proofs.named_system.rows.Goals as goal
 use Rattle.rg_cert_meaning.specs.declared.RowName.TheVariants as row_name
 use Rattle.rg_case_parts.specs.SettingViews.{shown_case}

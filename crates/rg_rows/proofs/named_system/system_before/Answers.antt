@@ -8,9 +8,8 @@ use Rattle.rg_case_folds.specs.Meaning.{IsCaseOver}
 use Rattle.rg_case_parts.proofs.Picking.{columns_few}
 use Rattle.rg_linear.specs.System.{LinearSystem}
 use Rattle.rg_linear.specs.Firsts.{KeepsEqualRows}
-use Rattle.rg_linear.specs.View.{linear_row}
 use Rattle.rg_rows.specs.declared.named_form.NamedForm.{NamedForm}
-use Rattle.rg_rows.specs.Forms.{plain_form, form_behind, linear_form, StandsInRow, AreFormsOf}
+use Rattle.rg_rows.specs.Forms.{plain_form, form_after, linear_form, StandsInRow, AreFormsOf}
 use Rattle.rg_case_parts.specs.SettingViews.{shown_case}
 use Rattle.rg_rows.specs.View.{kept_row, row_in, columns_in, AreNamesWithin, AreIndices}
 use Rattle.rg_rows.proofs.Terms.{own_within}
@@ -53,8 +52,8 @@ overflow_cast-len c =
     let high : labels s.lts ≤ 256 = c.is_well_formed.ensures.few_labels in
     omega arith
 
-pub forms_behind-requires : goal.forms_behind-requires
-forms_behind-requires c =
+pub forms_after-requires : goal.forms_after-requires
+forms_after-requires c =
     let s = shown_case c.args.c in
     let (kept, shows, firsts, places) = c.in_ok-kept.ensures in
     let own = map row_in c.in_ok-own.own.items in
@@ -98,7 +97,7 @@ returns-clause-made c =
     let many = c.len.ensures in
     let before : c.len.result ≡ length kept = omega arith in
     let forms = c.in_ok-forms.forms.items in
-    let moved : map plain_form forms ≡ map (form_behind (length kept)) c.args.shared.now.forms.items = c.in_ok-forms.ensures ∙ ap (map (form_behind c.len.result)) c.deref-4.ensures.value ∙ ap (λ n. map (form_behind n) c.args.shared.now.forms.items) before in
+    let moved : map plain_form forms ≡ map (form_after (length kept)) c.args.shared.now.forms.items = c.in_ok-forms.ensures ∙ ap (map (form_after c.len.result)) c.deref-4.ensures.value ∙ ap (λ n. map (form_after n) c.args.shared.now.forms.items) before in
     let start = c.requires.start in
     let columns : c.count.result ≡ columns_in s.setting = c.count.ensures s.lts s.class (sym c.requires.labels) c.requires.common.columns in
     let all_shows = c.in_ok-extend.ensures kept c.requires.shared.kept shows c.requires.shared.shows in

@@ -1,13 +1,20 @@
-use Rattle.std.proofs.Common.{rules, ◌≡◌, ℕ, ◌<◌, ◌≤◌, All, List, length, ap, refl, subst, sym, ◌∙◌, arith, below_more}
+use Rattle.std.proofs.Common.{rules, ◌≡◌, ℕ, zero, suc, ◌<◌, ◌≤◌, All, List, [], ◌∷◌, length, slice_index_or, ap, refl, subst, sym, ◌∙◌, arith, below_more}
 use Rattle.std.specs.Prelude.{pos, ℤ, Vec}
 use Rattle.std.proofs.lemmas.List.{length-map}
 use Rattle.std.proofs.lemmas.List.Elements.{All-map}
 use Rattle.rg_integers.specs.Range.{InRange}
 use Rattle.std.specs.declared.alloc.Global.{Global}
 use Rattle.rg_cycles.specs.Vectors.{vectors_by}
-use Rattle.rg_cycles.proofs.Firsts.{vector_is}
+use Rattle.rg_linear.specs.Cycle.{vector_at}
 use Rattle.rg_cycles.proofs.Entries.{numbers_length}
 use Rattle.rg_test_bases.proofs.bases.are_vectors.Goals as goal
+
+-- a vector by its index
+vector_is : {N : Type 0} (numbers : List N → List ℤ) (vectors : List (Vec N Global)) (i : ℕ) (v : Vec N Global) → i < length vectors → v ≡ slice_index_or vectors i v
+    → vector_at (vectors_by numbers vectors) i ≡ numbers v.items
+vector_is numbers [] i v lt e = absurd (omega arith)
+vector_is numbers (x ∷ vectors) zero v lt e = ap (λ w. numbers w.items) (sym e)
+vector_is numbers (x ∷ vectors) (suc i) v lt e = vector_is numbers vectors i v (omega arith) e
 
 past_all : {N : Type 0} (numbers : List N → List ℤ) (chords : List (Vec N Global)) (p n : ℕ) → p < length (vectors_by numbers chords) → length chords ≤ n → p < n
 past_all numbers chords p n lt past = let e = length-map chords (λ v. numbers v.items) in omega arith

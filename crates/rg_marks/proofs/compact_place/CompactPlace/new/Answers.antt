@@ -1,6 +1,5 @@
-use Rattle.std.proofs.Common.{◌≡◌, ◌<◌, ◌≤◌, ℕ, List, get_or, length, ap, sym, ◌∙◌, arith, refl}
+use Rattle.std.proofs.Common.{◌≡◌, ◌<◌, ◌≤◌, ℕ, List, get_or, length, ap, sym, ◌∙◌, arith, refl, Vec, Global}
 use Rattle.std.proofs.lemmas.List.{get_or_default}
-use Rattle.std.proofs.Common.{Vec, Global}
 use Rattle.rg_marks.specs.declared.compact_place.LabelWeights.{LabelWeights}
 use Rattle.rg_marks.specs.Compact.{kept_numbers}
 use Rattle.rg_marks.proofs.Compacting.{below_more, below_zero, below_all, labels_more, labels_later}
