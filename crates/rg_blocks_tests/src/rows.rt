@@ -215,7 +215,7 @@ fn push_names(
 }
 
 // The system with one state, so many labels and no arc.
-fn labelled(alloc: Global, labels: usize) -> Option<Lts> {
+fn system_with_labels(alloc: Global, labels: usize) -> Option<Lts> {
     let mut text = String::from_str(alloc, ".type LTS .states s[initial] .labels").ok()?;
     push_names(alloc, &mut text, 't', 0, labels).ok()?;
     system(alloc, text.as_str())
@@ -349,7 +349,7 @@ fn see<R: Threads + Sync>(rt: &R, alloc: Global, lts: &Lts, given: &[Given], job
 
 // How many workspaces are copied: none for the calling thread, and one for each part with a label, where what is left of so many labels is
 // solved inside the gate.
-fn copied_by(jobs: u8, labels: usize, inside: u64) -> u64 {
+fn count_copies(jobs: u8, labels: usize, inside: u64) -> u64 {
     if jobs == 1 || inside == 0 {
         return 0;
     }
@@ -359,7 +359,7 @@ fn copied_by(jobs: u8, labels: usize, inside: u64) -> u64 {
 #[test]
 fn rows(rt: HostRuntime) -> Result<(), Fail> {
     for (given, wanted, labels, by_one, by_two, by_each) in ROWS {
-        let Some(lts) = labelled(rt.alloc(), given.len()) else {
+        let Some(lts) = system_with_labels(rt.alloc(), given.len()) else {
             assert!(rt; false);
             return Ok(());
         };
@@ -375,7 +375,7 @@ fn rows(rt: HostRuntime) -> Result<(), Fail> {
             assert!(rt; seen.is_wanted(wanted, labels));
             assert_eq!(rt; counted.left, counted.entered);
             assert!(rt; wanted.is_none() || counted.entered == given.len() as u64);
-            assert_eq!(rt; counted.copied, copied_by(jobs, given.len(), by_two.1));
+            assert_eq!(rt; counted.copied, count_copies(jobs, given.len(), by_two.1));
             assert_eq!(rt; (counted.solved, counted.solved_inside), solved);
         }
     }
@@ -432,7 +432,7 @@ fn each_part_does_one(rt: HostRuntime) -> Result<(), Fail> {
         if inside == 0 {
             continue;
         }
-        let Some(lts) = labelled(rt.alloc(), given.len()) else {
+        let Some(lts) = system_with_labels(rt.alloc(), given.len()) else {
             assert!(rt; false);
             return Ok(());
         };
@@ -501,7 +501,7 @@ fn on_in_turn(rt: HostRuntime) -> Result<(), Fail> {
     let mut given = [Given::TooWide; 192];
     given[64] = Given::Stops(65);
     given[66] = Given::Stops(67);
-    let Some(lts) = labelled(rt.alloc(), 192) else {
+    let Some(lts) = system_with_labels(rt.alloc(), 192) else {
         assert!(rt; false);
         return Ok(());
     };

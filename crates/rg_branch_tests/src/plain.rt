@@ -121,7 +121,7 @@ enum Node {
     Fraction(u32, i64),
 }
 
-fn settled(alloc: Global, columns: u32, rows: &[Row], forms: &[Bounded]) -> Result<Node, Fail> {
+fn settle(alloc: Global, columns: u32, rows: &[Row], forms: &[Bounded]) -> Result<Node, Fail> {
     let system = system_of(alloc, columns, rows)?;
     let mut dictionary = Dictionary::new(alloc, &system)?;
     match dictionary.settle() {
@@ -141,7 +141,7 @@ fn settled(alloc: Global, columns: u32, rows: &[Row], forms: &[Bounded]) -> Resu
 }
 
 // The split, then the low side's nodes, then the high side's.
-fn joined(
+fn join(
     alloc: Global,
     split: RawNode,
     low: Vec<RawNode>,
@@ -167,7 +167,7 @@ pub(crate) fn branching(
     if depth == 0 {
         return Err(Fail::from("too deep"));
     }
-    let (f, at) = match settled(alloc, columns, rows, forms)? {
+    let (f, at) = match settle(alloc, columns, rows, forms)? {
         Node::Refuted(leaf) => return Ok(Whole::Tree(vec![in alloc; leaf]?)),
         Node::Whole(values) => return Ok(Whole::Point(values, above.to_vec(alloc)?)),
         Node::Fraction(f, at) => (f, at),
@@ -187,7 +187,7 @@ pub(crate) fn branching(
         Whole::Tree(nodes) => nodes,
         point => return Ok(point),
     };
-    let nodes = joined(alloc, RawNode::Split(f, at), low, high)?;
+    let nodes = join(alloc, RawNode::Split(f, at), low, high)?;
     Ok(Whole::Tree(nodes))
 }
 

@@ -49,8 +49,8 @@ impl Generator {
     ) -> Result<(), AllocError> {
         let sum = self.numbers(alloc, columns, 2)?;
         let least = i128::from(self.up_to(6)) - 3;
-        rows.push(Row::new(multiplied(alloc, &sum, 3)?, -least)?)?;
-        rows.push(Row::new(multiplied(alloc, &sum, -3)?, least + 1)?)?;
+        rows.push(Row::new(multiply(alloc, &sum, 3)?, -least)?)?;
+        rows.push(Row::new(multiply(alloc, &sum, -3)?, least + 1)?)?;
         Ok(())
     }
 
@@ -98,7 +98,7 @@ impl Generator {
         let constant = scale.wrapping_mul(i128::from(low)).wrapping_neg();
         asked.forms.push(Bounded {
             scale,
-            coeffs: ArcSlice::from_vec(multiplied(alloc, &coeffs, times)?)?,
+            coeffs: ArcSlice::from_vec(multiply(alloc, &coeffs, times)?)?,
             low,
             high,
             row,
@@ -108,7 +108,7 @@ impl Generator {
             row: row.saturating_add(1),
             times: 1,
         })?;
-        let above = multiplied(alloc, &coeffs, times.wrapping_neg())?;
+        let above = multiply(alloc, &coeffs, times.wrapping_neg())?;
         let least = constant.checked_div_euclid(times).unwrap_or(constant);
         asked.rows.push(Row::new(coeffs, least)?)?;
         let most = scale.wrapping_mul(i128::from(high));
@@ -118,7 +118,7 @@ impl Generator {
 }
 
 // The numbers, each times the factor.
-fn multiplied(alloc: Global, numbers: &[i128], factor: i128) -> Result<Vec<i128>, AllocError> {
+fn multiply(alloc: Global, numbers: &[i128], factor: i128) -> Result<Vec<i128>, AllocError> {
     let mut products = Vec::new(alloc);
     for number in numbers {
         products.push(number.wrapping_mul(factor))?;

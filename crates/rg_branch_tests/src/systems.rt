@@ -28,7 +28,7 @@ pub(crate) struct ToldForm<'a> {
 }
 
 // The number, but the least of all is the next one.
-fn kept_in_range(number: i128) -> i128
+fn keep_in_range(number: i128) -> i128
     ensures { InRange result }
 {
     number.max(-i128::MAX)
@@ -38,7 +38,7 @@ fn kept_in_range(number: i128) -> i128
 fn coefficient(told: Told, j: u32) -> i128
     ensures { InRange result }
 {
-    kept_in_range(told.coeffs.get(j as usize).copied().unwrap_or(0))
+    keep_in_range(told.coeffs.get(j as usize).copied().unwrap_or(0))
 }
 
 // A row of so many coefficients in range.
@@ -51,7 +51,7 @@ fn row(alloc: Global, columns: u32, told: Told) -> Result<Row, AllocError>
     for j in 0..columns {
         coeffs.push(coefficient(told, j))?;
     }
-    Row::new(coeffs, kept_in_range(told.constant))
+    Row::new(coeffs, keep_in_range(told.constant))
 }
 
 /// The system of these rows.

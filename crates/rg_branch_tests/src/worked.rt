@@ -85,12 +85,12 @@ fn branches(
     told: &[Form],
     wanted: Answer,
 ) -> Result<(), Fail> {
-    let (list, tops) = bounded(rt.alloc(), told)?;
+    let (list, tops) = forms_of(rt.alloc(), told)?;
     branches_on(rt, rows, &list, &tops, wanted)
 }
 
 // The system of these rows, with these forms.
-fn asked(
+fn system_of_rows(
     rt: &(impl Abort + AllocGlobal),
     rows: &[Row],
     told: &[ToldForm],
@@ -121,7 +121,7 @@ fn branches_on(
     tops: &[Top],
     wanted: Answer,
 ) -> Result<(), Fail> {
-    let (system, forms) = asked(rt, rows, told, tops)?;
+    let (system, forms) = system_of_rows(rt, rows, told, tops)?;
     let found = solve_whole(rt.alloc(), &system, &forms);
     assert_eq!(rt; found, result_of(rt.alloc(), wanted)?, "{rows:?}");
     Ok(())
@@ -138,7 +138,7 @@ fn serves(
     requires { solver.old ≡ 2 }
     ensures { solver.new ≡ 2 }
 {
-    let (system, forms) = asked(rt, rows, told, tops)?;
+    let (system, forms) = system_of_rows(rt, rows, told, tops)?;
     let found = solver.solve_whole(rt.alloc(), &system, &forms);
     assert_eq!(rt; found, solve_whole(rt.alloc(), &system, &forms), "{rows:?}");
     Ok(())
@@ -154,12 +154,12 @@ fn serves_rows(
     requires { solver.old ≡ 2 }
     ensures { solver.new ≡ 2 }
 {
-    let (list, tops) = bounded(rt.alloc(), told)?;
+    let (list, tops) = forms_of(rt.alloc(), told)?;
     serves(rt, solver, rows, &list, &tops)
 }
 
 // The forms, and their top rows.
-fn bounded<'a>(
+fn forms_of<'a>(
     alloc: Global,
     told: &'a [Form],
 ) -> Result<(Vec<ToldForm<'a>>, Vec<Top>), AllocError> {

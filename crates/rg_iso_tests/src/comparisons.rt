@@ -21,7 +21,7 @@ const BOTH: &str = ".type LTS .states x[initial] .labels b a .arcs x a x x b x";
 const MERGE: &str = ".type LTS .states t0[initial] t1 .labels a b .arcs t0 a t1 t0 b t1";
 
 // The result of comparing the systems of two texts, where both are flawless.
-fn told(alloc: Global, first: &str, second: &str) -> Option<Same> {
+fn compare_texts(alloc: Global, first: &str, second: &str) -> Option<Same> {
     let a = system(alloc, first)?;
     let b = system(alloc, second)?;
     match (first_flaw(alloc, &a), first_flaw(alloc, &b)) {
@@ -32,7 +32,7 @@ fn told(alloc: Global, first: &str, second: &str) -> Option<Same> {
 
 // Whether the systems are isomorphic by this map.
 fn are_mapped(alloc: Global, first: &str, second: &str, wanted: &[u32]) -> bool {
-    match told(alloc, first, second) {
+    match compare_texts(alloc, first, second) {
         Some(Same::Map(states)) => states.as_slice() == wanted,
         _ => false,
     }
@@ -40,7 +40,7 @@ fn are_mapped(alloc: Global, first: &str, second: &str, wanted: &[u32]) -> bool 
 
 // Whether this is the first difference of the systems.
 fn is_difference(alloc: Global, first: &str, second: &str, wanted: &Same) -> bool {
-    match told(alloc, first, second) {
+    match compare_texts(alloc, first, second) {
         Some(same) => same == *wanted,
         None => false,
     }

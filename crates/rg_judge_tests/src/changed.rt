@@ -87,7 +87,7 @@ fn net_of(alloc: Global, lts: &Lts, places: &[Numbers]) -> Option<Net> {
 }
 
 // What the judge says of a net; None where the net has other labels, or there is no memory left.
-fn told(alloc: Global, lts: &Lts, net: &Net, class: Class) -> Option<Told> {
+fn judge(alloc: Global, lts: &Lts, net: &Net, class: Class) -> Option<Told> {
     if net.labels() != lts.labels() {
         return None;
     }
@@ -99,9 +99,9 @@ fn told(alloc: Global, lts: &Lts, net: &Net, class: Class) -> Option<Told> {
 }
 
 // What both judges say of the net with these places, if it is the same; None where it isn't, or there is no memory left.
-fn agreed(alloc: Global, lts: &Lts, places: &[Numbers], class: Class) -> Option<Told> {
+fn common_verdict(alloc: Global, lts: &Lts, places: &[Numbers], class: Class) -> Option<Told> {
     let net = net_of(alloc, lts, places)?;
-    let first = told(alloc, lts, &net, class)?;
+    let first = judge(alloc, lts, &net, class)?;
     let second = second_verdict(alloc, lts, &net, class)?;
     if first == second { Some(first) } else { None }
 }
@@ -110,7 +110,7 @@ fn agreed(alloc: Global, lts: &Lts, places: &[Numbers], class: Class) -> Option<
 fn solves(alloc: Global, text: &str, places: &[Numbers]) -> bool {
     match system(alloc, text) {
         Some(lts) => {
-            agreed(alloc, &lts, places, TWO_BOUNDED) == Some(Told::Verdict(NetVerdict::Yes))
+            common_verdict(alloc, &lts, places, TWO_BOUNDED) == Some(Told::Verdict(NetVerdict::Yes))
         }
         None => false,
     }
@@ -139,7 +139,7 @@ fn agree_on_column(
     for number in 0..4 {
         let mut changed = places;
         changed[place][column] = number;
-        if agreed(alloc, lts, &changed, class).is_none() {
+        if common_verdict(alloc, lts, &changed, class).is_none() {
             return false;
         }
     }
@@ -195,7 +195,7 @@ fn agree_on_places(alloc: Global, text: &str) -> bool {
         return false;
     };
     for number in 0..1024 {
-        if agreed(alloc, &lts, &[digits(number)], ALL_NETS).is_none() {
+        if common_verdict(alloc, &lts, &[digits(number)], ALL_NETS).is_none() {
             return false;
         }
     }

@@ -19,7 +19,7 @@ const FIRED: [(u128, Option<Result<u128, FireStop>>); 4] = [
 ];
 
 // Whether label 0 of a net with one place is enabled with so many tokens, and what its firing gives.
-fn fired(alloc: Global, net: &Net, tokens: u128) -> Option<Result<u128, FireStop>> {
+fn fire_first(alloc: Global, net: &Net, tokens: u128) -> Option<Result<u128, FireStop>> {
     if net.places().len() != 1
         || net.labels() == 0
         || tokens > MOST
@@ -38,7 +38,7 @@ fn fires(rt: HostRuntime) -> Result<(), Fail> {
     let alloc = rt.alloc();
     let net = net_for(alloc, STEP, NET).ok_or("a net")?;
     for (tokens, wanted) in FIRED {
-        assert!(rt; fired(alloc, &net, tokens) == wanted, "{tokens}");
+        assert!(rt; fire_first(alloc, &net, tokens) == wanted, "{tokens}");
     }
     Ok(())
 }

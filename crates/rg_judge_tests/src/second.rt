@@ -77,7 +77,7 @@ fn judge(alloc: Global, lts: &Lts, net: &Net, class: Class) -> Result<(), Ended>
 
 // Ends at the first state that can't be reached.
 fn all_reached(alloc: Global, lts: &Lts) -> Result<(), Ended> {
-    let reached = reached(alloc, lts)?;
+    let reached = reach_states(alloc, lts)?;
     for s in 0..lts.states() {
         if !reached.contains(&s) {
             return Err(no(NetNo::Unreachable(s)));
@@ -87,17 +87,17 @@ fn all_reached(alloc: Global, lts: &Lts) -> Result<(), Ended> {
 }
 
 // The states that can be reached.
-fn reached(alloc: Global, lts: &Lts) -> Result<Vec<u32>, AllocError> {
+fn reach_states(alloc: Global, lts: &Lts) -> Result<Vec<u32>, AllocError> {
     let mut seen = Vec::new(alloc);
     seen.push(lts.initial())?;
     for _ in 0..lts.states() {
-        spread(lts, &mut seen)?;
+        spread_once(lts, &mut seen)?;
     }
     Ok(seen)
 }
 
 // Adds the targets of the arcs from states that were seen.
-fn spread(lts: &Lts, seen: &mut Vec<u32>) -> Result<(), AllocError> {
+fn spread_once(lts: &Lts, seen: &mut Vec<u32>) -> Result<(), AllocError> {
     for a in lts.arcs() {
         if seen.contains(&a.from) && !seen.contains(&a.to) {
             seen.push(a.to)?;

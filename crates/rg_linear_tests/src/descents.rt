@@ -44,7 +44,7 @@ pub(crate) struct Case {
 }
 
 /// The rows of a case.
-pub(crate) fn listed(alloc: Global, told: &[Told]) -> Result<Vec<Row>, AllocError> {
+pub(crate) fn rows_of(alloc: Global, told: &[Told]) -> Result<Vec<Row>, AllocError> {
     let mut rows = Vec::new(alloc);
     for (coeffs, constant) in told {
         let coeffs = Vec::from_slice(alloc, coeffs)?;
@@ -133,7 +133,7 @@ pub(crate) fn shown_of(alloc: Global, columns: u32, rows: Vec<Row>) -> Option<Sh
 
 /// What the descent over the rows of a case shows.
 pub(crate) fn outcome(alloc: Global, columns: u32, told: &[Told]) -> Option<Shown> {
-    let rows = listed(alloc, told).ok()?;
+    let rows = rows_of(alloc, told).ok()?;
     shown_of(alloc, columns, rows)
 }
 
@@ -228,7 +228,7 @@ fn first_row_is_taken_again(rt: HostRuntime) {
 
 // The plain descent over the rows of a case.
 fn plainly(alloc: Global, told: &[Told]) -> Option<Plain> {
-    let rows = listed(alloc, told).ok()?;
+    let rows = rows_of(alloc, told).ok()?;
     plain::descent(alloc, 3, &rows).ok()
 }
 

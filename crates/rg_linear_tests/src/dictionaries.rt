@@ -69,7 +69,7 @@ fn passing_term_is_shown(rt: HostRuntime) -> Result<(), Fail> {
 }
 
 // 2*x0 + 4*x1 - 6*x2 + 8, 3*x0 + x1 + 5 and x1 - x2 + 1.
-fn worked(alloc: Global) -> Result<RelationTable, AllocError> {
+fn table_by_hand(alloc: Global) -> Result<RelationTable, AllocError> {
     let mut dictionary = RelationTable::with_columns(alloc, 3, 3)?;
     dictionary.push_row(&[2, 4, -6], 8);
     dictionary.push_row(&[3, 1, 0], 5);
@@ -103,7 +103,7 @@ fn shows_all(dictionary: &RelationTable, rows: &[(u32, [i128; 5])]) -> bool {
 
 #[test]
 fn two_exchanges_by_hand(rt: HostRuntime) -> Result<(), Fail> {
-    let mut dictionary = worked(rt.alloc())?;
+    let mut dictionary = table_by_hand(rt.alloc())?;
     assert!(rt; dictionary.columns() == 3 && dictionary.rows() == 3);
     assert!(rt; exchanges(&mut dictionary, 3, &[1, 2, 3]));
     assert!(rt; shows_all(&dictionary, &AFTER_ONE));

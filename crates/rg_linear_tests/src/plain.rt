@@ -85,7 +85,7 @@ fn below(
                 return Ok(state);
             }
             Due::Exchange(leaves) => {
-                let next = exchanged(alloc, &state, pivot, leaves)?;
+                let next = exchange(alloc, &state, pivot, leaves)?;
                 let mut more = fixed.to_vec(alloc)?;
                 more.push(pivot)?;
                 state = below(alloc, columns, next, &more, row)?;
@@ -113,12 +113,12 @@ fn work_at(state: &Plain, fixed: &[u32], pivot: u32) -> Due {
     Due::Refutation
 }
 
-fn exchanged(alloc: Global, state: &Plain, pivot: u32, leaves: u32) -> Result<Plain, AllocError> {
+fn exchange(alloc: Global, state: &Plain, pivot: u32, leaves: u32) -> Result<Plain, AllocError> {
     let mut relations = Vec::new(alloc);
     let mut members = Vec::new(alloc);
     for (variable, relation) in state.relations.iter().enumerate() {
         if let Some(solved) = state.relations.get(pivot as usize) {
-            relations.push(renewed(alloc, solved, pivot as usize, leaves as usize, relation)?)?;
+            relations.push(renew(alloc, solved, pivot as usize, leaves as usize, relation)?)?;
         }
         let Ok(variable) = u32::try_from(variable) else {
             continue;
@@ -135,7 +135,7 @@ fn exchanged(alloc: Global, state: &Plain, pivot: u32, leaves: u32) -> Result<Pl
 }
 
 // The relation, with what the pivot's relation says of the variable that leaves.
-fn renewed(
+fn renew(
     alloc: Global,
     solved: &Relation,
     pivot: usize,

@@ -5,7 +5,7 @@ ghost use Rattle.rg_linear.specs.View.{linear_row, linear_system, IsWellFormed};
 ghost use Rattle.rg_revised.specs.Settling.{IsHeldOf, IsRefutedAt};
 
 use crate::descents::{
-    AGREED, NO_COLUMN, ONE_COLUMN, Shown, TAKEN_AGAIN, Told, is_well_formed, listed, outcome,
+    AGREED, NO_COLUMN, ONE_COLUMN, Shown, TAKEN_AGAIN, Told, is_well_formed, outcome, rows_of,
     shown_of,
 };
 use rg_feasible::Settled;
@@ -65,7 +65,7 @@ fn show(alloc: Global, columns: u32, rows: &[Row]) -> Result<Small, AllocError>
 }
 
 // What the revised dictionary of these rows shows.
-fn settled(alloc: Global, columns: u32, rows: &[Row]) -> Option<Small> {
+fn settle_small(alloc: Global, columns: u32, rows: &[Row]) -> Option<Small> {
     if !is_well_formed(columns, rows) {
         return None;
     }
@@ -90,10 +90,10 @@ fn agrees(alloc: Global, columns: u32, told: &[Told]) -> bool {
     let Some(shown) = outcome(alloc, columns, told) else {
         return false;
     };
-    let Ok(rows) = listed(alloc, told) else {
+    let Ok(rows) = rows_of(alloc, told) else {
         return false;
     };
-    match settled(alloc, columns, &rows) {
+    match settle_small(alloc, columns, &rows) {
         Some(small) => is_same(columns, &small, &shown),
         None => false,
     }
@@ -152,7 +152,7 @@ fn random_rows(
 // What the revised dictionary of random rows comes to, where it ends as the full one does.
 fn random_agrees(alloc: Global, number: u64, columns: u32, count: u32) -> Option<Descent> {
     let rows = random_rows(alloc, number, columns, count).ok()?;
-    let small = settled(alloc, columns, &rows)?;
+    let small = settle_small(alloc, columns, &rows)?;
     let shown = shown_of(alloc, columns, rows)?;
     if is_same(columns, &small, &shown) {
         Some(small.ended)
@@ -179,10 +179,10 @@ fn random_systems_agree(rt: HostRuntime) {
 
 // Whether a number of these rows is too large for the revised dictionary, and the full one ends with a point.
 fn is_large(alloc: Global, columns: u32, told: &[Told]) -> bool {
-    let (Some(shown), Ok(rows)) = (outcome(alloc, columns, told), listed(alloc, told)) else {
+    let (Some(shown), Ok(rows)) = (outcome(alloc, columns, told), rows_of(alloc, told)) else {
         return false;
     };
-    match settled(alloc, columns, &rows) {
+    match settle_small(alloc, columns, &rows) {
         Some(small) => small.ended == Descent::Large && shown.settled == Settled::Point,
         None => false,
     }

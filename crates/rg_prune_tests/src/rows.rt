@@ -93,7 +93,7 @@ const STEPS_AND_LOOPS: [(&str, &str, &str); 6] = [
 ];
 
 // The same places.
-fn copied(alloc: Global, places: &[Place]) -> Result<Vec<Place>, AllocError>
+fn copy(alloc: Global, places: &[Place]) -> Result<Vec<Place>, AllocError>
     ensures { IfOk result (λ copies. map shown_place copies.items ≡ map shown_place places.now) }
 {
     let mut copies = Vec::new(alloc);
@@ -107,7 +107,7 @@ fn copied(alloc: Global, places: &[Place]) -> Result<Vec<Place>, AllocError>
 }
 
 // The tokens that the place has after an arc.
-fn moved(tokens: &[u128], place: &Place, a: Arc) -> Option<u128> {
+fn tokens_after(tokens: &[u128], place: &Place, a: Arc) -> Option<u128> {
     let takes = *place.pre.get(a.label as usize)?;
     let puts = *place.post.get(a.label as usize)?;
     tokens
@@ -122,7 +122,7 @@ fn tokens_of(alloc: Global, lts: &Lts, place: &Place) -> Option<Vec<u128>> {
     let mut tokens = vec![in alloc; 0u128; lts.states() as usize].ok()?;
     *tokens.get_mut(lts.initial() as usize)? = place.start;
     for a in tree.arcs() {
-        let there = moved(&tokens, place, *a)?;
+        let there = tokens_after(&tokens, place, *a)?;
         *tokens.get_mut(a.to as usize)? = there;
     }
     Some(tokens)
@@ -163,20 +163,20 @@ fn solving_places(alloc: Global, lts: &Lts, net: &Net) -> Option<Vec<Place>>
     let Ok(NetVerdict::Yes) = check_net(alloc, lts, net, ALL_NETS) else {
         return None;
     };
-    let Ok(places) = copied(alloc, net.places()) else {
+    let Ok(places) = copy(alloc, net.places()) else {
         return None;
     };
     Some(places)
 }
 
 // Those of the places of the net that are left; None where it doesn't solve the system, or there is no memory left.
-fn left(alloc: Global, lts: &Lts, net: &Net) -> Option<Vec<Place>> {
+fn prune_net(alloc: Global, lts: &Lts, net: &Net) -> Option<Vec<Place>> {
     let places = solving_places(alloc, lts, net)?;
     prune(alloc, lts, places).ok()
 }
 
 // The same, by the problems that each place is the first to separate.
-fn left_with_firsts(alloc: Global, lts: &Lts, net: &Net) -> Option<Vec<Place>> {
+fn prune_with_own_firsts(alloc: Global, lts: &Lts, net: &Net) -> Option<Vec<Place>> {
     let places = solving_places(alloc, lts, net)?;
     let firsts = all_firsts(alloc, lts, &places).ok()?;
     let Ok(compact) = compact_all(alloc, lts, &places) else {
@@ -206,8 +206,8 @@ fn leaves(alloc: Global, lts: &str, given: &str, wanted: &str) -> Option<bool> {
     let lts = system(alloc, lts)?;
     let given = net(alloc, &lts, given)?;
     let wanted = net(alloc, &lts, wanted)?;
-    let left = left(alloc, &lts, &given)?;
-    let with_firsts = left_with_firsts(alloc, &lts, &given)?;
+    let left = prune_net(alloc, &lts, &given)?;
+    let with_firsts = prune_with_own_firsts(alloc, &lts, &given)?;
     Some(are_same(&left, wanted.places()) && are_same(&with_firsts, wanted.places()))
 }
 

@@ -40,7 +40,7 @@ fn far_basis(alloc: Global) -> Result<Basis, Stop>
 }
 
 // What the rows of a problem of two labels pass over that basis.
-fn passed_by_rows(alloc: Global) -> Option<FoldStop> {
+fn wide_rows(alloc: Global) -> Option<FoldStop> {
     let lts = system(alloc, ABA)?;
     let Ok(tree) = Tree::grow(alloc, &lts) else {
         return None;
@@ -82,7 +82,7 @@ fn place_over(
 }
 
 // The place of a point of the first case of a problem of the system that a text spells.
-fn placed(
+fn place_by_call(
     alloc: Global,
     text: &str,
     class: Class,
@@ -108,7 +108,7 @@ fn placed(
 
 // Whether a takes the one token, and b puts it back.
 fn is_taken_by_a(alloc: Global) -> bool {
-    match placed(alloc, ABA, ALL_NETS, Event(1, 0), &[(-1, 1), (1, 1)]) {
+    match place_by_call(alloc, ABA, ALL_NETS, Event(1, 0), &[(-1, 1), (1, 1)]) {
         Some(Ok(place)) => {
             place.start == 1
                 && place.pre.as_slice() == [1, 0].as_slice()
@@ -132,7 +132,7 @@ fn is_place_refused(alloc: Global) -> bool {
         d: 0,
     };
     let numbers = [(1, i128::MAX), (1, i128::MAX - 1)];
-    match placed(alloc, GET_AND_PUT, ALL_NETS, Event(1, 2), &numbers) {
+    match place_by_call(alloc, GET_AND_PUT, ALL_NETS, Event(1, 2), &numbers) {
         Some(Err(stop)) => stop == FoldStop::Wide(passes),
         _ => false,
     }
@@ -146,7 +146,7 @@ fn are_rows_refused(alloc: Global) -> bool {
         c: 0,
         d: 0,
     };
-    passed_by_rows(alloc) == Some(FoldStop::Wide(passes))
+    wide_rows(alloc) == Some(FoldStop::Wide(passes))
 }
 
 #[test]

@@ -63,7 +63,7 @@ fn place_over(
 }
 
 // The place of a point of the system that a text spells.
-fn placed(
+fn place_of_text(
     alloc: Global,
     text: &str,
     class: Class,
@@ -123,7 +123,7 @@ fn is_told(made: &RegionPlace, worked: &Worked) -> bool {
 
 // Whether the point becomes the expected place.
 fn is_made(alloc: Global, worked: &Worked) -> bool {
-    match placed(
+    match place_of_text(
         alloc,
         worked.text,
         worked.class,
@@ -352,8 +352,8 @@ fn starts_are_multiples(rt: HostRuntime) {
 }
 
 // What the point of these numbers passes, in a problem of the lock.
-fn passed(alloc: Global, numbers: &[(i128, i128)]) -> Option<FoldStop> {
-    placed(alloc, GET_AND_PUT, ALL_NETS, Event(1, 2), numbers)?.err()
+fn wide_place(alloc: Global, numbers: &[(i128, i128)]) -> Option<FoldStop> {
+    place_of_text(alloc, GET_AND_PUT, ALL_NETS, Event(1, 2), numbers)?.err()
 }
 
 #[test]
@@ -365,12 +365,12 @@ fn the_first_step_out_of_range_is_shown(rt: HostRuntime) {
         d: 0,
     };
     let numbers = [(1, i128::MAX), (1, i128::MAX - 1)];
-    assert!(rt; passed(rt.alloc(), &numbers) == Some(FoldStop::Wide(passes)));
+    assert!(rt; wide_place(rt.alloc(), &numbers) == Some(FoldStop::Wide(passes)));
 }
 
 // What the point of this number passes, in a class that asks a multiple of 2 and whose problem is two states.
-fn passed_by_the_marking(alloc: Global, effect: i128) -> Option<FoldStop> {
-    placed(alloc, STEP, TWO_MARKING, States(0, 1), &[(effect, 1)])?.err()
+fn wide_marking(alloc: Global, effect: i128) -> Option<FoldStop> {
+    place_of_text(alloc, STEP, TWO_MARKING, States(0, 1), &[(effect, 1)])?.err()
 }
 
 #[test]
@@ -382,7 +382,7 @@ fn the_marking_comes_out_of_range(rt: HostRuntime) {
         c: 0,
         d: 0,
     };
-    assert!(rt; passed_by_the_marking(rt.alloc(), effect) == Some(FoldStop::Wide(passes)));
+    assert!(rt; wide_marking(rt.alloc(), effect) == Some(FoldStop::Wide(passes)));
 }
 
 // A label without an arc, and one with an arc.

@@ -37,7 +37,13 @@ const ONE_A_OR_TWO_B: &str =
 const IDLE: &str = ".type LTS .states s0[initial] s1 s2 .labels a b .arcs s0 a s0 s0 b s1 s1 a s2";
 
 // What the system of a case says.
-fn told(alloc: Global, text: &str, class: Class, problem: Problem, number: u32) -> Option<String> {
+fn text_of_case(
+    alloc: Global,
+    text: &str,
+    class: Class,
+    problem: Problem,
+    number: u32,
+) -> Option<String> {
     let lts = system(alloc, text)?;
     let Ok(tree) = Tree::grow(alloc, &lts) else {
         return None;
@@ -79,7 +85,7 @@ fn case_text(alloc: Global, c: CaseSetting<'_>) -> Option<String>
 }
 
 // The same over rows that are made already.
-fn shared_text(alloc: Global, common: &Common, c: CaseSetting<'_>) -> Option<String>
+fn text_over_common(alloc: Global, common: &Common, c: CaseSetting<'_>) -> Option<String>
     requires tree { IsTreeOf c.setting.lts.now c.setting.tree.now }
     requires labels { labels_of c.setting.basis.now ≡ labels c.setting.lts.now }
     requires common { IsCommonOf (shown_setting c.setting) common.now }
@@ -262,14 +268,14 @@ const SYSTEMS: [(&str, Class, Problem, u32, &str); 19] = [
 #[test]
 fn systems_of_cases(rt: HostRuntime) -> Result<(), Fail> {
     for (text, class, problem, number, rows) in SYSTEMS {
-        let told = told(rt.alloc(), text, class, problem, number).ok_or("rows")?;
+        let told = text_of_case(rt.alloc(), text, class, problem, number).ok_or("rows")?;
         assert!(rt; told.as_str() == rows, "{class:?} {problem:?} {text}");
     }
     Ok(())
 }
 
 // What the systems of several problems say, each made with the same rows that they share.
-fn shared_texts(
+fn texts_over_common(
     alloc: Global,
     common: &Common,
     setting: Setting<'_>,
@@ -286,7 +292,7 @@ fn shared_texts(
             problem,
             number,
         };
-        let rows = shared_text(alloc, common, case)?;
+        let rows = text_over_common(alloc, common, case)?;
         writeln!(told, "{rows}").ok()?;
     }
     Some(told)
@@ -307,8 +313,8 @@ fn both_texts(
     let Ok(copy) = common.copied(alloc) else {
         return None;
     };
-    let made = shared_texts(alloc, &common, setting, problems)?;
-    let copied = shared_texts(alloc, &copy, setting, problems)?;
+    let made = texts_over_common(alloc, &common, setting, problems)?;
+    let copied = texts_over_common(alloc, &copy, setting, problems)?;
     Some((made, copied))
 }
 

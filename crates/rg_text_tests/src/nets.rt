@@ -130,7 +130,7 @@ fn numbers_add_up(rt: HostRuntime) -> Result<(), Fail> {
 }
 
 // The text of the net that a text spells.
-fn printed(alloc: Global, text: &[u8], lts: &Lts) -> Option<Vec<u8>> {
+fn print_again(alloc: Global, text: &[u8], lts: &Lts) -> Option<Vec<u8>> {
     if text.len() > MOST_BYTES {
         return None;
     }
@@ -143,10 +143,10 @@ fn is_printed(alloc: Global, labels: &[u8], text: &[u8], wanted: &[u8]) -> bool 
     let Some(lts) = system_of(alloc, labels) else {
         return false;
     };
-    let Some(made) = printed(alloc, text, &lts) else {
+    let Some(made) = print_again(alloc, text, &lts) else {
         return false;
     };
-    let Some(again) = printed(alloc, &made, &lts) else {
+    let Some(again) = print_again(alloc, &made, &lts) else {
         return false;
     };
     made.as_slice() == wanted && again.as_slice() == wanted

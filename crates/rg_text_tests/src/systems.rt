@@ -34,7 +34,7 @@ fn laws_are_called(_rt: HostRuntime) {
 }
 
 // Two states and two labels.
-fn named(alloc: Global) -> Result<LtsBuilder, BuildFault> {
+fn builder_with_names(alloc: Global) -> Result<LtsBuilder, BuildFault> {
     let mut builder = LtsBuilder::new(alloc);
     builder.state("s0")?;
     builder.state("s1")?;
@@ -70,7 +70,7 @@ fn is_built(builder: LtsBuilder) -> bool {
 
 #[test]
 fn builds_a_system(rt: HostRuntime) {
-    let Ok(mut builder) = named(rt.alloc()) else {
+    let Ok(mut builder) = builder_with_names(rt.alloc()) else {
         panic!(rt; "the names weren't taken");
     };
     assert!(rt; builder.state_number("s1") == Some(1) && builder.label_number("c") == None);
@@ -88,7 +88,7 @@ fn takes_new_names(builder: &mut LtsBuilder) -> bool {
 
 #[test]
 fn refuses_names(rt: HostRuntime) {
-    let Ok(mut builder) = named(rt.alloc()) else {
+    let Ok(mut builder) = builder_with_names(rt.alloc()) else {
         panic!(rt; "the names weren't taken");
     };
     assert!(rt; takes_new_names(&mut builder));

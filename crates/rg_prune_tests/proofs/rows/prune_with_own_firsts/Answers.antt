@@ -2,7 +2,7 @@ use Rattle.std.proofs.Common.{All, sym, subst}
 use Rattle.std.proofs.lemmas.List.Elements.{All-map}
 use Rattle.rg_net.specs.Shown.{shown_place}
 use Rattle.rg_marks.specs.Tokens.{IsNarrow}
-use Rattle.rg_prune_tests.proofs.rows.left_with_firsts.Goals as goal
+use Rattle.rg_prune_tests.proofs.rows.prune_with_own_firsts.Goals as goal
 
 pub prune_with_firsts-requires-clause-narrow : goal.prune_with_firsts-requires-clause-narrow
 prune_with_firsts-requires-clause-narrow c =
