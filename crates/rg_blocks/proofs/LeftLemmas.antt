@@ -7,10 +7,11 @@ use Rattle.rg_theory.specs.Net.{Place}
 use Rattle.rg_theory.specs.declared.Problem.{Problem}
 use Rattle.rg_theory.specs.declared.Problem.TheVariants.{Event, States}
 use Rattle.rg_theory.specs.Problem.{ComesBefore}
+use Rattle.rg_marks.specs.Cells.{AreAllApart}
 use Rattle.rg_outcome.specs.Coming.{IsLeft, IsNext}
 use Rattle.rg_outcome.specs.Blocks.{IsBlock, last_of}
 use Rattle.rg_outcome.proofs.Ordering.{not_before_itself}
-use Rattle.rg_blocks.specs.Left.{IsLeftFrom, IsFirstFrom, NoneBetween}
+use Rattle.rg_blocks.specs.Left.{IsLeftFrom, IsFirstFrom, NoneBetween, NoneFrom}
 
 -- there is an arc, or none
 pub some_arc : (o : Option ℕ) (P : ℕ → Type 0) → is_some o ≡ true → IfSome o P → ((x : ℕ) → ¬ P x) → ⊥
@@ -52,6 +53,14 @@ module _ (lts : System) (kept : List Place) where
   events_before s t u le (States r r') less = less
   events_before s t u le (Event r v) (inl less) = inl less
   events_before s t u le (Event r v) (inr (e, less)) = inr (e, omega arith)
+
+  -- no event problem is left from the bound on, and no state problem at all
+  pub none_with_states : (a : Problem) → NoneBetween lts kept a (States 0 0) → AreAllApart lts kept → NoneFrom lts kept a
+  none_with_states a h apart = record { none = none }
+    where
+      none : (problem : Problem) → ¬ IsLeftFrom lts kept a problem
+      none (Event r u) left = h.none (Event r u) left tt
+      none (States r r') left = left.0.1 (apart r r' left.0.0)
 
 -- ---- a block
 

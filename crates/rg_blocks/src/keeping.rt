@@ -4,6 +4,7 @@ ghost use Rattle.rg_theory.specs.System.{System};
 ghost use Rattle.rg_theory.specs.Net.{Place};
 ghost use Rattle.rg_theory.specs.Problem.{IsProblem};
 ghost use Rattle.rg_net.specs.Shown.{shown_place};
+ghost use Rattle.rg_marks.specs.Cells.{AreAllApart};
 ghost use Rattle.rg_marks.specs.declared.region_place.RegionPlace.{RegionPlace};
 ghost use Rattle.rg_outcome.specs.Coming.{IsSeparated};
 
@@ -28,6 +29,11 @@ pub trait Keeping {
         requires system { keeps_for self.now lts.now }
         requires problem { IsProblem lts.now problem }
         ensures { IsTrue result ↔ IsSeparated lts.now (places self.now) problem };
+
+    /// Whether the places separate all state problems of the system.
+    fn are_all_apart(&self, lts: &Lts) -> bool
+        requires system { keeps_for self.now lts.now }
+        ensures { IsTrue result ↔ AreAllApart lts.now (places self.now) };
 
     /// Keeps one more place, after the others. Returns `NoMemory` if memory runs out.
     fn keep(&mut self, lts: &Lts, place: RegionPlace) -> Result<(), NoMemory>

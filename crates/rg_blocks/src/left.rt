@@ -91,6 +91,7 @@ fn states_left<K: Keeping>(lts: &Lts, kept: &K, s: u32, first: u32) -> Option<Pr
 }
 
 // The first problem that is left, from an event problem's numbers on.
+#[tactic(auto, using(crate::proofs::LeftLemmas::none_with_states))]
 fn first_left_from<K: Keeping>(lts: &Lts, kept: &K, s: u32, first: u32) -> Option<Problem>
     requires kept { K.keeps_for kept.now lts.now }
     requires state { s < states lts.now }
@@ -100,6 +101,9 @@ fn first_left_from<K: Keeping>(lts: &Lts, kept: &K, s: u32, first: u32) -> Optio
     let found = event_left(lts, kept, s, first);
     if found.is_some() {
         return found;
+    }
+    if kept.are_all_apart(lts) {
+        return None;
     }
     states_left(lts, kept, 0, 1)
 }

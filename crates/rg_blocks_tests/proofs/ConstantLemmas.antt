@@ -1,6 +1,7 @@
 -- What places give that no arc changes.
 use Rattle.std.specs.Prelude.{slice_index}
-use Rattle.std.proofs.Common.{◌≡◌, ℕ, zero, suc, ◌<◌, ◌≤◌, List, [], ◌∷◌, ◌++◌, map, All, Any, length, replicate, refl, sym, ap, subst, ◌∙◌, arith}
+use Rattle.std.proofs.Common.{◌≡◌, ◌⊎◌, ◌↔◌, inl, inr, IsTrue, nat_lt, ltb-true, ℕ, zero, suc, ◌<◌, ◌≤◌, List, [], ◌∷◌, ◌++◌, map, All, Any, length, replicate, refl, sym, ap, subst, ◌∙◌, arith}
+use Rattle.std.proofs.lemmas.Bool.{cases_lt, lt-ltb}
 use Rattle.std.proofs.lemmas.List.{length-replicate, get_or-replicate}
 use Rattle.std.proofs.lemmas.List.Elements.{All-append, All-cons}
 use Rattle.rg_theory.specs.System.{System, states, labels, IsAllReachable}
@@ -14,6 +15,7 @@ use Rattle.rg_net.specs.Shown.{shown_place}
 use Rattle.rg_marks.specs.declared.region_place.RegionPlace.{RegionPlace}
 use Rattle.rg_outcome.specs.Solving.{Solved.placed}
 use Rattle.rg_outcome.specs.Coming.{IsSeparated}
+use Rattle.rg_marks.specs.Cells.{AreAllApart}
 use Rattle.rg_marks.specs.Tokens.{IsNarrow, AreTokens}
 use Rattle.rg_blocks.specs.Taking.{AreNotable}
 use Rattle.rg_blocks.specs.Separating.{EachPlaceSeparates}
@@ -64,6 +66,20 @@ module _ (lts : System) (reachable : IsAllReachable lts) where
   none_apart s r [] is all (k, p, below, e, sep) = absurd (omega arith)
   none_apart s r (x ∷ kept) is all (zero, p, below, e, sep) = never_apart s r (shown_place x.place) is (all 0 x (omega arith)) (subst (IsSeparatedBy lts (States s r)) (sym e) sep)
   none_apart s r (x ∷ kept) is all (suc k, p, below, e, sep) = none_apart s r kept is (λ i y less. all (suc i) y (omega arith)) (k, p, omega arith, e, sep)
+
+  -- such places distinguish every two states only where there is at most one
+  pub all_apart : (kept : List RegionPlace) → All (RegionIsConstant lts) kept → IsTrue (nat_lt (states lts) 2) ↔ AreAllApart lts (shown kept)
+  all_apart kept all = (to, from)
+    where
+      to : IsTrue (nat_lt (states lts) 2) → AreAllApart lts (shown kept)
+      to is s s' (order, last) = let few = ltb-true (states lts) 2 is in absurd (omega arith)
+
+      from : AreAllApart lts (shown kept) → IsTrue (nat_lt (states lts) 2)
+      from apart = go (cases_lt (states lts) 2)
+        where
+          go : (states lts < 2) ⊎ (2 ≤ states lts) → IsTrue (nat_lt (states lts) 2)
+          go (inl less) = lt-ltb (states lts) 2 less
+          go (inr most) = let has : IsProblem lts (States 0 1) = (omega arith, omega arith) in absurd (none_apart 0 1 kept has all (apart 0 1 has))
 
   -- a place without a token is a region, and what it has at each state is told
   pub notable : AreNotable lts (HasNoToken lts)

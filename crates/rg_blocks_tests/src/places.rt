@@ -112,6 +112,10 @@ impl Keeping for Places {
         }
     }
 
+    fn are_all_apart(&self, lts: &Lts) -> bool {
+        lts.states() < 2
+    }
+
     fn keep(&mut self, _lts: &Lts, place: RegionPlace) -> Result<(), NoMemory> {
         Ok(self.kept.push(place)?)
     }

@@ -1,5 +1,5 @@
 -- The rows of a tree's chords.
-use Rattle.std.proofs.Common.{◌≡◌, ℕ, zero, suc, ◌+◌, ◌<◌, ◌≤◌, ◌^◌, ◌==◌, Bool, true, false, if◌then◌else◌, List, [], ◌∷◌, map, length, get_or, All, ℤ, pos, ◌+ℤ◌, ◌-ℤ◌, ap, ap₂, sym, ◌∙◌, subst, arith}
+use Rattle.std.proofs.Common.{◌≡◌, ℕ, ◌+◌, ◌<◌, ◌≤◌, ◌==◌, Bool, true, false, if◌then◌else◌, List, [], ◌∷◌, map, length, get_or, All, ℤ, pos, ◌+ℤ◌, ◌-ℤ◌, ap, ap₂, sym, ◌∙◌, subst, arith}
 use Rattle.std.proofs.lemmas.Int.{ints}
 use Rattle.std.proofs.lemmas.List.{get_or-map, length-map}
 use Rattle.std.proofs.lemmas.List.Elements.{Contains-get_or}
@@ -14,7 +14,7 @@ use Rattle.rg_linear.specs.Dictionary.{numbers_from}
 use Rattle.rg_linear.specs.Cycle.{vector_at}
 use Rattle.rg_linear.proofs.Members.{length-numbers_from}
 use Rattle.rg_spanning.specs.Spanning.{Spanning, IsTreeOf}
-use Rattle.rg_case_folds.specs.Chords.{chord_vector, chord_vectors}
+use Rattle.rg_case_folds.specs.Chords.{chord_vectors}
 use Rattle.rg_case_folds.proofs.Potentials.{chord_is_arc}
 use Rattle.rg_case_folds.proofs.StartBounds.{way_below}
 use Rattle.rg_cycles.specs.Vectors.{AreVectors}

@@ -4,7 +4,7 @@ use Rattle.std.proofs.Common.{eq-eqb, eqb-true, length-append}
 use Rattle.std.specs.List.{list_any}
 use Rattle.std.proofs.lemmas.Bool.{cases_eq, cases_Bool, true≢false}
 use Rattle.std.proofs.lemmas.Option.{same_Some, none-some, slice_get_within, slice_get_read}
-use Rattle.rg_marks.specs.Cells.{AreRefined}
+use Rattle.rg_marks.specs.Cells.{AreNumbered, AreRefined}
 use Rattle.rg_marks.proofs.Members.{get_before, get_last, get_cases}
 
 -- the states before s have as many tokens as the states by which their cells are numbered
@@ -83,6 +83,7 @@ pub record NumberedSoFar (cells tokens : List ℕ) (keys : List (ℕ × ℕ)) (f
   pub listed : length firsts ≡ length keys
   pub few : length keys ≤ s
   pub below : (i f : ℕ) → slice_get firsts i ≡ Some f → f < s
+  pub own : (i f : ℕ) → slice_get firsts i ≡ Some f → get_or refined f 0 ≡ f
   pub distinct : AreDistinct keys
   pub apart : AreDistinct firsts
   pub stored : (k : ℕ) → k < s → (i : ℕ) × (slice_get keys i ≡ Some (get_or cells k 0, get_or tokens k 0)) × (slice_get firsts i ≡ Some (get_or refined k 0))
@@ -109,6 +110,10 @@ module _ (cells tokens : List ℕ) (keys : List (ℕ × ℕ)) (firsts refined : 
           let (i, here, there) = so_far.stored k (omega arith) in
           (i, keeps i (get_or cells k 0, get_or tokens k 0) here, holds i (get_or refined k 0) there ∙ ap Some (sym (first_of refined f k (let n = so_far.long in omega arith))))
 
+  -- a listed state keeps its number, which is its own
+  stays : (f i x : ℕ) → slice_get firsts i ≡ Some x → get_or (refined ++ f ∷ []) x 0 ≡ x
+  stays f i x e = first_of refined f x (let lt = so_far.below i x e in let n = so_far.long in omega arith) ∙ so_far.own i x e
+
   -- the next state is the first one with its pair
   first_next : list_any (same_pair next_pair) keys ≡ false → NumberedSoFar cells tokens (keys ++ next_pair ∷ []) (firsts ++ s ∷ []) (refined ++ s ∷ []) (s + 1)
   first_next none = record {
@@ -116,6 +121,7 @@ module _ (cells tokens : List ℕ) (keys : List (ℕ × ℕ)) (firsts refined : 
     listed = omega (arith, length-append firsts (s ∷ []), length-append keys (next_pair ∷ []), so_far.listed);
     few = omega (arith, length-append keys (next_pair ∷ []), so_far.few);
     below = λ i f e. ⊎_elim (λ h. let lt = so_far.below i f h in omega arith) (λ (at, is). omega arith) (get_cases firsts s i f e);
+    own = λ i f e. ⊎_elim (λ h. stays s i f h) (λ (at, is). last_of refined s f (let n = so_far.long in omega arith) ∙ is) (get_cases firsts s i f e);
     distinct = one_more_distinct keys next_pair so_far.distinct (λ i e. true≢false (sym (found next_pair keys i e) ∙ none));
     apart = one_more_distinct firsts s so_far.apart (λ i e. let lt = so_far.below i s e in omega arith);
     stored = stored_next (keys ++ next_pair ∷ []) (firsts ++ s ∷ []) (length keys) s (get_before keys next_pair) (get_before firsts s)
@@ -129,6 +135,7 @@ module _ (cells tokens : List ℕ) (keys : List (ℕ × ℕ)) (firsts refined : 
     listed = so_far.listed;
     few = let n = so_far.few in omega arith;
     below = λ i x e. let lt = so_far.below i x e in omega arith;
+    own = stays f;
     distinct = so_far.distinct;
     apart = so_far.apart;
     stored = stored_next keys firsts number f (λ i x e. e) (λ i x e. e) at is;
@@ -188,10 +195,24 @@ module _ (cells tokens : List ℕ) (keys : List (ℕ × ℕ)) (firsts refined : 
   numbered_end past most = record {
     one_each = so_far.long ∙ same;
     same = λ k k' lt lt'. (λ e. to k k' lt lt' e, λ (e, f). from k k' lt lt' e f);
+    numbered = λ before. record { within = within; own = own };
   }
     where
       same : s ≡ length cells
       same = omega arith
+
+      within : (k : ℕ) → k < length refined → get_or refined k 0 < length refined
+      within k lt =
+          let long = so_far.long in
+          let (i, at, is) = so_far.stored k (omega arith) in
+          let less = so_far.below i (get_or refined k 0) is in
+          omega arith
+
+      own : (k : ℕ) → k < length refined → get_or refined (get_or refined k 0) 0 ≡ get_or refined k 0
+      own k lt =
+          let long = so_far.long in
+          let (i, at, is) = so_far.stored k (omega arith) in
+          so_far.own i (get_or refined k 0) is
 
       to : (k k' : ℕ) → k < length cells → k' < length cells → get_or refined k 0 ≡ get_or refined k' 0 → (get_or cells k 0 ≡ get_or cells k' 0) × (get_or tokens k 0 ≡ get_or tokens k' 0)
       to k k' lt lt' e =

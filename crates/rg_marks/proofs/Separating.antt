@@ -1,6 +1,6 @@
 -- What places separate, and what one more separates.
-use Rattle.std.proofs.Common.{◌≡◌, ◌≢◌, ◌↔◌, ℕ, ◌<◌, ◌⊎◌, ◌==◌, Bool, true, false, not, List, [], length, replicate, get_or, Any, Contains, IsTrue, Vec, inl, inr, ⊎_elim, sym, ap, ◌∙◌, subst, arith, eq-eqb, eqb-true}
-use Rattle.std.proofs.lemmas.Bool.{cases_eq, cases_Bool, true≢false}
+use Rattle.std.proofs.Common.{◌≡◌, ◌≢◌, ◌↔◌, ℕ, ◌<◌, ◌≤◌, ◌⊎◌, ◌==◌, Bool, true, false, not, List, [], length, replicate, get_or, Any, Contains, IsTrue, Vec, inl, inr, ⊎_elim, sym, ap, ◌∙◌, subst, arith, eq-eqb, eqb-true}
+use Rattle.std.proofs.lemmas.Bool.{cases_eq, cases_lt, cases_Bool, true≢false}
 use Rattle.std.proofs.lemmas.List.{length-replicate, get_or-replicate}
 use Rattle.std.specs.declared.alloc.Global.{Global}
 use Rattle.rg_theory.specs.System.{System, states, labels}
@@ -10,7 +10,7 @@ use Rattle.rg_theory.specs.declared.Problem.TheVariants.{Event, States}
 use Rattle.rg_theory.specs.Problem.{IsProblem, IsSeparatedBy}
 use Rattle.rg_marks.specs.Tokens.{IsNarrow, AreTokens}
 use Rattle.rg_marks.specs.Stops.{rows_in, mark_at, IsTable, MarksStops, IsStoppedBy}
-use Rattle.rg_marks.specs.Cells.{AreCells, AreRefined}
+use Rattle.rg_marks.specs.Cells.{AreCells, AreNumbered, AreSingle, AreAllApart, AreRefined}
 use Rattle.rg_marks.specs.Separated.{AddsOne, SeparateSoMuch}
 use Rattle.rg_marks.specs.declared.separated.Separated.{Separated}
 use Rattle.rg_marks.proofs.Members.{any_adds, adds_any}
@@ -71,6 +71,54 @@ one_cell lts cells is = subst (AreCells lts []) (sym is) (record {
   );
 })
 
+-- the one cell of all states is numbered by the first of them
+pub one_numbered : (count : ℕ) (cells : List ℕ) → cells ≡ replicate count 0 → AreNumbered cells
+one_numbered count cells is = subst AreNumbered (sym is) (record { within = within; own = own })
+  where
+    all : List ℕ
+    all = replicate count 0
+
+    first : (s : ℕ) → s < length all → get_or all s 0 ≡ 0
+    first s lt = get_or-replicate count s 0 0 (let size : length all ≡ count = length-replicate count 0 in omega arith)
+
+    within : (s : ℕ) → s < length all → get_or all s 0 < length all
+    within s lt = let e = first s lt in omega arith
+
+    own : (s : ℕ) → s < length all → get_or all (get_or all s 0) 0 ≡ get_or all s 0
+    own s lt = ap (λ n. get_or all n 0) (first s lt) ∙ first 0 (omega arith) ∙ sym (first s lt)
+
+-- each state is alone in its cell exactly where the places distinguish every two states
+pub single_apart : (lts : System) (places : List Place) (separated : Separated) → SeparateSoMuch lts places separated → AreSingle separated.cells.items ↔ AreAllApart lts places
+single_apart lts places separated much = (to, from)
+  where
+    cells : List ℕ
+    cells = separated.cells.items
+
+    to : AreSingle cells → AreAllApart lts places
+    to single s s' (order, last) =
+        let size = much.cells.one_each in
+        (much.cells.apart s s' (omega arith) last).0 (λ e. let here = single s (omega arith) in let there = single s' (omega arith) in omega arith)
+
+    from : AreAllApart lts places → AreSingle cells
+    from apart s lt = by (cases_lt s f) (cases_lt f s)
+      where
+        f : ℕ
+        f = get_or cells s 0
+
+        own : get_or cells f 0 ≡ f
+        own = much.numbered.own s lt
+
+        within : f < states lts
+        within = let less = much.numbered.within s lt in let size = much.cells.one_each in omega arith
+
+        here : s < states lts
+        here = let size = much.cells.one_each in omega arith
+
+        by : (s < f) ⊎ (f ≤ s) → (f < s) ⊎ (s ≤ f) → f ≡ s
+        by (inl less) h = absurd ((much.cells.apart s f here within).1 (apart s f (less, within)) (sym own))
+        by (inr most) (inl less) = absurd ((much.cells.apart f s within here).1 (apart f s (less, here)) own)
+        by (inr most) (inr least) = omega arith
+
 -- the marks with those that are new are the marks with one more place
 pub marks_with_new : (lts : System) (p : Place) (tokens : List ℕ) (before after : List (List Bool)) (events : List (ℕ × ℕ))
     → ((s t : ℕ) → s < states lts → t < labels lts → Contains events (s, t) ↔ (IsStoppedBy p tokens s t × (mark_at before s t ≡ false)))
@@ -96,6 +144,7 @@ so_much_more lts p tokens xs ys old new before rows from refined narrow are adds
       stops = subst (λ (l : List (Vec Bool Global)). MarksStops lts ys (rows_in l)) (sym writes)
           (marks_more lts p tokens narrow are xs ys (rows_in before) (rows_in rows) adds (subst (λ (l : List (Vec Bool Global)). MarksStops lts xs (rows_in l)) (sym is) much.stops) table says);
       cells = subst (AreCells lts ys) (sym numbered) (cells_more lts p tokens narrow are xs ys from refined adds (subst (AreCells lts xs) (sym is') much.cells) fine);
+      numbered = subst AreNumbered (sym numbered) (fine.numbered (subst AreNumbered (sym is') much.numbered));
     }
 
 -- what a mark and two numbers say

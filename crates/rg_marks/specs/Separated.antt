@@ -3,13 +3,14 @@ use Rattle.std.specs.Prelude.{◌≡◌, ◌⊎◌, List, Contains}
 use Rattle.rg_theory.specs.System.{System}
 use Rattle.rg_theory.specs.Net.{Place}
 use Rattle.rg_marks.specs.Stops.{rows_in, MarksStops}
-use Rattle.rg_marks.specs.Cells.{AreCells}
+use Rattle.rg_marks.specs.Cells.{AreCells, AreNumbered}
 use Rattle.rg_marks.specs.declared.separated.Separated.{Separated}
 
 -- the labels that the places stop, and the states that they don't distinguish
 pub record SeparateSoMuch (lts : System) (places : List Place) (separated : Separated) : Type 0 where
   pub stops : MarksStops lts places (rows_in separated.stops.items)
   pub cells : AreCells lts places separated.cells.items
+  pub numbered : AreNumbered separated.cells.items
 
 -- some places separate so much
 pub record AreSome (lts : System) (separated : Separated) : Type 0 where

@@ -1,6 +1,6 @@
 //! Cells of states that places don't distinguish.
-ghost use Rattle.std.specs.Prelude.{◌≡◌, ◌≢◌, ℕ, ◌<◌, length, IsTrue, IfOk, IfSome, IfNone, slice_index};
-ghost use Rattle.rg_marks.specs.Cells.{AreRefined};
+ghost use Rattle.std.specs.Prelude.{◌≡◌, ◌≢◌, ◌↔◌, ℕ, ◌<◌, length, IsTrue, IfOk, IfSome, IfNone, slice_index};
+ghost use Rattle.rg_marks.specs.Cells.{AreSingle, AreRefined};
 
 use indexmap::IndexSet;
 use std::alloc::{AllocError, Global};
@@ -35,6 +35,18 @@ fn are_same_within(cells: &[u32], tokens: &[u128]) -> bool
     for s in 0..cells.len() {
         let first = cells[s] as usize;
         if first != s && (first >= tokens.len() || tokens[first] != tokens[s]) {
+            return false;
+        }
+    }
+    true
+}
+
+// Whether each state has its own number.
+pub(crate) fn are_single(cells: &[u32]) -> bool
+    ensures { IsTrue result ↔ AreSingle cells.now }
+{
+    for s in 0..cells.len() {
+        if cells[s] as usize != s {
             return false;
         }
     }

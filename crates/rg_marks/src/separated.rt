@@ -1,13 +1,15 @@
 //! What some places separate, and what one more does.
 ghost use Rattle.std.specs.Prelude.{◌≡◌, ◌≢◌, ◌↔◌, List, [], Any, IsTrue, IfOk, OnOk, OnErr, IfSome, IfNone};
+ghost use Rattle.rg_theory.specs.System.{System};
 ghost use Rattle.rg_theory.specs.Net.{Place as PlaceOfTheory};
 ghost use Rattle.rg_theory.specs.Problem.{IsProblem, IsSeparatedBy};
 ghost use Rattle.rg_net.specs.Shown.{shown_place};
 ghost use Rattle.rg_marks.specs.Tokens.{IsNarrow, AreTokens};
 ghost use Rattle.rg_marks.specs.Firsts.{AreFirsts};
+ghost use Rattle.rg_marks.specs.Cells.{AreAllApart};
 ghost use Rattle.rg_marks.specs.Separated.{AddsOne, SeparateSoMuch, AreSome};
 
-use crate::cells::finer;
+use crate::cells::{are_single, finer};
 use crate::firsts::Firsts;
 use crate::stops::{mark, new_stops, no_marks};
 use rg_lts::Lts;
@@ -20,7 +22,8 @@ use std::alloc::{AllocError, Global};
 pub struct Separated {
     /// A row for each label, with a mark for each state: whether one of the places stops the label there.
     pub stops: Vec<Vec<bool>>,
-    /// A number for each state. Two states have different ones exactly if one of the places distinguishes them.
+    /// A number for each state. Two states have different ones exactly if one of the places distinguishes them. The
+    /// number of a state is that of a state that no place distinguishes from it.
     pub cells: Vec<u32>,
 }
 
@@ -75,5 +78,12 @@ impl Separated {
             Problem::Event(s, t) => self.stops[t as usize][s as usize],
             Problem::States(s, other) => self.cells[s as usize] != self.cells[other as usize],
         }
+    }
+    /// Whether the places separate all state problems of the system: every two states are distinguished by one of
+    /// them.
+    pub fn are_all_apart(&self) -> bool
+        ensures { (lts : System) (places : List PlaceOfTheory) → SeparateSoMuch lts places self.now → (IsTrue result ↔ AreAllApart lts places) }
+    {
+        are_single(&self.cells)
     }
 }

@@ -60,7 +60,7 @@ const EMPTY: Given = Given {
     tokens: [0, 0, 0, 0],
 };
 
-/// All problems of the word.
+/// All problems of the word, the event problems first.
 const PROBLEMS: [Problem; 11] = [
     Event(0, 1),
     Event(1, 0),
@@ -74,6 +74,9 @@ const PROBLEMS: [Problem; 11] = [
     States(1, 3),
     States(2, 3),
 ];
+
+/// How many of them are event problems.
+const EVENTS: usize = 5;
 
 const Y: bool = true;
 
@@ -202,7 +205,7 @@ fn is_asked(lts: &Lts, problem: Problem) -> bool
     }
 }
 
-// Whether each problem is separated or not, as is wanted.
+// Whether each problem is separated or not, as is wanted, and all state problems are where that is wanted of each.
 fn tells(lts: &Lts, separated: &Separated, wanted: [bool; 11]) -> bool
     requires { AreSome lts.now separated.now }
 {
@@ -211,7 +214,7 @@ fn tells(lts: &Lts, separated: &Separated, wanted: [bool; 11]) -> bool
             return false;
         }
     }
-    true
+    separated.are_all_apart() != wanted[EVENTS..].contains(&N)
 }
 
 // Which two of the four states have the same number.

@@ -7,7 +7,8 @@ use Rattle.std.proofs.Math.IntN.{zero-*ℤ}
 use Rattle.rg_integers.specs.Sum.{number_at}
 use Rattle.rg_linear.proofs.Members.{equal_or_not}
 use Rattle.rg_linear.proofs.TableRows.{length-row}
-use Rattle.rg_revised.specs.Rows.{row_at, RowWithin, TableWithin}
+use Rattle.rg_linear.specs.Table.{row_at}
+use Rattle.rg_revised.specs.Rows.{RowWithin, TableWithin}
 use Rattle.rg_revised.specs.Reading.{column_sum, IsSmallRow, IsAdded, IsRead}
 use Rattle.rg_revised.proofs.Sizes.{sum_small, whole_small}
 

@@ -8,7 +8,8 @@ use Rattle.rg_linear.specs.System.{LinearSystem, entry}
 use Rattle.rg_linear.specs.Descent.{IsSatisfied}
 use Rattle.rg_linear.proofs.TableRows.{length-row}
 use Rattle.rg_revised.specs.Basis.{row_over}
-use Rattle.rg_revised.specs.Rows.{row_at, RowWithin}
+use Rattle.rg_linear.specs.Table.{row_at}
+use Rattle.rg_revised.specs.Rows.{RowWithin}
 use Rattle.rg_revised.specs.Held.{column_relation}
 use Rattle.rg_revised.specs.Reading.{IsRead, constant_over}
 use Rattle.rg_revised.specs.View.{BasisState}

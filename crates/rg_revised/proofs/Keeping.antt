@@ -12,14 +12,14 @@ use Rattle.rg_integers.proofs.Order.{mul-cancel_left, positive_differs}
 use Rattle.rg_integers.proofs.Sums.{sum_below-same, sum_below-zero}
 use Rattle.rg_linear.specs.System.{LinearSystem, variables, row_variable, entry}
 use Rattle.rg_linear.specs.Dictionary.{Relation, IsFree}
-use Rattle.rg_linear.specs.Table.{number_beside}
+use Rattle.rg_linear.specs.Table.{number_beside, row_at}
 use Rattle.rg_linear.specs.Exchange.{exchanged, renewed}
 use Rattle.rg_linear.proofs.Members.{is_member, Contains-exchanged_new, Contains-exchanged_old, exchanged-Contains}
 use Rattle.rg_linear.proofs.Unique.{sum_at, sum_one}
 use Rattle.rg_linear.proofs.MemberIndices.{member_at}
 use Rattle.rg_linear.proofs.TableRows.{length-row}
 use Rattle.rg_revised.specs.Basis.{IsRelationOf, row_over, IsMultiple, IsWithin}
-use Rattle.rg_revised.specs.Rows.{RowWithin, row_at, TableRenewed}
+use Rattle.rg_revised.specs.Rows.{RowWithin, TableRenewed}
 use Rattle.rg_revised.specs.View.{BasisState}
 use Rattle.rg_revised.specs.Held.{relation_of, column_relation, IsHeld, IsPivot, AreRowNumbers}
 use Rattle.rg_revised.proofs.Relations.{member_has_no_constant}

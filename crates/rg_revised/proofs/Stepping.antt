@@ -7,7 +7,7 @@ use Rattle.std.proofs.Math.IntN.{*ℤ-zero}
 use Rattle.rg_integers.specs.Sum.{number_at, sum_below, only}
 use Rattle.rg_integers.proofs.Order.{is_zero_or_not}
 use Rattle.rg_linear.specs.System.{LinearSystem, variables, row_variable, row_at as row_of, entry}
-use Rattle.rg_linear.specs.Table.{number_beside}
+use Rattle.rg_linear.specs.Table.{number_beside, row_at}
 use Rattle.rg_linear.specs.Exchange.{exchanged, AllFit}
 use Rattle.rg_linear.specs.Descent.{IsStuck, Chooses}
 use Rattle.rg_linear.specs.Stack.{fixed_of}
@@ -17,7 +17,7 @@ use Rattle.rg_linear.proofs.Fixed.{fixed_row, row_fixed}
 use Rattle.rg_linear.proofs.MemberIndices.{member_at}
 use Rattle.rg_linear.proofs.TableRows.{length-row}
 use Rattle.rg_revised.specs.Basis.{IsRelationOf}
-use Rattle.rg_revised.specs.Rows.{row_at, RowWithin}
+use Rattle.rg_revised.specs.Rows.{RowWithin}
 use Rattle.rg_revised.specs.Held.{AreDistinct, relation_of, column_relation, AreRowNumbers}
 use Rattle.rg_revised.specs.Reading.{IsSmallRow, IsOwnRow, column_sum, IsRead, IsVacant}
 use Rattle.rg_revised.specs.View.{BasisState}

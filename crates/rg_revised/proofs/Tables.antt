@@ -4,7 +4,8 @@ use Rattle.std.specs.Prelude.{ℤ}
 use Rattle.std.proofs.lemmas.Bool.{cases_lt}
 use borrow.Rule.Slice.PartMut.{put_mid}
 use Rattle.rg_linear.proofs.TableRows.{row_put, row_other}
-use Rattle.rg_revised.specs.Rows.{row_at, RowRenewed, TableRenewed}
+use Rattle.rg_linear.specs.Table.{row_at}
+use Rattle.rg_revised.specs.Rows.{RowRenewed, TableRenewed}
 
 -- one more row is renewed
 pub rows_more : (width : ℕ) (pivot old new row : List ℤ) (p : ℕ) (negative : Bool) (d : ℤ) (most t n k : ℕ) → TableRenewed width pivot old new p negative d most t → length old ≡ n * width → t < n

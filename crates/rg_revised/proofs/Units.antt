@@ -7,12 +7,12 @@ use Rattle.std.specs.Prelude.{ℤ, pos, unsigned_abs}
 use Rattle.rg_integers.specs.Sum.{number_at, only}
 use Rattle.rg_linear.specs.System.{LinearSystem}
 use Rattle.rg_linear.specs.Dictionary.{column_set, numbers_from}
-use Rattle.rg_linear.specs.Table.{number_beside}
+use Rattle.rg_linear.specs.Table.{number_beside, row_at}
 use Rattle.rg_linear.proofs.Members.{equal_or_not, differs, same, numbers_from-Contains, length-numbers_from}
 use Rattle.rg_linear.proofs.Columns.{columns_free}
 use Rattle.rg_linear.proofs.TableRows.{row_put, row_other, length-row}
 use Rattle.rg_revised.specs.Basis.{IsRelationOf, itself}
-use Rattle.rg_revised.specs.Rows.{row_at, TableWithin}
+use Rattle.rg_revised.specs.Rows.{TableWithin}
 use Rattle.rg_revised.specs.Held.{AreDistinct, relation_of, column_relation, IsHeld}
 use Rattle.rg_revised.specs.View.{BasisState}
 use Rattle.rg_revised.specs.Starting.{IsUnitRow, IsUnitTable, IsUnitBasis}

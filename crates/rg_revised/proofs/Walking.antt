@@ -6,7 +6,7 @@ use Rattle.std.specs.List.Sorted.{IsStrictlyIncreasing}
 use Rattle.std.proofs.lemmas.List.{get_or_default}
 use Rattle.rg_integers.proofs.Order.{is_zero_or_not}
 use Rattle.rg_linear.specs.System.{LinearSystem, variables, row_variable}
-use Rattle.rg_linear.specs.Table.{number_beside, ShowsRow}
+use Rattle.rg_linear.specs.Table.{number_beside, ShowsRow, row_at}
 use Rattle.rg_linear.specs.Dictionary.{Relation}
 use Rattle.rg_linear.specs.Exchange.{put_in, without, exchanged, IsReduced}
 use Rattle.rg_linear.specs.Table.{numbers_of}
@@ -15,7 +15,6 @@ use Rattle.rg_linear.proofs.Columns.{past_test}
 use Rattle.rg_linear.proofs.Members.{Contains-here, Contains-there, Contains-cons_cases, Contains-nil, is_member, without-Contains, order_from_increasing, IsInOrder}
 use Rattle.rg_linear.proofs.MemberIndices.{member_at, gone}
 use Rattle.rg_revised.specs.Basis.{IsRelationOf, row_over}
-use Rattle.rg_revised.specs.Rows.{row_at}
 use Rattle.rg_revised.specs.Held.{AreDistinct, relation_of, column_relation}
 use Rattle.rg_revised.specs.Reading.{IsRead}
 use Rattle.rg_revised.specs.View.{BasisState}

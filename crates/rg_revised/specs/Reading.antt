@@ -2,7 +2,7 @@
 use Rattle.std.specs.Prelude.{◌≡◌, ◌≢◌, ℕ, suc, ◌+◌, ◌*◌, ◌^◌, ◌<◌, ◌≤◌, ◌==◌, if◌then◌else◌, List, length, slice_index, Contains, ℤ, pos, ◌+ℤ◌, ◌*ℤ◌}
 use Rattle.rg_integers.specs.Sum.{number_at, sum_below, sum_over}
 use Rattle.rg_linear.specs.Norm.{row_norm}
-use Rattle.rg_revised.specs.Rows.{row_at}
+use Rattle.rg_linear.specs.Table.{row_at}
 
 -- a row so small that sums of it with numbers up to most fit 64 bits
 abbrev pub IsSmallRow : ℕ → ℕ → List ℤ → ℤ → Type 0

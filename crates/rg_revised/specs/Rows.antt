@@ -1,6 +1,7 @@
 -- Rows of numbers of a table with one denominator, and what an exchange makes of them.
-use Rattle.std.specs.Prelude.{◌≡◌, ◌≢◌, ℕ, ◌+◌, ◌*◌, ◌<◌, ◌≤◌, Bool, if◌then◌else◌, List, length, slice_range, ℤ, neg_ℤ, ◌-ℤ◌, ◌*ℤ◌, unsigned_abs}
+use Rattle.std.specs.Prelude.{◌≡◌, ◌≢◌, ℕ, ◌<◌, ◌≤◌, Bool, if◌then◌else◌, List, length, ℤ, neg_ℤ, ◌-ℤ◌, ◌*ℤ◌, unsigned_abs}
 use Rattle.rg_integers.specs.Sum.{number_at}
+use Rattle.rg_linear.specs.Table.{row_at}
 
 -- no number passes most
 abbrev pub RowWithin : ℕ → List ℤ → Type 0
@@ -12,10 +13,6 @@ pub record RowRenewed (pivot old new : List ℤ) (p : ℕ) (negative : Bool) (d 
   pub others : (n : ℕ) → n < length old → n ≢ p → d *ℤ number_at new n ≡ (number_at old n *ℤ number_at pivot p) -ℤ (number_at pivot n *ℤ number_at old p)
   pub index : number_at new p ≡ (if negative then neg_ℤ (number_at old p) else number_at old p)
   pub within : RowWithin most new
-
--- the row of a column in a table with rows of so many numbers
-abbrev pub row_at : ℕ → List ℤ → ℕ → List ℤ
-row_at width table t = slice_range table (t * width) ((t + 1) * width)
 
 -- no number of the rows of so many columns passes most
 abbrev pub TableWithin : ℕ → ℕ → ℕ → List ℤ → Type 0

@@ -4,7 +4,8 @@ use Rattle.rg_linear.specs.System.{LinearSystem, variables, row_variable, row_at
 use Rattle.rg_linear.specs.Exchange.{exchanged, AllFit}
 use Rattle.rg_linear.specs.Descent.{IsSatisfied, IsStuck, Chooses}
 use Rattle.rg_revised.specs.Basis.{IsRelationOf, HasNorms}
-use Rattle.rg_revised.specs.Rows.{row_at, TableWithin}
+use Rattle.rg_linear.specs.Table.{row_at}
+use Rattle.rg_revised.specs.Rows.{TableWithin}
 use Rattle.rg_revised.specs.Reading.{AreNamed}
 use Rattle.rg_integers.specs.Sum.{number_at}
 use Rattle.rg_revised.specs.View.{BasisState, TableauState}

@@ -46,6 +46,10 @@ impl Keeping for Kept {
         self.separated.separates(lts, problem)
     }
 
+    fn are_all_apart(&self, _lts: &Lts) -> bool {
+        self.separated.are_all_apart()
+    }
+
     fn keep(&mut self, lts: &Lts, place: RegionPlace) -> Result<(), NoMemory> {
         let firsts = self
             .separated

@@ -4,7 +4,7 @@ use Rattle.std.specs.Int.{w64}
 use Rattle.std.proofs.lemmas.Int.{to_z-of_z}
 use Rattle.rg_integers.specs.Sum.{number_at}
 use Rattle.rg_linear.proofs.TableRows.{length-row}
-use Rattle.rg_revised.specs.Rows.{row_at}
+use Rattle.rg_linear.specs.Table.{row_at}
 use Rattle.rg_revised.proofs.Sizes.{own_at, own_added}
 use Rattle.rg_revised.proofs.reading.add_column.Goals as goal
 

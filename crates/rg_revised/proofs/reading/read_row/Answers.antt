@@ -3,7 +3,7 @@ use Rattle.std.specs.Prelude.{FitsSigned}
 use Rattle.std.specs.Int.{w64, w128}
 use Rattle.std.proofs.lemmas.Int.{to_z-of_z}
 use Rattle.rg_integers.specs.Sum.{number_at}
-use Rattle.rg_revised.specs.Rows.{row_at}
+use Rattle.rg_linear.specs.Table.{row_at}
 use Rattle.rg_revised.specs.Reading.{column_sum}
 use Rattle.rg_revised.proofs.Sizes.{coefficient_fits, constant_fits, term_fits, sum_fits, share_fits, whole_fits}
 use Rattle.rg_revised.proofs.ColumnSums.{numbers_within, next_sum, next_zero, read_whole}

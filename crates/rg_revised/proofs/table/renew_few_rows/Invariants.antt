@@ -1,6 +1,7 @@
 use Rattle.std.proofs.Common.{◌≡◌, ℕ, ◌≤◌, length}
 use Rattle.std.specs.Prelude.{unsigned_abs}
-use Rattle.rg_revised.specs.Rows.{row_at, TableRenewed}
+use Rattle.rg_linear.specs.Table.{row_at}
+use Rattle.rg_revised.specs.Rows.{TableRenewed}
 use Rattle.rg_revised.proofs.table.renew_few_rows.Given as goal
 
 abbrev pub invariant-loop-t : goal.invariant-loop-t

@@ -1,4 +1,4 @@
-use Rattle.std.proofs.Common.{length, ap, sym, ◌∙◌, arith, below_more}
+use Rattle.std.proofs.Common.{length, sym, ◌∙◌, arith, below_more}
 use Rattle.rg_case_parts.specs.ChordRows.{entry_between}
 use Rattle.rg_case_parts.proofs.Rows.{bits_differ, bits_same, lengths_differ, numbers_differ, numbers_agree}
 use Rattle.rg_case_parts.proofs.chord_ends.ChordEndsPartialEq.eq.Goals as goal

@@ -1,6 +1,6 @@
 use Rattle.std.proofs.Common.{◌≡◌, ℕ, ◌+◌, ◌<◌, length, subst, ◌∙◌}
 use Rattle.rg_integers.specs.Sum.{number_at}
-use Rattle.rg_revised.specs.Rows.{row_at}
+use Rattle.rg_linear.specs.Table.{row_at}
 use Rattle.rg_revised.specs.View.{BasisState}
 use Rattle.rg_revised.proofs.basis.Basis.copy_constants.Goals as goal
 
