@@ -6,7 +6,7 @@ ghost use Rattle.rg_linear.specs.Dictionary.{numbers_from};
 use crate::boxes::column;
 use crate::counting::{Ending, add_rows, descend};
 use rg_branch_trees::{Side, turn};
-use rg_dictionary::RelationTable;
+use rg_feasible::RelationTable;
 use rg_linear::System;
 use std::alloc::{AllocError, Global};
 

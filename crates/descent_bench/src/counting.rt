@@ -5,7 +5,7 @@ ghost use Rattle.rg_integers.specs.Sum.{number_at};
 ghost use Rattle.rg_linear.specs.Dictionary.{numbers_from};
 ghost use Rattle.rg_linear.specs.View.{linear_system, IsWellFormed};
 
-use rg_dictionary::RelationTable;
+use rg_feasible::RelationTable;
 use rg_linear::{Row, System};
 use std::alloc::{AllocError, Global};
 

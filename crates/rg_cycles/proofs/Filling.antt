@@ -6,7 +6,7 @@ use Rattle.rg_integers.specs.Range.{InRange}
 use Rattle.rg_integers.specs.Sum.{number_at}
 use Rattle.rg_linear.specs.System.{LinearRow}
 use Rattle.rg_linear.specs.Cycle.{vector_at, vector_system}
-use Rattle.rg_dictionary.specs.Contents.{with_row}
+use Rattle.rg_feasible.specs.Contents.{with_row}
 use Rattle.rg_cycles.specs.Vectors.{AreVectors}
 
 abbrev pub row : List ℤ → LinearRow

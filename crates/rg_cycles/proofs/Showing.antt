@@ -31,7 +31,7 @@ use Rattle.rg_cycles.specs.Basis.{vector_numbers, ShowsRelation, IsRelationInRan
 use Rattle.rg_cycles.specs.Reading.{HasNumbers, IsRead, AreRead}
 use Rattle.rg_cycles.specs.declared.relations.Relations.{Relations}
 use Rattle.rg_cycles.specs.Relating.{IsSolved, columns_of, members_of}
-use Rattle.rg_dictionary.proofs.RowTerms.{shown_number}
+use Rattle.rg_feasible.proofs.RowTerms.{shown_number}
 use Rattle.rg_cycles.proofs.Related.{relations_free}
 use Rattle.rg_cycles.proofs.Labels.{in_set, not_in_set, filter_has, filter_from, free_members}
 

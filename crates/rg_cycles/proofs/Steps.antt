@@ -13,8 +13,8 @@ use Rattle.rg_linear.specs.Table.{ShowsRow}
 use Rattle.rg_linear.specs.Cycle.{CycleOutcome, CycleOutcome.free_set, CycleOutcome.too_wide, IsSkipped, Picks, CycleWalkFrom, CycleWalkFrom.no_row_left, CycleWalkFrom.skipped, CycleWalkFrom.passes, CycleWalkFrom.exchanges, CycleWalk}
 use Rattle.rg_linear.proofs.Members.{is_member, exchanged-Contains, numbers_from-Contains}
 use Rattle.rg_integers.proofs.Order.{is_zero_or_not}
-use Rattle.rg_dictionary.specs.Contents.{Contents, IsDictionary, IsOutside, SameShape}
-use Rattle.rg_dictionary.proofs.RowTerms.{shown_number}
+use Rattle.rg_feasible.specs.Contents.{Contents, IsDictionary, IsOutside, SameShape}
+use Rattle.rg_feasible.proofs.RowTerms.{shown_number}
 use Rattle.rg_cycles.specs.Walk.{NamesLabel, IsWhole, RowsAhead}
 
 -- ---- numbers by their indices

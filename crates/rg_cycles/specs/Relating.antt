@@ -2,7 +2,7 @@
 use Rattle.std.specs.Prelude.{ℕ, List, ℤ}
 use Rattle.rg_linear.specs.System.{LinearSystem}
 use Rattle.rg_linear.specs.Cycle.{CycleOutcome.free_set, CycleWalk, KeepsVectors, vector_system}
-use Rattle.rg_dictionary.specs.Contents.{IsDictionary}
+use Rattle.rg_feasible.specs.Contents.{IsDictionary}
 use Rattle.rg_revised.specs.Walk.{IsWalkOf}
 use Rattle.rg_cycles.specs.declared.relations.Relations.{Relations}
 use Rattle.rg_cycles.specs.declared.relations.Relations.TheVariants.{OfColumns, OfAll}

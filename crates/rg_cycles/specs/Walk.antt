@@ -2,7 +2,7 @@
 use Rattle.std.specs.Prelude.{◌≢◌, ℕ, ◌+◌, ◌<◌, List, length, Contains, slice_index, pos, ℤ}
 use Rattle.rg_integers.specs.Sum.{number_at}
 use Rattle.rg_linear.specs.System.{LinearSystem}
-use Rattle.rg_dictionary.specs.Contents.{Contents, IsDictionary}
+use Rattle.rg_feasible.specs.Contents.{Contents, IsDictionary}
 
 -- the member at this index is a label that the relation with these numbers names
 pub record NamesLabel (labels : ℕ) (members : List ℕ) (numbers : List ℤ) (index : ℕ) : Type 0 where

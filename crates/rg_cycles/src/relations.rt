@@ -6,7 +6,7 @@ ghost use Rattle.rg_linear.specs.System.{LinearSystem};
 ghost use Rattle.rg_linear.specs.Table.{ShowsRow};
 ghost use Rattle.rg_cycles.specs.Relating.{AreRelationsOf, columns_of, members_of};
 
-use rg_dictionary::RelationTable;
+use rg_feasible::RelationTable;
 use rg_revised::RevisedWalk;
 use std::alloc::{AllocError, Global};
 

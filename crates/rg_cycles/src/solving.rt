@@ -3,7 +3,7 @@ ghost use Rattle.std.specs.Prelude.{◌≡◌, ◌↔◌, ℕ, ℤ, ◌+◌, ◌
 ghost use Rattle.rg_theory.specs.Limits.{most_labels, most_arcs};
 ghost use Rattle.rg_linear.specs.Cycle.{IsCycleBasis, KeepsVectors, vector_system};
 ghost use Rattle.rg_linear.specs.Dictionary.{numbers_from};
-ghost use Rattle.rg_dictionary.specs.Contents.{IsDictionary};
+ghost use Rattle.rg_feasible.specs.Contents.{IsDictionary};
 ghost use Rattle.rg_linear.specs.Descent.{WideAt};
 ghost use Rattle.rg_cycles.specs.declared.stop.Stop.TheVariants as stop;
 ghost use Rattle.rg_cycles.specs.declared.stop.CycleWide.{CycleWide};
@@ -20,7 +20,7 @@ use crate::distinct::first_indices;
 use crate::relations::Relations;
 use crate::stop::Stop;
 use crate::walk::walk;
-use rg_dictionary::RelationTable;
+use rg_feasible::RelationTable;
 use rg_revised::RevisedWalk;
 use std::alloc::{AllocError, Global};
 

@@ -3,14 +3,14 @@ ghost use Rattle.std.specs.Prelude.{◌≡◌, ℕ, suc, ◌+◌, ◌<◌, ◌^�
 ghost use Rattle.rg_linear.specs.System.{LinearSystem};
 ghost use Rattle.rg_linear.specs.Dictionary.{numbers_from};
 ghost use Rattle.rg_linear.specs.Cycle.{CycleOutcome, CycleWalkFrom, CycleWalk};
-ghost use Rattle.rg_dictionary.specs.Contents.{IsDictionary, SameShape};
+ghost use Rattle.rg_feasible.specs.Contents.{IsDictionary, SameShape};
 ghost use Rattle.rg_cycles.specs.declared.stop.Stop.TheVariants as stop;
 ghost use Rattle.rg_cycles.specs.declared.stop.CycleWide.{CycleWide};
 ghost use Rattle.rg_cycles.specs.Refusal.{shown_term};
 ghost use Rattle.rg_cycles.specs.Walk.{NamesLabel, IsWhole, RowsAhead};
 
 use crate::stop::{CycleWide, Stop};
-use rg_dictionary::{ExchangeWide, RelationTable};
+use rg_feasible::{ExchangeWide, RelationTable};
 use std::alloc::{AllocError, Global};
 
 // An exchange that was refused, and the member that was to leave.

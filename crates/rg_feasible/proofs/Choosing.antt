@@ -15,8 +15,8 @@ use Rattle.rg_linear.specs.Exchange.{exchanged, AllFit, FirstWide}
 use Rattle.rg_linear.specs.Table.{ShowsRow}
 use Rattle.rg_linear.specs.Descent.{IsStuck, Chooses}
 use Rattle.rg_linear.specs.Stack.{fixed_of}
-use Rattle.rg_dictionary.specs.Contents.{Contents, IsDictionary}
-use Rattle.rg_dictionary.proofs.RowTerms.{shown_number}
+use Rattle.rg_feasible.specs.Contents.{Contents, IsDictionary}
+use Rattle.rg_feasible.proofs.RowTerms.{shown_number}
 use Rattle.rg_linear.proofs.MemberIndices.{member_at, not_falling}
 use Rattle.rg_feasible.specs.Steps.{NamesFree}
 use Rattle.rg_linear.proofs.Fixed.{fixed_row, row_fixed}

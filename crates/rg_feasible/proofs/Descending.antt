@@ -7,7 +7,7 @@ use Rattle.rg_linear.specs.Stack.{limit, Resumes, Resumes.last, IsStackOf}
 use Rattle.rg_linear.proofs.Stacks.{step_wide}
 use Rattle.rg_linear.proofs.Members.{Contains-nil}
 use Rattle.rg_linear.proofs.Descending.{LeadsOn}
-use Rattle.rg_dictionary.specs.Contents.{Contents, IsDictionary}
+use Rattle.rg_feasible.specs.Contents.{Contents, IsDictionary}
 use Rattle.rg_feasible.specs.declared.settled.PivotWide.{PivotWide}
 use Rattle.rg_feasible.specs.declared.step.Step.TheVariants.{Wide}
 use Rattle.rg_feasible.specs.Settling.{wide_at}

@@ -4,7 +4,7 @@ use Rattle.rg_linear.specs.System.{LinearSystem}
 use Rattle.rg_linear.specs.Descent.{Outcome.wide, IsFeasibleAt}
 use Rattle.rg_linear.specs.Width.{IsNarrow}
 use Rattle.rg_linear.proofs.Widths.{narrow_is_not_wide}
-use Rattle.rg_dictionary.specs.Contents.{Contents, IsDictionary}
+use Rattle.rg_feasible.specs.Contents.{Contents, IsDictionary}
 use Rattle.rg_feasible.specs.declared.settled.Settled.{Settled}
 use Rattle.rg_feasible.specs.declared.settled.Settled.TheVariants.{Point, Refuted, Wide}
 use Rattle.rg_feasible.specs.View.{DescentState}

@@ -10,7 +10,7 @@ use Rattle.rg_linear.specs.System.{LinearSystem, LinearRow, row_at, with_rows}
 use Rattle.rg_linear.specs.declared.row.Row.{Row}
 use Rattle.rg_linear.specs.View.{linear_row, linear_system, IsWellFormed}
 use Rattle.rg_linear.proofs.KeptRows.{item_is, below_rows, constant_in_range}
-use Rattle.rg_dictionary.specs.Contents.{Contents, IsDictionary, columns_alone, with_row}
+use Rattle.rg_feasible.specs.Contents.{Contents, IsDictionary, columns_alone, with_row}
 
 module _ (system : LinearSystem) (columns : ℕ) (rows : List Row) (i : ℕ) (item : Row) (well : IsWellFormed (linear_system columns rows)) (lt : i < length rows) (at : item ≡ slice_index_or rows i item) where
   -- one row more, as the code hands it on

@@ -1,5 +1,5 @@
 -- The relation, the values and the multipliers that the numbers of a row show.
-use Rattle.std.proofs.Common.{◌≡◌, ◌≢◌, ℕ, zero, suc, ◌+◌, ◌*◌, ◌<◌, ◌==◌, if◌then◌else◌, List, [], ◌∷◌, length, drop, Contains, Some, ap, refl, subst, sym, ◌∙◌, arith}
+use Rattle.std.proofs.Common.{◌≡◌, ◌≢◌, ℕ, zero, suc, ◌+◌, ◌*◌, ◌<◌, ◌==◌, if◌then◌else◌, List, [], ◌∷◌, length, drop, Contains, Some, ap, subst, sym, ◌∙◌, arith}
 use Rattle.std.specs.Prelude.{ℤ, pos, neg_ℤ, ◌≤ℤ◌, slice_range, slice_index}
 use Rattle.std.proofs.Math.IntN.{*ℤ_comm}
 use Rattle.std.proofs.lemmas.Option.{same_Some}
@@ -12,22 +12,15 @@ use Rattle.rg_linear.specs.System.{LinearSystem, AreFarkasMultipliers, variables
 use Rattle.rg_linear.specs.Dictionary.{Relation, DictionaryRow}
 use Rattle.rg_linear.specs.Table.{numbers_of, number_beside, ShowsRow}
 use Rattle.rg_linear.specs.Descent.{Outcome.point, Outcome.refuted, DescentFromStart, multiplier_of, IsBasicPoint, IsFeasibleAt}
-use Rattle.rg_linear.proofs.Members.{same, differs, Contains-here, Contains-there}
+use Rattle.rg_linear.proofs.Members.{same, differs}
 use Rattle.rg_linear.proofs.Points.{constant_left, point_is_sound, zero_point_of}
 use Rattle.rg_linear.proofs.Refuting.{start_refuted, refuted_is_sound}
-use Rattle.rg_linear.proofs.TableLemmas.{beside_map}
-use Rattle.rg_dictionary.specs.Contents.{Contents, row_of, IsDictionary}
+use Rattle.rg_linear.proofs.TableLemmas.{beside_map, beside_none}
+use Rattle.rg_feasible.specs.Contents.{Contents, row_of, IsDictionary}
 use Rattle.rg_feasible.specs.View.{DescentState}
 use Rattle.rg_feasible.specs.Settling.{IsRefutation, relation_of, multiplier_with}
 
 -- ---- numbers beside members
-
-beside_none : (members : List ℕ) (numbers : List ℤ) (w : ℕ) → ¬ Contains members w → number_beside members numbers w ≡ pos 0
-beside_none [] numbers w lacks = refl
-beside_none (m ∷ members) [] w lacks = refl
-beside_none (m ∷ members) (z ∷ numbers) w lacks =
-    ap (λ b. if b then z else number_beside members numbers w) (differs m w (λ e. lacks (subst (Contains (m ∷ members)) e (Contains-here m members))))
-    ∙ beside_none members numbers w (λ has. lacks (Contains-there m w members has))
 
 beside_at : (members : List ℕ) (numbers : List ℤ) (w p : ℕ) → p < length members → length numbers ≡ length members → slice_index members p ≡ w → ((q : ℕ) → q < p → slice_index members q ≡ w → ⊥) → number_beside members numbers w ≡ number_at numbers p
 beside_at [] numbers w p lt size is first = absurd (omega arith)

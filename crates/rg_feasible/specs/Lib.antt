@@ -1,3 +1,5 @@
+pub mod Contents
+pub mod Renewal
 pub mod View
 pub mod Settling
 pub mod Steps

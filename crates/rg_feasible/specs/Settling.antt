@@ -5,7 +5,7 @@ use Rattle.rg_linear.specs.System.{LinearSystem}
 use Rattle.rg_linear.specs.Dictionary.{Relation, numbers_from}
 use Rattle.rg_linear.specs.Descent.{WideAt, Outcome.point, Outcome.refuted, Outcome.wide, DescentFromStart}
 use Rattle.rg_linear.specs.Table.{number_beside}
-use Rattle.rg_dictionary.specs.Contents.{Contents, row_of, IsDictionary}
+use Rattle.rg_feasible.specs.Contents.{Contents, row_of, IsDictionary}
 use Rattle.rg_feasible.specs.declared.settled.Settled.{Settled}
 use Rattle.rg_feasible.specs.declared.settled.Settled.TheVariants.{Point, Refuted, Wide}
 use Rattle.rg_feasible.specs.declared.settled.PivotWide.{PivotWide}

@@ -3,12 +3,12 @@
 ghost use Rattle.std.specs.Prelude.{◌≡◌, ◌+◌, ◌<◌, ◌≤◌, ◌^◌, [], ◌∷◌, ◌++◌, vec_len, vec_capacity};
 ghost use Rattle.rg_linear.specs.System.{LinearSystem};
 ghost use Rattle.rg_linear.specs.Dictionary.{numbers_from, IsFree};
-ghost use Rattle.rg_dictionary.specs.Contents.{IsDictionary, SameShape};
+ghost use Rattle.rg_feasible.specs.Contents.{IsDictionary, SameShape};
 ghost use Rattle.rg_feasible.specs.Settling.{IsOutcome, IsNotWide};
 
+use crate::relation_table::RelationTable;
 use crate::settled::Settled;
 use crate::step::{Step, take_row};
-use rg_dictionary::RelationTable;
 
 /// Takes all rows, from the first one; see `Dictionary::settle`. A row that is exchanged is fixed while the rows
 /// before it are taken again. The stack has the fixed rows, the last one at its end.

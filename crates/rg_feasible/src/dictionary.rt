@@ -5,15 +5,15 @@ ghost use Rattle.rg_linear.specs.System.{LinearSystem, AreFarkasMultipliers, wit
 ghost use Rattle.rg_linear.specs.Dictionary.{numbers_from, IsFree};
 ghost use Rattle.rg_linear.specs.View.{linear_row, linear_system, IsWellFormed};
 ghost use Rattle.rg_linear.specs.Width.{IsNarrow};
-ghost use Rattle.rg_dictionary.specs.Contents.{IsDictionary, columns_alone, SameShape};
+ghost use Rattle.rg_feasible.specs.Contents.{IsDictionary, columns_alone, SameShape};
 ghost use Rattle.rg_fraction.specs.Fractions.{IsValue};
 ghost use Rattle.rg_feasible.specs.declared.settled.Settled.TheVariants as ends;
 ghost use Rattle.rg_feasible.specs.Settling.{IsDictionaryOf, IsWhole, IsFresh, IsOutcome, IsLeftBy, IsRefutation, IsNotWide, multiplier_with};
 ghost use Rattle.rg_linear.specs.Descent.{IsBasicPoint, IsFeasibleAt};
 
 use crate::descent::descend;
+use crate::relation_table::RelationTable;
 use crate::settled::Settled;
-use rg_dictionary::RelationTable;
 use rg_fraction::Fraction;
 use rg_linear::{Row, System};
 use rg_memory::NoMemory;
@@ -34,13 +34,13 @@ pub struct Dictionary {
 
 impl Model for Dictionary {
     ghost use Rattle.std.specs.Prelude.{vec_capacity};
-    ghost use Rattle.rg_feasible.specs.View.{DescentState, IsStored};
+    ghost use Rattle.rg_feasible.specs.View.{DescentState, HasStack};
 
     ghost Value = { DescentState };
 
     ghost view = { λ a. record { table = a.table; failing = a.failing } };
 
-    ghost invariant = { λ a. IsStored (record { table = a.table; failing = a.failing }) (vec_capacity a.stack) };
+    ghost invariant = { λ a. HasStack (record { table = a.table; failing = a.failing }) (vec_capacity a.stack) };
 }
 
 impl Dictionary {

@@ -8,10 +8,15 @@
 
 mod descent;
 mod dictionary;
+mod relation_table;
+mod row;
 mod settled;
 mod step;
+mod table;
 
 pub use dictionary::Dictionary;
+pub use relation_table::RelationTable;
 pub use rg_linear::{Row, System};
 pub use rg_memory::NoMemory;
 pub use settled::{PivotWide, Settled};
+pub use table::ExchangeWide;

@@ -2,11 +2,11 @@
 
 ghost use Rattle.std.specs.Prelude.{◌≡◌, ◌≢◌, ◌↔◌, ℕ, ◌+◌, ◌<◌, ◌^◌, IsTrue, length, reverse, Contains, IfSome, IfNone};
 ghost use Rattle.rg_linear.specs.System.{LinearSystem};
-ghost use Rattle.rg_dictionary.specs.Contents.{IsDictionary, SameShape};
+ghost use Rattle.rg_feasible.specs.Contents.{IsDictionary, SameShape};
 ghost use Rattle.rg_feasible.specs.Steps.{NamesFree, StepTells, IsNotRefused};
 
+use crate::relation_table::RelationTable;
 use crate::settled::PivotWide;
-use rg_dictionary::RelationTable;
 
 /// What came of a row.
 #[derive(Clone, Copy)]

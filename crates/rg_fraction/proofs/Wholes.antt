@@ -4,6 +4,7 @@ use Rattle.std.specs.Prelude.{ℤ, pos, neg_ℤ, ◌+ℤ◌, ◌-ℤ◌, ◌*ℤ
 use Rattle.std.proofs.lemmas.Int.{ints}
 use Rattle.rg_integers.specs.Range.{InRange}
 use Rattle.rg_integers.specs.Value.{SameValue}
+use Rattle.rg_integers.proofs.Ranges.{in_range-neg}
 use Rattle.rg_fraction.specs.declared.fraction.Fraction.{Fraction}
 use Rattle.rg_fraction.specs.Terms.{product_term, sum_top, sum_bottom, product_top, product_bottom}
 use Rattle.rg_integers.specs.Term.{FitsTerm}
@@ -27,13 +28,10 @@ product_bottom_is n m = rw (second_part n, second_part m) refl
 times_one : (z : ℤ) → z *ℤ pos 1 ≡ z
 times_one z = omega (arith, ints)
 
-negated_in_range : (z : ℤ) → InRange z → InRange (neg_ℤ z)
-negated_in_range z h = omega (arith, ints)
-
 top_fits : (n m : ℤ) → InRange n → InRange m → InRange (n -ℤ neg_ℤ m) → FitsTerm (sum_top n (pos 1) m (pos 1))
 top_fits n m hn hm h = subst FitsTerm (sym (top_is n m)) (record {
   left = rw (times_one n) hn;
-  right = rw (times_one (neg_ℤ m)) (negated_in_range m hm);
+  right = rw (times_one (neg_ℤ m)) (in_range-neg m hm);
   difference = rw (times_one n, times_one (neg_ℤ m)) h;
 })
 

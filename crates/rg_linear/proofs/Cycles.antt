@@ -17,6 +17,7 @@ use Rattle.rg_linear.proofs.Members.{is_member, equal_or_not, numbers_from-Conta
 use Rattle.rg_linear.proofs.Unique.{same_relation}
 use Rattle.rg_linear.proofs.Terms.{HasWide, fit_or_wide, same_wide}
 use Rattle.rg_linear.proofs.Having.{columns_have, exchanged_has}
+use Rattle.rg_linear.proofs.Determined.{wide_or_fit}
 use Rattle.rg_linear.proofs.Exchanging.{kept_row}
 use Rattle.rg_linear.proofs.Points.{constant_left}
 use Rattle.rg_linear.proofs.Columns.{columns_determine, scaled_point, below_test, past_test}
@@ -40,9 +41,6 @@ same_pick system members i j j' p p' = go (cases_lt j j') (cases_lt j' j)
     go (inl lt) _ = absurd (not_before system members i j j' p p' lt)
     go (inr ge) (inl lt) = absurd (not_before system members i j' j p' p lt)
     go (inr ge) (inr le) = omega arith
-
-wide_or_fit : (system : LinearSystem) (members : List ℕ) (i j w n : ℕ) (t : Wide) → FirstWide system members i j w n t → AllFit system members i j → ⊥
-wide_or_fit system members i j w n t f fit = f.passes (fit w n t f.term)
 
 -- what a walk is where row i is skipped
 after_skip : (system : LinearSystem) (members : List ℕ) (i : ℕ) (o : CycleOutcome) → i < length system.rows → IsSkipped system members i → CycleWalkFrom system members i o → CycleWalkFrom system members (suc i) o

@@ -101,7 +101,7 @@ ended system members fixed r i o le (passes j w n t lt c f) = absurd (omega arit
 ended system members fixed r i o le (stops_below j lt c fit d stop) = absurd (omega arith)
 ended system members fixed r i o le (goes_on j after lt c fit d rest) = absurd (omega arith)
 
-wide_or_fit : (system : LinearSystem) (members : List ℕ) (i j w n : ℕ) (t : Wide) → FirstWide system members i j w n t → AllFit system members i j → ⊥
+pub wide_or_fit : (system : LinearSystem) (members : List ℕ) (i j w n : ℕ) (t : Wide) → FirstWide system members i j w n t → AllFit system members i j → ⊥
 wide_or_fit system members i j w n t f fit = f.passes (fit w n t f.term)
 
 not_both : (members : List ℕ) (o : Outcome) → point members ≡ o → IsStop o → ⊥

@@ -11,10 +11,11 @@ use Rattle.rg_integers.proofs.Ring.{ring, mul_assoc}
 use Rattle.std.proofs.Math.IntN.{zero-*ℤ}
 use Rattle.rg_integers.proofs.Order.{mul-cancel_left, mul_positive, positive_differs}
 use Rattle.rg_integers.proofs.Signs.{size_positive, sign-times, times-sign}
-use Rattle.rg_integers.proofs.Sums.{sum_below-same, sum_below-plus, sum_below-times, sum_below-both, sum_below-only}
+use Rattle.rg_integers.proofs.Sums.{sum_below-same, sum_below-plus, sum_below-times}
 use Rattle.rg_linear.proofs.Members.{is_member, equal_or_not, differs, same, Contains-exchanged_new, Contains-exchanged_old, exchanged-Contains, exchanged-ordered, length-exchanged}
 use Rattle.rg_linear.proofs.Unique.{sum_at}
 use Rattle.rg_linear.proofs.Reducing.{reduced_row}
+use Rattle.rg_linear.proofs.Renewed.{sum_only, renewed_holds, renewed_over}
 
 -- points that agree on a free set's members agree at a variable whose relation names those alone
 pub agree_by : (system : LinearSystem) (members : List ℕ) (w : ℕ) (k : Relation) → Holds system w k → IsOver members k → k.d ≢ pos 0 → (scale : ℤ) (v u : ℕ → ℤ) → IsPoint system scale v → IsPoint system scale u → AgreeOn members v u → v w ≡ u w
@@ -24,9 +25,6 @@ agree_by system members w k holds over differ scale v u p q agree =
     at : (m : ℕ) → Contains members m ⊎ ¬ Contains members m → k.coefficient m *ℤ v m ≡ k.coefficient m *ℤ u m
     at m (inl has) = ap (λ z. k.coefficient m *ℤ z) (agree m has)
     at m (inr lacks) = rw (over m lacks) (zero-*ℤ (v m) ∙ sym (zero-*ℤ (u m)))
-
-sum_only : (n i : ℕ) (z : ℤ) → i < n → sum_below n (only i z) ≡ z
-sum_only n i z lt = sum_below-only n i (only i z) lt (λ m h ne. rw (differs m i ne) refl) ∙ rw (same i) refl
 
 -- a sum with one index more
 pub sum_with : (n i : ℕ) (a c : ℤ) (f : ℕ → ℤ) → i < n → sum_below n (λ m. only i a m +ℤ (c *ℤ f m)) ≡ a +ℤ (c *ℤ sum_below n f)
@@ -164,52 +162,8 @@ module _ (system : LinearSystem) (members : List ℕ) (i j : ℕ) (k : Relation)
   -- ---- the relations of the others
 
   module _ (w : ℕ) (l : Relation) (target : DictionaryRow system members w l) (other : w ≢ i) where
-    renewed_at : (v : ℕ → ℤ) (m : ℕ) → (renewed k i j l).coefficient m *ℤ v m ≡ (only i (((sign (k.coefficient j) *ℤ k.d) *ℤ l.coefficient j) *ℤ v i) m) +ℤ ((size (k.coefficient j) *ℤ (l.coefficient m *ℤ v m)) +ℤ (neg_ℤ (sign (k.coefficient j) *ℤ l.coefficient j) *ℤ (k.coefficient m *ℤ v m)))
-    renewed_at v m = go (equal_or_not m i)
-      where
-        first : (a y q x h z : ℤ) → x ≡ pos 0 → z ≡ pos 0 → a *ℤ y ≡ (a *ℤ y) +ℤ ((q *ℤ (x *ℤ y)) +ℤ (neg_ℤ h *ℤ (z *ℤ y)))
-        first a y q x h z e f = rw (e, f) (simp ring (omega (arith, ints)))
-
-        rest : (q x h z lj y : ℤ) → ((x *ℤ q) -ℤ ((h *ℤ z) *ℤ lj)) *ℤ y ≡ pos 0 +ℤ ((q *ℤ (x *ℤ y)) +ℤ (neg_ℤ (h *ℤ lj) *ℤ (z *ℤ y)))
-        rest q x h z lj y = simp ring (omega (arith, ints))
-
-        go : (m ≡ i) ⊎ (m ≢ i) → (renewed k i j l).coefficient m *ℤ v m ≡ (only i (((sign (k.coefficient j) *ℤ k.d) *ℤ l.coefficient j) *ℤ v i) m) +ℤ ((size (k.coefficient j) *ℤ (l.coefficient m *ℤ v m)) +ℤ (neg_ℤ (sign (k.coefficient j) *ℤ l.coefficient j) *ℤ (k.coefficient m *ℤ v m)))
-        go (inl e) = rw (e, same i) (first ((sign (k.coefficient j) *ℤ k.d) *ℤ l.coefficient j) (v i) (size (k.coefficient j)) (l.coefficient i) (sign (k.coefficient j) *ℤ l.coefficient j) (k.coefficient i) (target.over i row.outside) lacks_i)
-        go (inr ne) = rw (differs m i ne) (rest (size (k.coefficient j)) (l.coefficient m) (sign (k.coefficient j)) (k.coefficient m) (l.coefficient j) (v m))
-
-    pub renewed-holds : Holds system w (renewed k i j l)
-    renewed-holds scale v p = finish (size (k.coefficient j)) (sign (k.coefficient j)) k.d k.constant (v i) l.d l.constant (v w) (l.coefficient j) scale _ _ _ (row.holds scale v p) (target.holds scale v p) sum
-      where
-        sum : sum_below (variables system) (λ m. (renewed k i j l).coefficient m *ℤ v m) ≡ (((sign (k.coefficient j) *ℤ k.d) *ℤ l.coefficient j) *ℤ v i) +ℤ
-            ((size (k.coefficient j) *ℤ sum_below (variables system) (λ m. l.coefficient m *ℤ v m)) +ℤ
-            (neg_ℤ (sign (k.coefficient j) *ℤ l.coefficient j) *ℤ sum_below (variables system) (λ m. k.coefficient m *ℤ v m)))
-        sum = sum_below-same (variables system) _ _ (λ m lt. renewed_at v m) ∙ sum_below-plus (variables system) _ _
-            ∙ ap₂ ◌+ℤ◌ (sum_only (variables system) i _ row.variable)
-            (sum_below-both (variables system) (size (k.coefficient j)) (neg_ℤ (sign (k.coefficient j) *ℤ l.coefficient j)) (λ m. l.coefficient m *ℤ v m)
-            (λ m. k.coefficient m *ℤ v m))
-
-        finish : (q h d c x e f y lj s sk sl total : ℤ) → d *ℤ x ≡ (c *ℤ s) +ℤ sk → e *ℤ y ≡ (f *ℤ s) +ℤ sl → total ≡ (((h *ℤ d) *ℤ lj) *ℤ x) +ℤ ((q *ℤ sl) +ℤ (neg_ℤ (h *ℤ lj) *ℤ sk)) → (e *ℤ q) *ℤ y ≡ (((f *ℤ q) -ℤ ((h *ℤ c) *ℤ lj)) *ℤ s) +ℤ total
-        finish q h d c x e f y lj s sk sl total hk hl t =
-            let a : (h *ℤ lj) *ℤ (d *ℤ x) ≡ (h *ℤ lj) *ℤ ((c *ℤ s) +ℤ sk) = ap (λ z. (h *ℤ lj) *ℤ z) hk in
-            let b : q *ℤ (e *ℤ y) ≡ q *ℤ ((f *ℤ s) +ℤ sl) = ap (λ z. q *ℤ z) hl in
-            let a' = simp ring at a in
-            let b' = simp ring at b in
-            rw t (simp ring (omega (arith, ints)))
-
     pub renewed-over : IsOver (exchanged members i j) (renewed k i j l)
-    renewed-over m lacks = go (equal_or_not m i) (equal_or_not m j) (is_member members m)
-      where
-        at_j : (x z h q : ℤ) → h *ℤ z ≡ q → (x *ℤ q) -ℤ ((h *ℤ z) *ℤ x) ≡ pos 0
-        at_j x z h q e = rw e (simp ring (omega (arith, ints)))
-
-        none : (x q h z lj : ℤ) → x ≡ pos 0 → z ≡ pos 0 → (x *ℤ q) -ℤ ((h *ℤ z) *ℤ lj) ≡ pos 0
-        none x q h z lj e f = rw (e, f) (simp ring refl)
-
-        go : (m ≡ i) ⊎ (m ≢ i) → (m ≡ j) ⊎ (m ≢ j) → Contains members m ⊎ ¬ Contains members m → (renewed k i j l).coefficient m ≡ pos 0
-        go (inl e) _ _ = absurd (lacks (subst (λ x. Contains (exchanged members i j) x) (sym e) (Contains-exchanged_new i j members)))
-        go (inr ne) (inl e) _ = rw (e, differs j i (λ f. apart (sym f))) (at_j (l.coefficient j) (k.coefficient j) (sign (k.coefficient j)) (size (k.coefficient j)) (sign-times (k.coefficient j)))
-        go (inr ne) (inr nj) (inl has) = absurd (lacks (Contains-exchanged_old i j m members has nj))
-        go (inr ne) (inr nj) (inr absent) = rw (differs m i ne) (none (l.coefficient m) (size (k.coefficient j)) (sign (k.coefficient j)) (k.coefficient m) (l.coefficient j) (target.over m absent) (row.over m absent))
+    renewed-over = renewed_over members i j k row.outside row.over member l target.over
 
     pub renewed-positive : pos 0 <ℤ (renewed k i j l).d
     renewed-positive = mul_positive l.d _ target.positive (size_positive (k.coefficient j) named)
@@ -219,7 +173,8 @@ module _ (system : LinearSystem) (members : List ℕ) (i j : ℕ) (k : Relation)
 
     -- the relation that the terms give
     pub renewed_row : (l' : Relation) → IsReduced (renewed k i j l) l' → DictionaryRow system (exchanged members i j) w l'
-    renewed_row l' r = reduced_row system (exchanged members i j) w (renewed k i j l) l' exchanged_free target.variable still_outside renewed-positive renewed-over renewed-holds r
+    renewed_row l' r = reduced_row system (exchanged members i j) w (renewed k i j l) l' exchanged_free target.variable still_outside renewed-positive renewed-over
+        (renewed_holds system members i j k row.variable row.outside row.over row.holds w l target.over target.holds) r
 
     -- a relation that doesn't name j stays
     pub kept_row : l.coefficient j ≡ pos 0 → DictionaryRow system (exchanged members i j) w l

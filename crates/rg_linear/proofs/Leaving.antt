@@ -11,6 +11,7 @@ use Rattle.rg_integers.specs.Term.{term_value}
 use Rattle.rg_integers.specs.Sign.{sign, size}
 use Rattle.rg_linear.specs.Exchange.{without, terms, renewed, turned, IsReduced}
 use Rattle.rg_integers.proofs.Ring.{ring, one-mul}
+use Rattle.rg_integers.proofs.Signs.{abs-negated}
 use Rattle.rg_linear.proofs.Members.{equal_or_not, differs, same, Contains-here, Contains-there, without-Contains}
 
 -- the values of the terms are the numbers of the renewed relation, in order
@@ -40,9 +41,6 @@ size-signed : (s z : ℤ) → unsigned_abs (sign s *ℤ z) ≡ unsigned_abs z
 size-signed (pos n) z = ap unsigned_abs (one-mul z)
 size-signed (negsuc n) z = omega (arith, ints)
 
-size-neg : (z : ℤ) → unsigned_abs (neg_ℤ z) ≡ unsigned_abs z
-size-neg z = omega (arith, ints)
-
 -- the relation of the member that leaves has no common factor
 pub turned-primitive : (system : LinearSystem) (members : List ℕ) (i j : ℕ) (k : Relation) → DictionaryRow system members i k → Contains members j → IsPrimitive (turned k i j)
 turned-primitive system members i j k row member g gd gc gm = row.primitive g divides_d divides_constant (λ m. divides m (equal_or_not m j) (equal_or_not m i))
@@ -57,12 +55,12 @@ turned-primitive system members i j k row member g gd gc gm = row.primitive g di
     divides_d = subst (λ n. g ∣ n) (ap unsigned_abs at_i ∙ size-signed (k.coefficient j) k.d) (gm i)
 
     divides_constant : g ∣ unsigned_abs k.constant
-    divides_constant = subst (λ n. g ∣ n) (size-neg (sign (k.coefficient j) *ℤ k.constant) ∙ size-signed (k.coefficient j) k.constant) gc
+    divides_constant = subst (λ n. g ∣ n) (abs-negated (sign (k.coefficient j) *ℤ k.constant) ∙ size-signed (k.coefficient j) k.constant) gc
 
     divides : (m : ℕ) → (m ≡ j) ⊎ (m ≢ j) → (m ≡ i) ⊎ (m ≢ i) → g ∣ unsigned_abs (k.coefficient m)
     divides m (inl e) _ = rw e gd
     divides m (inr ne) (inl e) = subst (λ z. g ∣ unsigned_abs z) (sym (ap k.coefficient e ∙ row.over i row.outside)) (dvd-zero g)
-    divides m (inr ne) (inr ni) = subst (λ n. g ∣ n) (ap unsigned_abs (at_m ne ni) ∙ size-neg (sign (k.coefficient j) *ℤ k.coefficient m) ∙ size-signed (k.coefficient j) (k.coefficient m)) (gm m)
+    divides m (inr ne) (inr ni) = subst (λ n. g ∣ n) (ap unsigned_abs (at_m ne ni) ∙ abs-negated (sign (k.coefficient j) *ℤ k.coefficient m) ∙ size-signed (k.coefficient j) (k.coefficient m)) (gm m)
       where
         at_m : m ≢ j → m ≢ i → (turned k i j).coefficient m ≡ neg_ℤ (sign (k.coefficient j) *ℤ k.coefficient m)
         at_m ne ni = rw (differs m j ne, differs m i ni) refl

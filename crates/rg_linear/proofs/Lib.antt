@@ -2,6 +2,7 @@ pub mod Members
 pub mod Unique
 pub mod Columns
 pub mod Reducing
+pub mod Renewed
 pub mod Exchanging
 pub mod Terms
 pub mod Having

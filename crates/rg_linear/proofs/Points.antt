@@ -3,7 +3,7 @@ use Rattle.std.proofs.Common.{◌≡◌, ◌⊎◌, ⊎_elim, ℕ, suc, ◌<◌,
 use Rattle.std.specs.Prelude.{ℤ, pos, ◌+ℤ◌, ◌*ℤ◌, ◌≤ℤ◌, ◌<ℤ◌}
 use Rattle.std.proofs.lemmas.Int.{ints}
 use Rattle.rg_linear.specs.System.{LinearSystem, variables, row_variable, IsPoint, MeetsRows}
-use Rattle.rg_linear.specs.Dictionary.{IsFree, Relation, DictionaryRow, column_set}
+use Rattle.rg_linear.specs.Dictionary.{IsFree, Relation, Holds, IsOver, DictionaryRow, column_set}
 use Rattle.rg_linear.specs.Exchange.{exchanged}
 use Rattle.rg_linear.specs.Descent.{Outcome, Outcome.point, Outcome.refuted, Outcome.wide, IsStop, IsSatisfied, Chooses, DescentFrom, DescentFrom.after_last, DescentFrom.satisfied, DescentFrom.stuck, DescentFrom.passes, DescentFrom.stops_below, DescentFrom.goes_on, DescentFromStart, IsAtZero}
 use Rattle.std.proofs.Math.IntN.{zero-*ℤ, *ℤ-zero}
@@ -51,16 +51,19 @@ point_meets system members fixed r i o (goes_on j after lt c fit d rest) met all
     there : (m : ℕ) → Contains fixed m → Contains (row_variable system i ∷ fixed) m
     there m (n, less, e) = (suc n, omega arith, e)
 
--- where every member is 0, a relation has its constant alone
-pub constant_left : (system : LinearSystem) (members : List ℕ) (w : ℕ) (k : Relation) → DictionaryRow system members w k → (scale : ℤ) (v : ℕ → ℤ) → IsPoint system scale v → IsAtZero members v → k.d *ℤ v w ≡ k.constant *ℤ scale
-constant_left system members w k row scale v p zeros = row.holds scale v p ∙ drop (k.constant *ℤ scale) _ (sum_below-zero (variables system) _ (λ m lt. at m (is_member members m)))
+-- where every member is 0, a relation over the members has its constant alone
+pub constant_alone : (system : LinearSystem) (members : List ℕ) (w : ℕ) (k : Relation) → IsOver members k → Holds system w k → (scale : ℤ) (v : ℕ → ℤ) → IsPoint system scale v → IsAtZero members v → k.d *ℤ v w ≡ k.constant *ℤ scale
+constant_alone system members w k over holds scale v p zeros = holds scale v p ∙ drop (k.constant *ℤ scale) _ (sum_below-zero (variables system) _ (λ m lt. at m (is_member members m)))
   where
     drop : (a b : ℤ) → b ≡ pos 0 → a +ℤ b ≡ a
     drop a b e = omega (arith, ints)
 
     at : (m : ℕ) → Contains members m ⊎ ¬ Contains members m → k.coefficient m *ℤ v m ≡ pos 0
     at m (inl has) = ap (λ z. k.coefficient m *ℤ z) (zeros m has) ∙ *ℤ-zero (k.coefficient m)
-    at m (inr lacks) = ap (λ z. z *ℤ v m) (row.over m lacks) ∙ zero-*ℤ (v m)
+    at m (inr lacks) = ap (λ z. z *ℤ v m) (over m lacks) ∙ zero-*ℤ (v m)
+
+pub constant_left : (system : LinearSystem) (members : List ℕ) (w : ℕ) (k : Relation) → DictionaryRow system members w k → (scale : ℤ) (v : ℕ → ℤ) → IsPoint system scale v → IsAtZero members v → k.d *ℤ v w ≡ k.constant *ℤ scale
+constant_left system members w k row = constant_alone system members w k row.over row.holds
 
 -- rows that are members or have no negative constant are met where every member is 0
 pub met_at_zero : (system : LinearSystem) (members : List ℕ) (r : ℕ) → MetBelow system members r → (scale : ℤ) (v : ℕ → ℤ) → IsPoint system scale v → IsAtZero members v → (i : ℕ) → i < r → pos 0 ≤ℤ v (row_variable system i)

@@ -85,17 +85,22 @@ reduce raw n positive none = (
         one-mul : (g : ℕ) → 1 * g ≡ g
         one-mul g = omega arith
 
-pub reduced-holds : (system : LinearSystem) (w : ℕ) (raw l : Relation) → IsReduced raw l → Holds system w raw → Holds system w l
-reduced-holds system w raw l r holds scale v p =
-    mul-cancel_left r.factor _ _ (positive_differs r.factor r.positive)
-    (sym (mul_assoc r.factor l.d (v w))
-    ∙ ap (λ z. z *ℤ v w) (sym r.d)
-    ∙ holds scale v p
-    ∙ ap₂ ◌+ℤ◌ (ap (λ z. z *ℤ scale) r.constant ∙ mul_assoc r.factor l.constant scale) (sum_below-same (variables system) _ _ (λ m lt. ap (λ z. z *ℤ v m) (r.coefficients m) ∙ mul_assoc r.factor (l.coefficient m) (v m)) ∙ sum_below-times (variables system) r.factor (λ m. l.coefficient m *ℤ v m))
-    ∙ sym (mul-add r.factor (l.constant *ℤ scale) (sum_below (variables system) (λ m. l.coefficient m *ℤ v m))))
+-- ---- a relation whose numbers are divided by a positive factor
 
-pub reduced-over : (members : List ℕ) (raw l : Relation) → IsReduced raw l → IsOver members raw → IsOver members l
-reduced-over members raw l r over m lacks = mul_is_zero (l.coefficient m) r.factor (positive_differs r.factor r.positive) (*ℤ_comm (l.coefficient m) r.factor ∙ sym (r.coefficients m) ∙ over m lacks)
+pub divided-holds : (system : LinearSystem) (w : ℕ) (raw l : Relation) (f : ℤ) → pos 0 <ℤ f → raw.d ≡ f *ℤ l.d → raw.constant ≡ f *ℤ l.constant → ((m : ℕ) → raw.coefficient m ≡ f *ℤ l.coefficient m)
+    → Holds system w raw → Holds system w l
+divided-holds system w raw l f positive d constant coefficients holds scale v p =
+    mul-cancel_left f _ _ (positive_differs f positive)
+    (sym (mul_assoc f l.d (v w))
+    ∙ ap (λ z. z *ℤ v w) (sym d)
+    ∙ holds scale v p
+    ∙ ap₂ ◌+ℤ◌ (ap (λ z. z *ℤ scale) constant ∙ mul_assoc f l.constant scale)
+    (sum_below-same (variables system) _ _ (λ m lt. ap (λ z. z *ℤ v m) (coefficients m) ∙ mul_assoc f (l.coefficient m) (v m))
+    ∙ sum_below-times (variables system) f (λ m. l.coefficient m *ℤ v m))
+    ∙ sym (mul-add f (l.constant *ℤ scale) (sum_below (variables system) (λ m. l.coefficient m *ℤ v m))))
+
+pub divided-over : (members : List ℕ) (raw l : Relation) (f : ℤ) → pos 0 <ℤ f → ((m : ℕ) → raw.coefficient m ≡ f *ℤ l.coefficient m) → IsOver members raw → IsOver members l
+divided-over members raw l f positive coefficients over m lacks = mul_is_zero (l.coefficient m) f (positive_differs f positive) (*ℤ_comm (l.coefficient m) f ∙ sym (coefficients m) ∙ over m lacks)
 
 pub reduced-positive : (raw l : Relation) → IsReduced raw l → pos 0 <ℤ raw.d → pos 0 <ℤ l.d
 reduced-positive raw l r h = let weak : pos 0 ≤ℤ r.factor = not_negative r.factor r.positive in factor_positive r.factor l.d weak (subst (λ z. pos 0 <ℤ z) r.d h)
@@ -110,7 +115,7 @@ reduced_row system members w raw l free lt outside positive over holds r = recor
   variable = lt;
   outside = outside;
   positive = reduced-positive raw l r positive;
-  over = reduced-over members raw l r over;
+  over = divided-over members raw l r.factor r.positive r.coefficients over;
   primitive = r.primitive;
-  holds = reduced-holds system w raw l r holds;
+  holds = divided-holds system w raw l r.factor r.positive r.d r.constant r.coefficients holds;
 }

@@ -1,5 +1,5 @@
 //! Exchanges in a dictionary.
-use rg_dictionary::{ExchangeWide, RelationTable};
+use rg_feasible::{ExchangeWide, RelationTable};
 use rg_integers::Wide;
 use std::alloc::{AllocError, Global};
 use std::test::Fail;

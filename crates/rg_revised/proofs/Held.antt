@@ -15,7 +15,8 @@ use Rattle.rg_linear.proofs.MemberIndices.{member_at}
 use Rattle.rg_revised.specs.Basis.{IsMultiple}
 use Rattle.rg_revised.specs.Rows.{RowRenewed}
 use Rattle.rg_revised.specs.Held.{AreDistinct, relation_of, IsPivot}
-use Rattle.rg_revised.proofs.Slots.{beside_none, beside_at, set_Contains, distinct-set}
+use Rattle.rg_linear.proofs.TableLemmas.{beside_none}
+use Rattle.rg_revised.proofs.Slots.{beside_at, set_Contains, distinct-set}
 
 -- ---- one row
 

@@ -25,7 +25,8 @@ use Rattle.rg_revised.specs.Held.{relation_of, column_relation, IsHeld, IsPivot,
 use Rattle.rg_revised.proofs.Relations.{member_has_no_constant}
 use Rattle.rg_revised.proofs.Rows.{row_follows}
 use Rattle.rg_revised.proofs.Renewing.{basis_exchanged}
-use Rattle.rg_revised.proofs.Slots.{beside_none, beside_at, set_Contains, Contains-set_new, Contains-set_old, distinct-set}
+use Rattle.rg_linear.proofs.TableLemmas.{beside_none}
+use Rattle.rg_revised.proofs.Slots.{beside_at, set_Contains, Contains-set_new, Contains-set_old, distinct-set}
 use Rattle.rg_revised.proofs.Held.{row_is_multiple}
 
 pub held_exchanged : (system : LinearSystem) (members : List ℕ) (b : BasisState) (table' numbers pivot : List ℤ) (p i : ℕ) (negative : Bool) (most : ℕ)

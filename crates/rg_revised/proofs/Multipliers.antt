@@ -18,7 +18,8 @@ use Rattle.rg_revised.specs.Held.{AreDistinct, relation_of}
 use Rattle.rg_revised.specs.View.{RevisedState}
 use Rattle.rg_revised.specs.Settling.{IsCommonFactor, IsRefutedAt}
 use Rattle.rg_revised.proofs.Relations.{factor_zero, reduced_from}
-use Rattle.rg_revised.proofs.Slots.{beside_none, beside_at}
+use Rattle.rg_linear.proofs.TableLemmas.{beside_none}
+use Rattle.rg_revised.proofs.Slots.{beside_at}
 
 module _ (slots : List ℕ) (d : ℤ) (numbers : List ℤ) (k : Relation) (distinct : AreDistinct slots) (width : length numbers ≡ length slots + 1)
     (reduced : IsReduced (relation_of slots d numbers) k) where

@@ -1,20 +1,19 @@
 -- Relations with a common factor, and what they say of their variable.
 use Rattle.std.proofs.Common.{◌≡◌, ◌≢◌, ◌⊎◌, ℕ, ◌<◌, List, Contains, length, ap, subst, sym, ◌∙◌, inl, inr, arith}
-use Rattle.std.specs.Prelude.{ℤ, pos, ◌+ℤ◌, ◌*ℤ◌, ◌≤ℤ◌, ◌<ℤ◌}
+use Rattle.std.specs.Prelude.{ℤ, pos, ◌*ℤ◌, ◌≤ℤ◌, ◌<ℤ◌}
 use Rattle.std.proofs.lemmas.Int.{ints, by_lt_z}
-use Rattle.std.proofs.Math.IntN.{*ℤ_comm, zero-*ℤ, *ℤ-zero}
+use Rattle.std.proofs.Math.IntN.{*ℤ_comm, *ℤ-zero}
 use Rattle.rg_linear.specs.System.{LinearSystem, variables, row_variable, IsPoint}
 use Rattle.rg_linear.specs.Dictionary.{Relation, IsFree, DictionaryRow}
 use Rattle.rg_linear.specs.Exchange.{IsReduced}
 use Rattle.rg_linear.specs.Descent.{IsSatisfied, IsStuck, Chooses, IsAtZero}
 use Rattle.rg_linear.specs.Cycle.{IsSkipped, Picks}
 use Rattle.rg_integers.proofs.Order.{mul_is_zero, positive_differs, mul_not_negative, factor_not_negative}
-use Rattle.rg_integers.proofs.Sums.{sum_below-zero}
 use Rattle.rg_linear.proofs.Members.{is_member}
 use Rattle.rg_linear.proofs.Unique.{same_relation}
 use Rattle.rg_linear.proofs.Reducing.{reduce, reduced_row}
 use Rattle.rg_linear.proofs.Having.{none_past}
-use Rattle.rg_linear.proofs.Points.{zero_point_of}
+use Rattle.rg_linear.proofs.Points.{constant_alone, zero_point_of}
 use Rattle.rg_revised.specs.Basis.{IsRelationOf}
 
 -- the primitive relation of a variable outside the set, from any relation of it
@@ -33,18 +32,9 @@ reduced_from system members w k l is row =
 pub member_has_no_constant : (system : LinearSystem) (members : List ℕ) (w : ℕ) (k : Relation) → IsFree system members → Contains members w → IsRelationOf system members w k → k.constant ≡ pos 0
 member_has_no_constant system members w k free member is = let (scale, v, p, zeros) = zero_point_of system members free in at scale v p zeros
   where
-    finish : (d x c s t : ℤ) → x ≡ pos 0 → t ≡ pos 0 → d *ℤ x ≡ (c *ℤ s) +ℤ t → c *ℤ s ≡ pos 0
-    finish d x c s t e f h =
-        let a : d *ℤ x ≡ pos 0 = ap (λ z. d *ℤ z) e ∙ *ℤ-zero d in
-        omega (arith, ints)
-
     at : (scale : ℤ) (v : ℕ → ℤ) → IsPoint system scale v → IsAtZero members v → k.constant ≡ pos 0
     at scale v p zeros = mul_is_zero k.constant scale (positive_differs scale p.positive)
-        (finish k.d (v w) k.constant scale _ (zeros w member) (sum_below-zero (variables system) (λ m. k.coefficient m *ℤ v m) (λ m lt. each m (is_member members m))) (is.holds scale v p))
-      where
-        each : (m : ℕ) → Contains members m ⊎ ¬ Contains members m → k.coefficient m *ℤ v m ≡ pos 0
-        each m (inl has) = ap (λ z. k.coefficient m *ℤ z) (zeros m has) ∙ *ℤ-zero (k.coefficient m)
-        each m (inr lacks) = ap (λ z. z *ℤ v m) (is.over m lacks) ∙ zero-*ℤ (v m)
+        (sym (constant_alone system members w k is.over is.holds scale v p zeros) ∙ ap (λ z. k.d *ℤ z) (zeros w member) ∙ *ℤ-zero k.d)
 
 pub failing_is_outside : (system : LinearSystem) (members : List ℕ) (w : ℕ) (k : Relation) → IsFree system members → IsRelationOf system members w k → k.constant <ℤ pos 0 → ¬ Contains members w
 failing_is_outside system members w k free is negative member = let e = member_has_no_constant system members w k free member is in omega (arith, ints)

@@ -1,7 +1,7 @@
 -- Lists of slots, one of which is set, and the numbers beside them.
 use Rattle.std.proofs.Common.{◌≡◌, ◌≢◌, ◌⊎◌, ⊎_elim, ℕ, zero, suc, ◌<◌, List, [], ◌∷◌, length, get_or, Contains, refl, subst, sym, inl, inr, arith}
 use Rattle.std.proofs.Math.ListN.{set}
-use Rattle.std.specs.Prelude.{ℤ, pos}
+use Rattle.std.specs.Prelude.{ℤ}
 use Rattle.rg_integers.specs.Sum.{number_at}
 use Rattle.rg_linear.specs.Table.{number_beside}
 use Rattle.rg_linear.proofs.Members.{differs, same, Contains-here, Contains-there, Contains-cons_cases, Contains-nil}
@@ -9,12 +9,6 @@ use Rattle.rg_linear.proofs.MemberIndices.{member_at}
 use Rattle.rg_revised.specs.Held.{AreDistinct}
 
 -- ---- the number beside a variable
-
-pub beside_none : (slots : List ℕ) (numbers : List ℤ) (m : ℕ) → ¬ Contains slots m → number_beside slots numbers m ≡ pos 0
-beside_none [] numbers m lacks = refl
-beside_none (x ∷ slots) [] m lacks = refl
-beside_none (x ∷ slots) (z ∷ numbers) m lacks = rw (differs x m (λ e. lacks (subst (Contains (x ∷ slots)) e (Contains-here x slots))))
-    (beside_none slots numbers m (λ has. lacks (Contains-there x m slots has)))
 
 pub beside_at : (slots : List ℕ) (numbers : List ℤ) (q : ℕ) → AreDistinct slots → q < length slots → length slots < length numbers
     → number_beside slots numbers (get_or slots q 0) ≡ number_at numbers q

@@ -4,7 +4,7 @@ use Rattle.std.specs.Ordering.{int_eq}
 use Rattle.rg_integers.specs.Sum.{number_at}
 use Rattle.rg_integers.proofs.Casts.{back}
 use Rattle.rg_cycles.proofs.Numbers.{taken_more, left_more, differs_from_zero, equals_zero, is_chord, is_label, is_unused, chord_within}
-use Rattle.rg_dictionary.proofs.RowTerms.{shown_number}
+use Rattle.rg_feasible.proofs.RowTerms.{shown_number}
 use Rattle.rg_cycles.proofs.reading.chord_numbers.Goals as goal
 use Rattle.rg_cycles.proofs.reading.chord_numbers.Goals.{then-member-labels+then-number-ne0+in_ok-push, else-member-labels, else-member-labels-via-then-member-labels+else-number-ne0, else-member-labels-via-else-member-labels}
 

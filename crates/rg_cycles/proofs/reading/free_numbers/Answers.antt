@@ -6,7 +6,7 @@ use Rattle.rg_integers.specs.Sum.{number_at}
 use Rattle.rg_integers.proofs.Casts.{fits}
 use Rattle.rg_linear.proofs.Columns.{below_test, past_test}
 use Rattle.rg_cycles.proofs.Numbers.{taken_more, left_more}
-use Rattle.rg_dictionary.proofs.RowTerms.{shown_number}
+use Rattle.rg_feasible.proofs.RowTerms.{shown_number}
 use Rattle.rg_cycles.proofs.reading.free_numbers.Goals as goal
 use Rattle.rg_cycles.proofs.reading.free_numbers.Goals.{then-member-labels+in_ok-push, else-member-labels}
 

@@ -1,7 +1,7 @@
 use Rattle.std.proofs.lemmas.List.Elements.{Contains-get_or}
 use Rattle.std.proofs.Common.{subst, sym, ◌∙◌, arith}
 use Rattle.std.specs.Prelude.{slice_index}
-use Rattle.rg_dictionary.specs.Contents.{IsDictionary}
+use Rattle.rg_feasible.specs.Contents.{IsDictionary}
 use Rattle.rg_cycles.proofs.Filling.{row_added, row_length, row_in_range}
 use Rattle.rg_cycles.proofs.solving.fill.Goals as goal
 

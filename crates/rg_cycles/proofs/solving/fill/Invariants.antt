@@ -1,7 +1,7 @@
 use Rattle.std.proofs.Common.{◌≡◌, ◌+◌, length, take}
 use Rattle.rg_linear.specs.Dictionary.{numbers_from}
 use Rattle.rg_linear.specs.Cycle.{vector_system}
-use Rattle.rg_dictionary.specs.Contents.{IsDictionary}
+use Rattle.rg_feasible.specs.Contents.{IsDictionary}
 use Rattle.rg_cycles.proofs.solving.fill.Given as goal
 
 abbrev pub invariant-loop-index : goal.invariant-loop-index

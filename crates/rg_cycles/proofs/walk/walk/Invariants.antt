@@ -1,6 +1,6 @@
 use Rattle.rg_linear.specs.System.{LinearSystem}
 use Rattle.rg_linear.specs.Cycle.{CycleOutcome, CycleWalkFrom, CycleWalk}
-use Rattle.rg_dictionary.specs.Contents.{IsDictionary, SameShape}
+use Rattle.rg_feasible.specs.Contents.{IsDictionary, SameShape}
 use Rattle.rg_cycles.specs.Walk.{RowsAhead}
 use Rattle.rg_cycles.proofs.walk.walk.Given as goal
 

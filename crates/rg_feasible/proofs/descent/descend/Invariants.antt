@@ -1,7 +1,7 @@
 use Rattle.std.proofs.Common.{◌≤◌, reverse, vec_capacity}
 use Rattle.rg_linear.specs.System.{LinearSystem}
 use Rattle.rg_linear.specs.Stack.{work_left}
-use Rattle.rg_dictionary.specs.Contents.{IsDictionary, SameShape}
+use Rattle.rg_feasible.specs.Contents.{IsDictionary, SameShape}
 use Rattle.rg_linear.proofs.Descending.{LeadsOn}
 use Rattle.rg_feasible.proofs.descent.descend.Given as goal
 

@@ -3,7 +3,7 @@ use Rattle.rg_integers.specs.Range.{InRange}
 use Rattle.rg_integers.proofs.Casts.{back}
 use Rattle.rg_linear.specs.View.{linear_system}
 use Rattle.rg_linear.proofs.KeptRows.{row_length, row_in_range, constant_in_range}
-use Rattle.rg_dictionary.specs.Contents.{IsDictionary}
+use Rattle.rg_feasible.specs.Contents.{IsDictionary}
 use Rattle.rg_feasible.proofs.Filling.{row_pushed}
 use Rattle.rg_feasible.proofs.dictionary.add_rows.Goals as goal
 

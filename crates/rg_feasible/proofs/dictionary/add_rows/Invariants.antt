@@ -1,7 +1,7 @@
 use Rattle.std.proofs.Common.{◌≡◌, ◌+◌, map, take}
 use Rattle.rg_linear.specs.System.{LinearSystem, with_rows}
 use Rattle.rg_linear.specs.View.{linear_row}
-use Rattle.rg_dictionary.specs.Contents.{IsDictionary}
+use Rattle.rg_feasible.specs.Contents.{IsDictionary}
 use Rattle.rg_feasible.proofs.dictionary.add_rows.Given as goal
 
 abbrev pub invariant-loop-row : goal.invariant-loop-row

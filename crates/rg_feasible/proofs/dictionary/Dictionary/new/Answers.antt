@@ -1,6 +1,6 @@
 use Rattle.std.proofs.Common.{ap, subst, sym, ◌∙◌}
 use Rattle.rg_linear.specs.Dictionary.{numbers_from}
-use Rattle.rg_dictionary.specs.Contents.{IsDictionary, columns_alone}
+use Rattle.rg_feasible.specs.Contents.{IsDictionary, columns_alone}
 use Rattle.rg_feasible.specs.View.{DescentState}
 use Rattle.rg_feasible.proofs.Filling.{all_rows}
 use Rattle.rg_feasible.proofs.dictionary.Dictionary.new.Goals as goal

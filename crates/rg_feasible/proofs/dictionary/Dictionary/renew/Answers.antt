@@ -1,7 +1,7 @@
 use Rattle.std.proofs.Common.{ap, map, subst, sym, ◌∙◌}
 use Rattle.rg_linear.specs.Dictionary.{numbers_from}
 use Rattle.rg_linear.specs.View.{linear_row}
-use Rattle.rg_dictionary.specs.Contents.{IsDictionary, columns_alone}
+use Rattle.rg_feasible.specs.Contents.{IsDictionary, columns_alone}
 use Rattle.rg_feasible.specs.View.{DescentState}
 use Rattle.rg_linear.specs.System.{with_rows}
 use Rattle.rg_feasible.proofs.Filling.{all_rows, further_well_formed}

@@ -1,9 +1,0 @@
-pub mod Writing
-pub mod Moving
-pub mod Renewing
-pub mod TableRows
-pub mod RowTerms
-pub mod RowNumbers
-pub mod Exchanges
-pub mod Storing
-pub mod Sparse

@@ -1,4 +1,0 @@
-use Rattle.rg_dictionary.proofs.dictionary.RelationTable.contains.Goals as goal
-
-pub returns : goal.returns
-returns c = rw (← c.self.view_is, ← c.deref.ensures.value) c.is_member.ensures
