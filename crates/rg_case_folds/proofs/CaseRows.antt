@@ -17,7 +17,7 @@ use Rattle.rg_case_folds.specs.Potentials.{potential}
 use Rattle.rg_case_folds.specs.Rewriting.{has_start, problem_rows, names_of, CaseSystem}
 use Rattle.rg_case_folds.specs.Values.{numbers_along, UnusedAreZero}
 use Rattle.rg_case_folds.proofs.ChordRows.{effects_exact}
-use Rattle.rg_case_folds.specs.Meaning.{IsLeftOut, RowHolds, IsTokensRow, IsCaseOver, AreEffects}
+use Rattle.rg_case_folds.specs.Meaning.{IsLeftOut, RowHolds, KeepsRowsOver, IsTokensRow, IsCaseOver, AreEffects}
 use Rattle.rg_case_folds.proofs.Lists.{nothing}
 use Rattle.rg_case_folds.proofs.Names.{each_problem_name, each_name}
 use Rattle.rg_cert_meaning.specs.declared.RowName.TheVariants as row_name
@@ -40,7 +40,8 @@ said name z h = h
 
 -- the names of a case's rows are not of arcs
 problem_name_no_arc : (lts : System) (class : Class) (problem : Problem) (name : RowName) → Contains (problem_rows lts class problem) name → ¬ IsArcRow name
-problem_name_no_arc lts class (Event s t) name has = each_problem_name lts class s t (λ n. ¬ IsArcRow n) (λ pure h. h) (λ pure plain h. h) (λ pure plain q has h. h) (λ pure plain h. h) (λ pure plain q has h. h) name has
+problem_name_no_arc lts class (Event s t) name has =
+    each_problem_name lts class s t (λ n. ¬ IsArcRow n) (λ pure h. h) (λ pure plain h. h) (λ pure plain q has h. h) (λ pure plain h. h) (λ pure plain q has h. h) name has
 problem_name_no_arc lts class (States s s') name has = ⊎_elim (λ is. subst (λ n. ¬ IsArcRow n) is (λ h. h)) (λ there. absurd (nothing name there)) (Contains-cons_cases row_name.Apart name [] has)
 
 pub name_no_arc : (lts : System) (class : Class) (problem : Problem) (number : ℕ) (name : RowName) → Contains (names_of lts class problem number) name → ¬ IsArcRow name
@@ -48,8 +49,10 @@ name_no_arc lts class problem number name has = each_name lts class problem numb
 
 -- where Start is no column they are not of tokens
 problem_name_no_tokens : (lts : System) (class : Class) (problem : Problem) (name : RowName) → Contains (problem_rows lts class problem) name → ¬ IsTokensRow name
-problem_name_no_tokens lts class (Event s t) name has = each_problem_name lts class s t (λ n. ¬ IsTokensRow n) (λ pure h. h) (λ pure plain h. h) (λ pure plain q has h. h) (λ pure plain h. h) (λ pure plain q has h. h) name has
-problem_name_no_tokens lts class (States s s') name has = ⊎_elim (λ is. subst (λ n. ¬ IsTokensRow n) is (λ h. h)) (λ there. absurd (nothing name there)) (Contains-cons_cases row_name.Apart name [] has)
+problem_name_no_tokens lts class (Event s t) name has =
+    each_problem_name lts class s t (λ n. ¬ IsTokensRow n) (λ pure h. h) (λ pure plain h. h) (λ pure plain q has h. h) (λ pure plain h. h) (λ pure plain q has h. h) name has
+problem_name_no_tokens lts class (States s s') name has =
+    ⊎_elim (λ is. subst (λ n. ¬ IsTokensRow n) is (λ h. h)) (λ there. absurd (nothing name there)) (Contains-cons_cases row_name.Apart name [] has)
 
 pub name_no_tokens : (lts : System) (class : Class) (problem : Problem) (number : ℕ) (name : RowName) → has_start class ≡ false → Contains (names_of lts class problem number) name → ¬ IsTokensRow name
 name_no_tokens lts class problem number name none has = each_name lts class problem number (λ n. ¬ IsTokensRow n) (problem_name_no_tokens lts class problem) (λ c q lt h. true≢false (sym c ∙ none)) (λ c q lt h. h) (λ c u lt used h. h) (λ c u lt used h. h) (λ c u lt used differ h. h) name has
@@ -92,24 +95,32 @@ effect_holds lts tree class problem number start effect scale (row_name.Tokens q
 effect_holds lts tree class problem number start effect scale name unused positive stands out no_arc no_tokens = absurd out
 
 -- the row of the tokens of q
-pub tokens_row_holds : (lts : System) (class : Class) (problem : Problem) (number : ℕ) (scale : ℤ) (x : Variable → ℤ) (q : ℕ) → (pos 0 ≤ℤ x (Tokens q)) ↔ RowHolds lts class problem number scale x (row_name.Tokens q)
-tokens_row_holds lts class (Event s t) number scale x q = (there (x (Tokens q)) scale, back (x (Tokens q)) scale)
+pub tokens_row_holds : (lts : System) (class : Class) (problem : Problem) (number : ℕ) (scale : ℤ) (x : Variable → ℤ) (q : ℕ)
+    → (pos 0 ≤ℤ x (Tokens q)) ↔ RowHolds lts class problem number scale x (row_name.Tokens q)
+tokens_row_holds lts class problem number scale x q = by problem
   where
     there : (z k : ℤ) → pos 0 ≤ℤ z → pos 0 ≤ℤ (((pos 1 *ℤ z) +ℤ pos 0) +ℤ (pos 0 *ℤ k))
     there z k h = omega (arith, ints)
 
     back : (z k : ℤ) → pos 0 ≤ℤ (((pos 1 *ℤ z) +ℤ pos 0) +ℤ (pos 0 *ℤ k)) → pos 0 ≤ℤ z
     back z k h = omega (arith, ints)
-tokens_row_holds lts class (States s s') number scale x q = (there (x (Tokens q)) scale, back (x (Tokens q)) scale)
-  where
-    there : (z k : ℤ) → pos 0 ≤ℤ z → pos 0 ≤ℤ (((pos 1 *ℤ z) +ℤ pos 0) +ℤ (pos 0 *ℤ k))
-    there z k h = omega (arith, ints)
 
-    back : (z k : ℤ) → pos 0 ≤ℤ (((pos 1 *ℤ z) +ℤ pos 0) +ℤ (pos 0 *ℤ k)) → pos 0 ≤ℤ z
-    back z k h = omega (arith, ints)
+    by : (p : Problem) → (pos 0 ≤ℤ x (Tokens q)) ↔ RowHolds lts class p number scale x (row_name.Tokens q)
+    by (Event s t) = (there (x (Tokens q)) scale, back (x (Tokens q)) scale)
+    by (States s s') = (there (x (Tokens q)) scale, back (x (Tokens q)) scale)
+
+pub tokens_stand : (lts : System) (class : Class) (problem : Problem) (number q : ℕ) → RowStands lts class problem number [] (row_name.Tokens q)
+tokens_stand lts class (Event s t) number q = tt
+tokens_stand lts class (States s s') number q = tt
+
+-- numbers that keep all rows leave no tokens below 0
+pub kept_tokens : (lts : System) (class : Class) (problem : Problem) (number : ℕ) (scale : ℤ) (x : Variable → ℤ) → KeepsRowsOver lts class problem number scale x
+    → (q : ℕ) → pos 0 ≤ℤ x (Tokens q)
+kept_tokens lts class problem number scale x keeps q = (tokens_row_holds lts class problem number scale x q).1 (keeps (row_name.Tokens q) (tokens_stand lts class problem number q))
 
 -- by kinds: of arcs, of tokens, and others
-pub each_kind : (P : RowName → Type 0) → ((name : RowName) → IsArcRow name → P name) → ((name : RowName) → IsTokensRow name → P name) → ((name : RowName) → ¬ IsArcRow name → ¬ IsTokensRow name → P name) → (name : RowName) → P name
+pub each_kind : (P : RowName → Type 0) → ((name : RowName) → IsArcRow name → P name) → ((name : RowName) → IsTokensRow name → P name)
+    → ((name : RowName) → ¬ IsArcRow name → ¬ IsTokensRow name → P name) → (name : RowName) → P name
 each_kind P arcs tokens rest (row_name.Arc a) = arcs (row_name.Arc a) tt
 each_kind P arcs tokens rest (row_name.Tokens q) = tokens (row_name.Tokens q) tt
 each_kind P arcs tokens rest name = rest name (λ h. h) (λ h. h)

@@ -1,5 +1,5 @@
 -- The relations of the basis hold exactly where every arc is kept.
-use Rattle.std.proofs.Common.{◌≡◌, ◌⊎◌, ⊎_elim, ◌↔◌, ℕ, zero, suc, ◌+◌, ◌<◌, List, [], map, length, slice_index_or, All, Contains, inl, inr, ap, ap₂, sym, ◌∙◌, arith}
+use Rattle.std.proofs.Common.{◌≡◌, ◌⊎◌, ⊎_elim, ◌↔◌, ℕ, zero, suc, ◌+◌, ◌<◌, List, [], map, length, slice_index_or, All, Contains, inl, inr, ap, ap₂, sym, ◌∙◌, arith, zero-add}
 use Rattle.std.specs.Prelude.{ℤ, pos, ◌+ℤ◌, ◌*ℤ◌, ◌<ℤ◌}
 use Rattle.std.proofs.Math.IntN.{zero-*ℤ}
 use Rattle.std.proofs.lemmas.Int.{ints}
@@ -42,13 +42,11 @@ abbrev pub coeffs_sum : ℕ → List ℤ → (ℕ → ℤ) → ℤ
 coeffs_sum n coeffs x = sum_below n (λ j. slice_index_or coeffs j (pos 0) *ℤ x j)
 
 vector_sum : (lts : System) (tree : List Arc) (effect : ℕ → ℤ) (a : Arc) → coeffs_sum (labels lts) (chord_vector lts tree a) effect ≡ chord_sum lts tree effect a
-vector_sum lts tree effect a = sum_below-same (labels lts) (λ j. slice_index_or (chord_vector lts tree a) j (pos 0) *ℤ effect j) (λ t. chord_entry tree a t *ℤ effect t) (λ j lt. ap (λ z. z *ℤ effect j) (map_numbers (chord_entry tree a) 0 (labels lts) j lt ∙ ap (chord_entry tree a) (none j)))
-  where
-    none : (j : ℕ) → 0 + j ≡ j
-    none j = omega arith
+vector_sum lts tree effect a = sum_below-same (labels lts) (λ j. slice_index_or (chord_vector lts tree a) j (pos 0) *ℤ effect j) (λ t. chord_entry tree a t *ℤ effect t) (λ j lt. ap (λ z. z *ℤ effect j) (map_numbers (chord_entry tree a) 0 (labels lts) j lt ∙ ap (chord_entry tree a) (zero-add j)))
 
 -- the vector at a place is that of the chord at it
-place_sum : (lts : System) (tree : List Arc) (effect : ℕ → ℤ) (p : ℕ) → p < length (chords lts tree) → coeffs_sum (labels lts) (vector_at (chord_vectors lts tree) p) effect ≡ chord_sum lts tree effect (chord_at lts tree p)
+place_sum : (lts : System) (tree : List Arc) (effect : ℕ → ℤ) (p : ℕ) → p < length (chords lts tree)
+    → coeffs_sum (labels lts) (vector_at (chord_vectors lts tree) p) effect ≡ chord_sum lts tree effect (chord_at lts tree p)
 place_sum lts tree effect p lt =
     ap (λ c. coeffs_sum (labels lts) c effect) (get_or-map (chord_vector lts tree) (chords lts tree) p (record { from = 0; label = 0; to = 0 }) [] lt)
     ∙ vector_sum lts tree effect (chord_at lts tree p)
@@ -102,7 +100,8 @@ row_of_point lts tree kept effect i lt =
     drop : (z : ℤ) → z +ℤ (pos 0 *ℤ pos 1) ≡ z
     drop z = omega (arith, ints)
 
-rows_zero : (lts : System) (tree : List Arc) (kept : List ℕ) (effect : ℕ → ℤ) → KeepsChords lts tree kept → ((a : Arc) → Contains (chords lts tree) a → chord_sum lts tree effect a ≡ pos 0) ↔ RowsAreZero (chord_system lts tree kept) (values_of (chord_system lts tree kept) (pos 1) effect)
+rows_zero : (lts : System) (tree : List Arc) (kept : List ℕ) (effect : ℕ → ℤ) → KeepsChords lts tree kept
+    → ((a : Arc) → Contains (chords lts tree) a → chord_sum lts tree effect a ≡ pos 0) ↔ RowsAreZero (chord_system lts tree kept) (values_of (chord_system lts tree kept) (pos 1) effect)
 rows_zero lts tree kept effect is = (rows, sums)
   where
     rows : ((a : Arc) → Contains (chords lts tree) a → chord_sum lts tree effect a ≡ pos 0) → RowsAreZero (chord_system lts tree kept) (values_of (chord_system lts tree kept) (pos 1) effect)
@@ -112,7 +111,8 @@ rows_zero lts tree kept effect is = (rows, sums)
         ∙ place_sum lts tree effect (slice_index_or kept i 0) below
         ∙ none (chord_at lts tree (slice_index_or kept i 0)) (Contains-get_or (chords lts tree) (slice_index_or kept i 0) (record { from = 0; label = 0; to = 0 }) below)
 
-    kept_zero : RowsAreZero (chord_system lts tree kept) (values_of (chord_system lts tree kept) (pos 1) effect) → (q : ℕ) → Contains kept q → coeffs_sum (labels lts) (vector_at (chord_vectors lts tree) q) effect ≡ pos 0
+    kept_zero : RowsAreZero (chord_system lts tree kept) (values_of (chord_system lts tree kept) (pos 1) effect) → (q : ℕ) → Contains kept q
+        → coeffs_sum (labels lts) (vector_at (chord_vectors lts tree) q) effect ≡ pos 0
     kept_zero zeros q (i, lt, e) =
         let same = length-map kept (vector_row lts tree) in
         let below : i < length (chord_system lts tree kept).rows = omega arith in
@@ -142,7 +142,8 @@ follows_same system members v u agree follows t k lt row =
     ap (λ z. k.d *ℤ z) (sym (agree t lt)) ∙ follows t k lt row ∙ sum_below-same system.columns (λ j. k.coefficient j *ℤ v j) (λ j. k.coefficient j *ℤ u j) (λ j lt'. ap (λ z. k.coefficient j *ℤ z) (agree j lt'))
 
 -- the numbers that effects give along the tree keep every arc exactly where the effects follow the relations
-pub effects_exact : (lts : System) (tree : List Arc) (basis : CycleBasis) (start : ℤ) (effect : ℕ → ℤ) → IsInRange lts → IsTree lts tree → IsBasis lts tree basis → KeepsArcs lts (potential lts tree start effect) effect ↔ FollowsRelations (chord_system lts tree basis.kept) basis.members effect
+pub effects_exact : (lts : System) (tree : List Arc) (basis : CycleBasis) (start : ℤ) (effect : ℕ → ℤ) → IsInRange lts → IsTree lts tree → IsBasis lts tree basis
+    → KeepsArcs lts (potential lts tree start effect) effect ↔ FollowsRelations (chord_system lts tree basis.kept) basis.members effect
 effects_exact lts tree basis start effect fine g is =
     let sums = chord_equations lts tree start effect fine g in
     let rows = rows_zero lts tree basis.kept effect is.kept in

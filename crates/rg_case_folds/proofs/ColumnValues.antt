@@ -32,7 +32,8 @@ picked_is test test' a (suc n) x = go (test a) (picked_is test test' (suc a) n x
     go false ih = ih
 
 -- Start where it is a column, and the effects of the free labels with an arc
-pub columns_split : (lts : System) (basis : CycleBasis) (class : Class) (start : ℤ) (effect : ℕ → ℤ) → column_values lts basis class start effect ≡ (if has_start class then (start ∷ []) else []) ++ map effect (free_columns lts basis)
+pub columns_split : (lts : System) (basis : CycleBasis) (class : Class) (start : ℤ) (effect : ℕ → ℤ)
+    → column_values lts basis class start effect ≡ (if has_start class then (start ∷ []) else []) ++ map effect (free_columns lts basis)
 columns_split lts basis class start effect = ap (λ l. (if has_start class then (start ∷ []) else []) ++ l) (picked_is (λ t. is_in basis.members t) (λ t. has_label t lts.arcs) 0 (labels lts) effect)
 
 columns_counted : (lts : System) (basis : CycleBasis) (class : Class) (start : ℤ) (effect : ℕ → ℤ) → length (column_values lts basis class start effect) ≡ column_count lts basis class
@@ -52,7 +53,8 @@ values_counted s case start effect fold = columns_counted s.lts s.basis s.class 
 pub first_value : (lts : System) (basis : CycleBasis) (class : Class) (start : ℤ) (effect : ℕ → ℤ) → has_start class ≡ true → number_at (column_values lts basis class start effect) 0 ≡ start
 first_value lts basis class start effect starts = ap (λ b. number_at ((if b then (start ∷ []) else []) ++ picked (λ t. has_label t lts.arcs) (free_labels (labels lts) basis) effect) 0) starts
 
-pub free_value : (lts : System) (basis : CycleBasis) (class : Class) (start : ℤ) (effect : ℕ → ℤ) (i : ℕ) → i < length (free_columns lts basis) → number_at (column_values lts basis class start effect) (first_column class + i) ≡ effect (slice_index_or (free_columns lts basis) i 0)
+pub free_value : (lts : System) (basis : CycleBasis) (class : Class) (start : ℤ) (effect : ℕ → ℤ) (i : ℕ) → i < length (free_columns lts basis)
+    → number_at (column_values lts basis class start effect) (first_column class + i) ≡ effect (slice_index_or (free_columns lts basis) i 0)
 free_value lts basis class start effect i lt = ap (λ l. number_at l (first_column class + i)) (columns_split lts basis class start effect) ∙ go (has_start class)
   where
     after : number_at (start ∷ map effect (free_columns lts basis)) (1 + i) ≡ number_at (map effect (free_columns lts basis)) i
@@ -67,7 +69,10 @@ free_value lts basis class start effect i lt = ap (λ l. number_at l (first_colu
 
 -- a dot is a sum over the second list
 dot_over : (xs ys : List ℤ) → dot xs ys ≡ sum_below (length ys) (λ j. number_at xs j *ℤ number_at ys j)
-dot_over xs ys = dot_comm xs ys ∙ dot-sum_below ys xs ∙ sum_below-same (length ys) (λ j. number_at ys j *ℤ number_at xs j) (λ j. number_at xs j *ℤ number_at ys j) (λ j lt. *ℤ_comm (number_at ys j) (number_at xs j))
+dot_over xs ys =
+    dot_comm xs ys
+    ∙ dot-sum_below ys xs
+    ∙ sum_below-same (length ys) (λ j. number_at ys j *ℤ number_at xs j) (λ j. number_at xs j *ℤ number_at ys j) (λ j lt. *ℤ_comm (number_at ys j) (number_at xs j))
 
 pub row_sum : (s : CaseSetting) (case : CaseSystem) (start : ℤ) (effect : ℕ → ℤ) (coeffs : List ℤ) → system_fold s (Ok case)
     → dot coeffs (column_values s.lts s.basis s.class start effect)
@@ -85,7 +90,8 @@ start_below s case fold starts =
 pub free_below : (s : CaseSetting) (case : CaseSystem) (i : ℕ) → system_fold s (Ok case) → i < length (free_columns s.lts s.basis) → first_column s.class + i < case.columns
 free_below s case i fold lt = go (has_start s.class) case.columns (columns_of_case s case fold) (length-map (free_columns s.lts s.basis) pos)
   where
-    go : (b : Bool) (n : ℕ) → n ≡ length ((if b then (pos 0 ∷ []) else []) ++ map pos (free_columns s.lts s.basis)) → length (map pos (free_columns s.lts s.basis)) ≡ length (free_columns s.lts s.basis) → (if b then 1 else 0) + i < n
+    go : (b : Bool) (n : ℕ) → n ≡ length ((if b then (pos 0 ∷ []) else []) ++ map pos (free_columns s.lts s.basis))
+        → length (map pos (free_columns s.lts s.basis)) ≡ length (free_columns s.lts s.basis) → (if b then 1 else 0) + i < n
     go true n is same = omega arith
     go false n is same = omega arith
 

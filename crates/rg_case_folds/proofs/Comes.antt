@@ -7,7 +7,8 @@ use Rattle.rg_fraction.specs.declared.fold_stop.FoldStop.TheVariants as stop
 use Rattle.rg_folds.specs.Fold.{and_then, Comes}
 
 -- where each result of one computation is one of another
-pub comes_by : {T X : Type 0} (fold other : Result X Wide → Type 0) (view : T → X) (given : Result T FoldStop) → Comes fold view given → ((r : Result X Wide) → fold r → other r) → Comes other view given
+pub comes_by : {T X : Type 0} (fold other : Result X Wide → Type 0) (view : T → X) (given : Result T FoldStop) → Comes fold view given
+    → ((r : Result X Wide) → fold r → other r) → Comes other view given
 comes_by fold other view (Ok v) h leads = leads (Ok (view v)) h
 comes_by fold other view (Err (stop.Wide w)) h leads = leads (Err w) h
 comes_by fold other view (Err stop.NoMemory) h leads = h
@@ -19,7 +20,8 @@ comes_stopped fold view other seen (stop.Wide w) h leads = leads w h
 comes_stopped fold view other seen stop.NoMemory h leads = h
 
 -- what is true of the value
-pub comes_value : {T X : Type 0} (fold : Result X Wide → Type 0) (view : T → X) (P : T → Type 0) (given : Result T FoldStop) → Comes fold view given → ((v : T) → fold (Ok (view v)) → P v) → IfOk given P
+pub comes_value : {T X : Type 0} (fold : Result X Wide → Type 0) (view : T → X) (P : T → Type 0) (given : Result T FoldStop) → Comes fold view given
+    → ((v : T) → fold (Ok (view v)) → P v) → IfOk given P
 comes_value fold view P (Ok v) h shows = shows v h
 comes_value fold view P (Err e) h shows = tt
 

@@ -1,12 +1,12 @@
 -- The effects that the fold of a place makes, and the whole numbers that they become.
-use Rattle.std.proofs.Common.{◌≡◌, ⊎_elim, ℕ, suc, ◌+◌, ◌<◌, ◌&&◌, not, Bool, true, false, List, [], ◌∷◌, Contains, Result, Ok, refl, sym, ap, ap₂, subst, ◌∙◌, arith}
-use Rattle.std.specs.Prelude.{ℤ, pos, ◌+ℤ◌, ◌*ℤ◌, ◌<ℤ◌}
+use Rattle.std.proofs.Common.{◌≡◌, ⊎_elim, ℕ, suc, ◌+◌, ◌<◌, ◌&&◌, not, Bool, true, false, List, [], ◌∷◌, Contains, Result, Ok, refl, sym, ap, ap₂, subst, ◌∙◌, arith, zero-add}
+use Rattle.std.specs.Prelude.{ℤ, pos, ◌*ℤ◌, ◌<ℤ◌}
 use Rattle.std.proofs.lemmas.Int.{ints}
-use Rattle.std.proofs.lemmas.Bool.{true≢false, cases_Bool, and_from}
+use Rattle.std.proofs.lemmas.Bool.{true≢false, cases_Bool, and_from, not-true}
 use Rattle.rg_theory.specs.declared.Arc.{Arc}
 use Rattle.rg_theory.specs.System.{System, labels}
 use Rattle.rg_integers.specs.Sum.{sum_below, sum_over}
-use Rattle.rg_integers.proofs.Ring.{ring}
+use Rattle.rg_integers.proofs.Ring.{ring, mul_assoc}
 use Rattle.rg_integers.proofs.Order.{mul-cancel, positive_differs}
 use Rattle.rg_integers.proofs.Sums.{sum_below-same}
 use Rattle.rg_linear.specs.Cycle.{CycleBasis}
@@ -19,9 +19,10 @@ use Rattle.rg_case_folds.specs.Placing.{effect_fold}
 use Rattle.rg_case_folds.proofs.RowValues.{IsOver, further_over}
 use Rattle.rg_folds.proofs.Sums.{both_sums}
 use Rattle.rg_case_folds.specs.Meaning.{AreEffects}
-use Rattle.rg_case_folds.proofs.Lists.{where_has, where_is}
-use Rattle.rg_case_folds.proofs.PointEffects.{has_in}
+use Rattle.rg_case_folds.proofs.Lists.{where_has, where_is, has_in}
 use Rattle.rg_integers.proofs.ListSums.{sum_over-zero}
+use Rattle.rg_case_folds.proofs.Products.{first_of_sum, mul_rotate}
+use Rattle.std.proofs.Math.IntN.{*ℤ_comm, *ℤ-zero}
 use Rattle.rg_case_folds.specs.Places.{AreValuesOf}
 
 -- ---- one product
@@ -46,7 +47,8 @@ further_bottom : (make : ℕ → Result Ratio Wide → Type 0) (f h : Ratio) (ts
 further_bottom make f h [] p e = subst (λ (r : Ratio). pos 0 <ℤ r.bottom) (sym e) p
 further_bottom make f h (t ∷ ts) p (k, made, (g, (_, _, added), rest)) = further_bottom make g h ts added.positive rest
 
-joined_over : (b : ℤ) (make : ℕ → Result Ratio Wide → Type 0) (y : ℕ → ℤ) (h : Ratio) (ts : List ℕ) → joined add make (whole (pos 0)) ts (Ok h) → ((t : ℕ) (k : Ratio) → Contains ts t → make t (Ok k) → IsOver b k (y t) × (pos 0 <ℤ k.bottom)) → IsOver b h (sum_over y ts) × (pos 0 <ℤ h.bottom)
+joined_over : (b : ℤ) (make : ℕ → Result Ratio Wide → Type 0) (y : ℕ → ℤ) (h : Ratio) (ts : List ℕ) → joined add make (whole (pos 0)) ts (Ok h)
+    → ((t : ℕ) (k : Ratio) → Contains ts t → make t (Ok k) → IsOver b k (y t) × (pos 0 <ℤ k.bottom)) → IsOver b h (sum_over y ts) × (pos 0 <ℤ h.bottom)
 joined_over b make y h [] e each_over = (subst (λ (r : Ratio). IsOver b r (pos 0)) (sym e) (none b), subst (λ (r : Ratio). pos 0 <ℤ r.bottom) (sym e) (omega (arith, ints)))
   where
     none : (b : ℤ) → pos 0 *ℤ b ≡ pos 0 *ℤ pos 1
@@ -61,19 +63,9 @@ joined_over b make y h (t ∷ ts) (k, made, rest) each_over =
 where_sum : (test : ℕ → Bool) (g : ℕ → ℤ) (n : ℕ) → ((t : ℕ) → t < n → test t ≡ false → g t ≡ pos 0) → sum_over g (numbers_where test 0 n) ≡ sum_below n g
 where_sum test g n zero_at =
     let both = both_sums test g 0 n in
-    let none = sum_over-zero g (numbers_where (λ t. not (test t)) 0 n) (λ t has. (let (e, _, lt) = where_is (λ t. not (test t)) 0 n t has in zero_at t (omega arith) (is_false (test t) e))) in
-    close (sum_over g (numbers_where test 0 n)) (sum_over g (numbers_where (λ t. not (test t)) 0 n)) (sum_below n (λ i. g (0 + i))) both none
-    ∙ sum_below-same n (λ i. g (0 + i)) g (λ i lt. ap g (start i))
-  where
-    is_false : (b : Bool) → not b ≡ true → b ≡ false
-    is_false true p = absurd (true≢false (sym p))
-    is_false false p = refl
-
-    start : (i : ℕ) → 0 + i ≡ i
-    start i = omega arith
-
-    close : (a b c : ℤ) → a +ℤ b ≡ c → b ≡ pos 0 → a ≡ c
-    close a b c p q = omega (arith, ints)
+    let none = sum_over-zero g (numbers_where (λ t. not (test t)) 0 n) (λ t has. (let (e, _, lt) = where_is (λ t. not (test t)) 0 n t has in zero_at t (omega arith) (not-true (test t) e))) in
+    first_of_sum (sum_over g (numbers_where test 0 n)) (sum_over g (numbers_where (λ t. not (test t)) 0 n)) (sum_below n (λ i. g (0 + i))) both none
+    ∙ sum_below-same n (λ i. g (0 + i)) g (λ i lt. ap g (zero-add i))
 
 -- ---- the effect of a label
 
@@ -81,7 +73,8 @@ where_sum test g n zero_at =
 pub effect_is : (lts : System) (tree : List Arc) (basis : CycleBasis) (start : Ratio) (value : ℕ → Ratio) (first : ℤ) (effect : ℕ → ℤ) (scale : ℤ) (t : ℕ) (h : Ratio)
     → IsBasis lts tree basis → AreEffects lts tree basis effect → AreValuesOf lts basis start value first effect scale → t < labels lts
     → effect_fold lts basis value t (Ok h) → IsOver scale h (effect t) × (pos 0 <ℤ h.bottom)
-effect_is lts tree basis start value first effect scale t h is e v lt fold = ⊎_elim used (λ none. unused none (subst (λ b. effect_by b (is_in basis.members t)) none fold)) (cases_Bool (has_label t lts.arcs))
+effect_is lts tree basis start value first effect scale t h is e v lt fold =
+    ⊎_elim used (λ none. unused none (subst (λ b. effect_by b (is_in basis.members t)) none fold)) (cases_Bool (has_label t lts.arcs))
   where
     term : ℕ → Result Ratio Wide → Type 0
     term f = and_then (quotient ((basis.relation t).coefficient f) (basis.relation t).d) (λ k. mul (value f) k)
@@ -92,7 +85,8 @@ effect_is lts tree basis start value first effect scale t h is e v lt fold = ⊎
         (joined add term (whole (pos 0)) (free_columns lts basis))) (Ok h)
 
     unused : has_label t lts.arcs ≡ false → h ≡ whole (pos 0) → IsOver scale h (effect t) × (pos 0 <ℤ h.bottom)
-    unused none same = (subst (λ (r : Ratio). IsOver scale r (effect t)) (sym same) (close scale (effect t) (e.unused t none)), subst (λ (r : Ratio). pos 0 <ℤ r.bottom) (sym same) (omega (arith, ints)))
+    unused none same =
+        (subst (λ (r : Ratio). IsOver scale r (effect t)) (sym same) (close scale (effect t) (e.unused t none)), subst (λ (r : Ratio). pos 0 <ℤ r.bottom) (sym same) (omega (arith, ints)))
       where
         close : (s z : ℤ) → z ≡ pos 0 → pos 0 *ℤ s ≡ z *ℤ pos 1
         close s z p = omega (arith, ints)
@@ -110,29 +104,18 @@ effect_is lts tree basis start value first effect scale t h is e v lt fold = ⊎
         let (over, positive) = joined_over (scale *ℤ d) term (λ f. effect f *ℤ (basis.relation t).coefficient f) h (free_columns lts basis) sum
         (λ f k has (q, divided, product). (product_over scale (effect f) ((basis.relation t).coefficient f) d (value f) q k (v.values f has) divided product, product.2.positive)) in
         let total = where_sum (λ f. is_in basis.members f && has_label f lts.arcs) (λ f. effect f *ℤ (basis.relation t).coefficient f) (labels lts) (λ f lt' fails. none f (row.over f) fails)
-        ∙ sum_below-same (labels lts) (λ f. effect f *ℤ (basis.relation t).coefficient f) (λ f. (basis.relation t).coefficient f *ℤ effect f) (λ f lt'. swap (effect f) ((basis.relation t).coefficient f))
+        ∙ sum_below-same (labels lts) (λ f. effect f *ℤ (basis.relation t).coefficient f) (λ f. (basis.relation t).coefficient f *ℤ effect f) (λ f lt'. *ℤ_comm (effect f) ((basis.relation t).coefficient f))
         ∙ sym (e.follows t (basis.relation t) lt row) in
-        (mul-cancel (h.top *ℤ scale) (effect t *ℤ h.bottom) d (positive_differs d row.positive) (turn h.top scale d ∙ over ∙ ap (λ z. z *ℤ h.bottom) total ∙ turn' d (effect t) h.bottom), positive)
+        (mul-cancel (h.top *ℤ scale) (effect t *ℤ h.bottom) d (positive_differs d row.positive) (mul_assoc h.top scale d ∙ over ∙ ap (λ z. z *ℤ h.bottom) total ∙ mul_rotate d (effect t) h.bottom), positive)
       where
-        swap : (a b : ℤ) → a *ℤ b ≡ b *ℤ a
-        swap a b = simp ring
-
-        turn : (t s d : ℤ) → (t *ℤ s) *ℤ d ≡ t *ℤ (s *ℤ d)
-        turn t s d = simp ring
-
-        turn' : (d z u : ℤ) → (d *ℤ z) *ℤ u ≡ (z *ℤ u) *ℤ d
-        turn' d z u = simp ring
-
         times_zero : (z k : ℤ) → k ≡ pos 0 → z *ℤ k ≡ pos 0
-        times_zero z k p = ap (λ y. z *ℤ y) p ∙ zero_right z
-          where
-            zero_right : (z : ℤ) → z *ℤ pos 0 ≡ pos 0
-            zero_right z = omega (arith, ints)
+        times_zero z k p = ap (λ y. z *ℤ y) p ∙ *ℤ-zero z
 
         zero_times : (z k : ℤ) → z ≡ pos 0 → z *ℤ k ≡ pos 0
-        zero_times z k p = swap z k ∙ times_zero k z p
+        zero_times z k p = *ℤ_comm z k ∙ times_zero k z p
 
-        none : (f : ℕ) → (¬ Contains basis.members f → (basis.relation t).coefficient f ≡ pos 0) → (is_in basis.members f && has_label f lts.arcs) ≡ false → effect f *ℤ (basis.relation t).coefficient f ≡ pos 0
+        none : (f : ℕ) → (¬ Contains basis.members f → (basis.relation t).coefficient f ≡ pos 0) → (is_in basis.members f && has_label f lts.arcs) ≡ false
+            → effect f *ℤ (basis.relation t).coefficient f ≡ pos 0
         none f over fails = ⊎_elim
             (λ member. zero_times (effect f) ((basis.relation t).coefficient f) (e.unused f (⊎_elim (λ label. absurd (true≢false (sym (and_from (is_in basis.members f) (has_label f lts.arcs) member label) ∙ fails))) (λ label. label) (cases_Bool (has_label f lts.arcs)))))
             (λ outside'. times_zero (effect f) ((basis.relation t).coefficient f) (over (λ has. true≢false (sym (has_in basis.members f has) ∙ outside'))))

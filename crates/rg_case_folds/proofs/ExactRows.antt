@@ -1,5 +1,5 @@
 -- A row of the system is a positive multiple of its named row, at all Start and effects that follow the relations.
-use Rattle.std.proofs.Common.{◌≡◌, ◌≢◌, ⊎_elim, ℕ, zero, suc, max, ◌+◌, ◌<◌, ◌==◌, not, Bool, true, false, if◌then◌else◌, List, [], ◌∷◌, ◌++◌, Ok, Contains, eq-eqb, ap, ap₂, refl, subst, sym, ◌∙◌, arith}
+use Rattle.std.proofs.Common.{◌≡◌, ◌≢◌, ⊎_elim, ℕ, suc, max, ◌+◌, ◌<◌, not, Bool, true, false, if◌then◌else◌, List, [], ◌∷◌, ◌++◌, Ok, Contains, ap, ap₂, refl, subst, sym, ◌∙◌, arith, zero-add}
 use Rattle.std.specs.Prelude.{ℤ, pos, ◌+ℤ◌, ◌*ℤ◌, ◌<ℤ◌, unsigned_abs, int_div}
 use Rattle.std.proofs.lemmas.Int.{ints, unsigned_abs-mul}
 use Rattle.std.specs.Int.{◌∣◌}
@@ -11,55 +11,32 @@ use Rattle.rg_cert_meaning.specs.Expression.{Term, Expression, value_in}
 use Rattle.rg_cert_meaning.specs.declared.RowName.{RowName}
 use Rattle.rg_integers.specs.Sum.{sum_below, dot, sum_over}
 use Rattle.rg_linear.specs.Cycle.{FollowsRelations, CycleBasis}
-use Rattle.rg_integers.proofs.Ring.{ring, add-mul, mul-add}
-use Rattle.std.proofs.Math.IntN.{*ℤ_comm}
+use Rattle.rg_integers.proofs.Ring.{ring, add-mul, mul-add, mul_left_comm}
+use Rattle.std.proofs.Math.IntN.{*ℤ_comm, zero-*ℤ}
 use Rattle.rg_integers.proofs.Order.{mul-cancel, mul-cancel_left, mul_positive, positive_differs}
 use Rattle.rg_integers.proofs.Sums.{sum_below-same}
 use Rattle.rg_integers.proofs.Divisors.{exact}
 use Rattle.rg_case_folds.specs.Setting.{Setting}
 use Rattle.rg_folds.specs.Fold.{each, Ratio, whole}
 use Rattle.rg_case_folds.specs.Chords.{chord_system, IsBasis}
-use Rattle.rg_folds.specs.Substitution.{is_in, numbers_where, free_labels, dependent_labels, coefficient_fold}
+use Rattle.rg_folds.specs.Substitution.{is_in, free_labels, dependent_labels, coefficient_fold}
 use Rattle.rg_case_folds.specs.Rewriting.{has_label, start_of, count_of, has_start, pick, Scaled, scaled_fold, terms_fold, KeptRow, row_fold}
 use Rattle.rg_case_folds.specs.Values.{NamesLabels, numbers_along, picked, column_values, UnusedAreZero}
+use Rattle.rg_case_folds.proofs.Lists.{where_is, not_in}
 use Rattle.rg_case_folds.proofs.RowValues.{IsOver, coefficient_over, whole_over, rewritten}
 use Rattle.rg_folds.proofs.Sums.{both_sums}
 use Rattle.rg_case_folds.proofs.Scaling.{Divides, AllOver, scaled_dot, whole_product_is}
 use Rattle.rg_integers.proofs.Dots.{dot-times}
+use Rattle.std.proofs.lemmas.Bool.{not-true}
+use Rattle.rg_case_folds.proofs.Products.{mul_second_out, first_of_sum}
 use Rattle.rg_integers.proofs.ListSums.{sum_over-same, sum_over-plus, sum_over-times, sum_over-zero, sum_over-swap}
 
 -- ---- lists of labels
 
-pub not_in : (xs : List ℕ) (m : ℕ) → is_in xs m ≡ false → Contains xs m → ⊥
-not_in [] m e (k, lt, at) = omega arith
-not_in (x ∷ xs) m e has = ⊎_elim (λ is. absurd (true≢false (sym (ap (λ b. if b then true else is_in xs m) (eq-eqb x m is)) ∙ e))) (λ there. not_in xs m (rest (x == m) e) there) (Contains-cons_cases x m xs has)
-  where
-    true≢false : true ≡ false → ⊥
-    true≢false p = cc
-
-    rest : (b : Bool) → (if b then true else is_in xs m) ≡ false → is_in xs m ≡ false
-    rest true p = absurd (true≢false p)
-    rest false p = p
-
-pub where_contains : (test : ℕ → Bool) (a n t : ℕ) → Contains (numbers_where test a n) t → (test t ≡ true) × (t < a + n)
-where_contains test a zero t (k, lt, e) = absurd (omega arith)
-where_contains test a (suc n) t has = go (test a) refl has (λ h. where_contains test (suc a) n t h)
-  where
-    later : (test t ≡ true) × (t < suc a + n) → (test t ≡ true) × (t < a + suc n)
-    later (e, lt) = (e, omega arith)
-
-    go : (b : Bool) → test a ≡ b → Contains (if b then (a ∷ numbers_where test (suc a) n) else numbers_where test (suc a) n) t → (Contains (numbers_where test (suc a) n) t → (test t ≡ true) × (t < suc a + n)) → (test t ≡ true) × (t < a + suc n)
-    go true e h next = ⊎_elim (λ is. (subst (λ x. test x ≡ true) is e, omega arith)) (λ there. later (next there)) (Contains-cons_cases a t (numbers_where test (suc a) n) h)
-    go false e h next = later (next h)
-
 dependent : (lts : System) (basis : CycleBasis) (t : ℕ) → Contains (dependent_labels (labels lts) basis) t → (t < labels lts) × ¬ Contains basis.members t
 dependent lts basis t has =
-    let h = where_contains (λ u. not (is_in basis.members u)) 0 (labels lts) t has in
-    (omega arith, not_in basis.members t (is_false (is_in basis.members t) h.0))
-  where
-    is_false : (b : Bool) → not b ≡ true → b ≡ false
-    is_false true p = cc
-    is_false false p = refl
+    let (e, _, lt) = where_is (λ u. not (is_in basis.members u)) 0 (labels lts) t has in
+    (omega arith, not_in basis.members t (not-true (is_in basis.members t) e))
 
 -- ---- one bottom for all relations
 
@@ -77,10 +54,7 @@ common_bottom d (t ∷ ts) each_positive =
     )
   where
     more : (c k b : ℤ) → Divides k b → Divides k (c *ℤ b)
-    more c k b (q, e) = (c *ℤ q, ap (λ z. c *ℤ z) e ∙ turn c k q)
-      where
-        turn : (c k q : ℤ) → c *ℤ (k *ℤ q) ≡ k *ℤ (c *ℤ q)
-        turn c k q = simp ring
+    more c k b (q, e) = (c *ℤ q, ap (λ z. c *ℤ z) e ∙ mul_left_comm c k q)
 
 -- the other factor
 part_exact : (d b : ℤ) → Divides d b → b ≡ d *ℤ int_div b d
@@ -92,9 +66,11 @@ picked_over : (lts : System) (basis : CycleBasis) (counts : ℕ → ℤ) (b : �
     → ((f : ℕ) (h : Ratio) → coefficient_fold (labels lts) basis counts f (Ok h) → IsOver b h (x f)) → each (coefficient_fold (labels lts) basis counts) fs (Ok rs)
     → AllOver b (pick test fs rs) (picked test fs x)
 picked_over lts basis counts b x test [] rs over e = tt
-picked_over lts basis counts b x test (f ∷ fs) rs over (h, is, (rest, each_is, e)) = subst (λ (l : List Ratio). AllOver b (pick test (f ∷ fs) l) (picked test (f ∷ fs) x)) (sym e) (go (test f) (over f h is) (picked_over lts basis counts b x test fs rest over each_is))
+picked_over lts basis counts b x test (f ∷ fs) rs over (h, is, (rest, each_is, e)) =
+    subst (λ (l : List Ratio). AllOver b (pick test (f ∷ fs) l) (picked test (f ∷ fs) x)) (sym e) (go (test f) (over f h is) (picked_over lts basis counts b x test fs rest over each_is))
   where
-    go : (t : Bool) → IsOver b h (x f) → AllOver b (pick test fs rest) (picked test fs x) → AllOver b (if t then (h ∷ pick test fs rest) else pick test fs rest) (if t then (x f ∷ picked test fs x) else picked test fs x)
+    go : (t : Bool) → IsOver b h (x f) → AllOver b (pick test fs rest) (picked test fs x)
+        → AllOver b (if t then (h ∷ pick test fs rest) else pick test fs rest) (if t then (x f ∷ picked test fs x) else picked test fs x)
     go true p q = (p, q)
     go false p q = q
 
@@ -114,30 +90,36 @@ dot_picked test x effect (f ∷ fs) unused = go (test f) refl (dot_picked test x
             zero_times : (x s : ℤ) → s ≡ (x *ℤ pos 0) +ℤ s
             zero_times x s = omega (arith, ints)
 
+-- what the relations of the dependent labels add to the coefficient of a free label
+abbrev pub share : System → CycleBasis → (ℕ → ℤ) → (ℕ → ℤ) → ℕ → ℤ
+share lts basis counts part f = sum_over (λ t. counts t *ℤ ((basis.relation t).coefficient f *ℤ part t)) (dependent_labels (labels lts) basis)
+
 -- what the free labels' coefficients are worth together
 free_sum : (lts : System) (tree : List Arc) (basis : CycleBasis) (counts effect part : ℕ → ℤ) (b : ℤ) → IsBasis lts tree basis
     → FollowsRelations (chord_system lts tree basis.kept) basis.members effect
     → ((t : ℕ) → Contains (dependent_labels (labels lts) basis) t → b ≡ (basis.relation t).d *ℤ part t)
-    → sum_over (λ f. ((counts f *ℤ b) +ℤ sum_over (λ t. counts t *ℤ ((basis.relation t).coefficient f *ℤ part t)) (dependent_labels (labels lts) basis)) *ℤ effect f) (free_labels (labels lts) basis) ≡ b *ℤ sum_below (labels lts) (λ t. counts t *ℤ effect t)
+    → sum_over (λ f. ((counts f *ℤ b) +ℤ share lts basis counts part f) *ℤ effect f) (free_labels (labels lts) basis) ≡ b *ℤ sum_below (labels lts) (λ t. counts t *ℤ effect t)
 free_sum lts tree basis counts effect part b is follows divides =
-    let fs = free_labels (labels lts) basis in
-    let ts = dependent_labels (labels lts) basis in
-    sum_over-same (λ f. ((counts f *ℤ b) +ℤ sum_over (λ t. counts t *ℤ ((basis.relation t).coefficient f *ℤ part t)) (dependent_labels (labels lts) basis)) *ℤ effect f)
+    sum_over-same (λ f. ((counts f *ℤ b) +ℤ share lts basis counts part f) *ℤ effect f)
     (λ f. (b *ℤ (counts f *ℤ effect f)) +ℤ sum_over (λ t. (counts t *ℤ part t) *ℤ ((basis.relation t).coefficient f *ℤ effect f))
-    (dependent_labels (labels lts) basis)) (free_labels (labels lts) basis) (λ f has. one_label f)
-    ∙ sum_over-plus (λ f. b *ℤ (counts f *ℤ effect f)) (λ f. sum_over (λ t. (counts t *ℤ part t) *ℤ ((basis.relation t).coefficient f *ℤ effect f)) (dependent_labels (labels lts) basis)) (free_labels (labels lts) basis)
-    ∙ ap₂ ◌+ℤ◌ (sum_over-times b (λ f. counts f *ℤ effect f) (free_labels (labels lts) basis))
-    (sum_over-swap (λ f t. (counts t *ℤ part t) *ℤ ((basis.relation t).coefficient f *ℤ effect f)) (free_labels (labels lts) basis)
-    (dependent_labels (labels lts) basis) ∙ sum_over-same
-    (λ t. sum_over (λ f. (counts t *ℤ part t) *ℤ ((basis.relation t).coefficient f *ℤ effect f)) (free_labels (labels lts) basis)) (λ t. b *ℤ (counts t *ℤ effect t))
-    (dependent_labels (labels lts) basis) one_relation ∙ sum_over-times b (λ t. counts t *ℤ effect t) (dependent_labels (labels lts) basis))
-    ∙ sym (mul-add b (sum_over (λ f. counts f *ℤ effect f) (free_labels (labels lts) basis)) (sum_over (λ t. counts t *ℤ effect t) (dependent_labels (labels lts) basis)))
-    ∙ ap (λ z. b *ℤ z) (both_sums (λ t. is_in basis.members t) (λ t. counts t *ℤ effect t) 0 (labels lts) ∙ sum_below-same (labels lts) (λ i. counts (0 + i) *ℤ effect (0 + i)) (λ i. counts i *ℤ effect i) (λ i lt. ap (λ k. counts k *ℤ effect k) (none i)))
+    dependents) free (λ f has. one_label f)
+    ∙ sum_over-plus (λ f. b *ℤ (counts f *ℤ effect f)) (λ f. sum_over (λ t. (counts t *ℤ part t) *ℤ ((basis.relation t).coefficient f *ℤ effect f)) dependents) free
+    ∙ ap₂ ◌+ℤ◌ (sum_over-times b (λ f. counts f *ℤ effect f) free)
+    (sum_over-swap (λ f t. (counts t *ℤ part t) *ℤ ((basis.relation t).coefficient f *ℤ effect f)) free
+    dependents ∙ sum_over-same
+    (λ t. sum_over (λ f. (counts t *ℤ part t) *ℤ ((basis.relation t).coefficient f *ℤ effect f)) free) (λ t. b *ℤ (counts t *ℤ effect t))
+    dependents one_relation ∙ sum_over-times b (λ t. counts t *ℤ effect t) dependents)
+    ∙ sym (mul-add b (sum_over (λ f. counts f *ℤ effect f) free) (sum_over (λ t. counts t *ℤ effect t) dependents))
+    ∙ ap (λ z. b *ℤ z) (both_sums (λ t. is_in basis.members t) (λ t. counts t *ℤ effect t) 0 (labels lts) ∙ sum_below-same (labels lts) (λ i. counts (0 + i) *ℤ effect (0 + i)) (λ i. counts i *ℤ effect i) (λ i lt. ap (λ k. counts k *ℤ effect k) (zero-add i)))
   where
-    none : (i : ℕ) → 0 + i ≡ i
-    none i = omega arith
+    free : List ℕ
+    free = free_labels (labels lts) basis
 
-    inner : (f : ℕ) (ts : List ℕ) → sum_over (λ t. counts t *ℤ ((basis.relation t).coefficient f *ℤ part t)) ts *ℤ effect f ≡ sum_over (λ t. (counts t *ℤ part t) *ℤ ((basis.relation t).coefficient f *ℤ effect f)) ts
+    dependents : List ℕ
+    dependents = dependent_labels (labels lts) basis
+
+    inner : (f : ℕ) (ts : List ℕ)
+        → sum_over (λ t. counts t *ℤ ((basis.relation t).coefficient f *ℤ part t)) ts *ℤ effect f ≡ sum_over (λ t. (counts t *ℤ part t) *ℤ ((basis.relation t).coefficient f *ℤ effect f)) ts
     inner f ts =
         *ℤ_comm (sum_over (λ t. counts t *ℤ ((basis.relation t).coefficient f *ℤ part t)) ts) (effect f)
         ∙ sym (sum_over-times (effect f) (λ t. counts t *ℤ ((basis.relation t).coefficient f *ℤ part t)) ts)
@@ -146,37 +128,28 @@ free_sum lts tree basis counts effect part b is follows divides =
         turn : (e c k p : ℤ) → e *ℤ (c *ℤ (k *ℤ p)) ≡ (c *ℤ p) *ℤ (k *ℤ e)
         turn e c k p = simp ring
 
-    one_label : (f : ℕ) → ((counts f *ℤ b) +ℤ sum_over (λ t. counts t *ℤ ((basis.relation t).coefficient f *ℤ part t)) (dependent_labels (labels lts) basis)) *ℤ effect f
-        ≡ (b *ℤ (counts f *ℤ effect f)) +ℤ sum_over (λ t. (counts t *ℤ part t) *ℤ ((basis.relation t).coefficient f *ℤ effect f)) (dependent_labels (labels lts) basis)
-    one_label f = add-mul (counts f *ℤ b) (sum_over (λ t. counts t *ℤ ((basis.relation t).coefficient f *ℤ part t)) (dependent_labels (labels lts) basis)) (effect f) ∙ ap₂ ◌+ℤ◌ (turn (counts f) b (effect f)) (inner f (dependent_labels (labels lts) basis))
-      where
-        turn : (c b e : ℤ) → (c *ℤ b) *ℤ e ≡ b *ℤ (c *ℤ e)
-        turn c b e = simp ring
+    one_label : (f : ℕ) → ((counts f *ℤ b) +ℤ share lts basis counts part f) *ℤ effect f
+        ≡ (b *ℤ (counts f *ℤ effect f)) +ℤ sum_over (λ t. (counts t *ℤ part t) *ℤ ((basis.relation t).coefficient f *ℤ effect f)) dependents
+    one_label f = add-mul (counts f *ℤ b) (share lts basis counts part f) (effect f) ∙ ap₂ ◌+ℤ◌ (mul_second_out (counts f) b (effect f)) (inner f dependents)
 
     -- the relation of t, over the free labels
-    relation_sum : (t : ℕ) → Contains (dependent_labels (labels lts) basis) t → sum_over (λ f. (basis.relation t).coefficient f *ℤ effect f) (free_labels (labels lts) basis) ≡ (basis.relation t).d *ℤ effect t
+    relation_sum : (t : ℕ) → Contains dependents t → sum_over (λ f. (basis.relation t).coefficient f *ℤ effect f) free ≡ (basis.relation t).d *ℤ effect t
     relation_sum t has =
         let (lt, lacks) = dependent lts basis t has in
         let row = is.relations t lt lacks in
         let all = both_sums (λ u. is_in basis.members u) (λ f. (basis.relation t).coefficient f *ℤ effect f) 0 (labels lts)
         ∙ sum_below-same (labels lts) (λ i. (basis.relation t).coefficient (0 + i) *ℤ effect (0 + i)) (λ i. (basis.relation t).coefficient i *ℤ effect i)
-        (λ i lt'. ap (λ k. (basis.relation t).coefficient k *ℤ effect k) (none i)) in
-        let others : sum_over (λ f. (basis.relation t).coefficient f *ℤ effect f) (dependent_labels (labels lts) basis) ≡ pos 0 = sum_over-zero
-        (λ f. (basis.relation t).coefficient f *ℤ effect f) (dependent_labels (labels lts) basis)
-        (λ u has'. ap (λ z. z *ℤ effect u) (row.over u (dependent lts basis u has').1) ∙ zero_times (effect u)) in
-        close (sum_over (λ f. (basis.relation t).coefficient f *ℤ effect f) (free_labels (labels lts) basis))
-        (sum_over (λ f. (basis.relation t).coefficient f *ℤ effect f) (dependent_labels (labels lts) basis))
+        (λ i lt'. ap (λ k. (basis.relation t).coefficient k *ℤ effect k) (zero-add i)) in
+        let others : sum_over (λ f. (basis.relation t).coefficient f *ℤ effect f) dependents ≡ pos 0 = sum_over-zero
+        (λ f. (basis.relation t).coefficient f *ℤ effect f) dependents
+        (λ u has'. ap (λ z. z *ℤ effect u) (row.over u (dependent lts basis u has').1) ∙ zero-*ℤ (effect u)) in
+        first_of_sum (sum_over (λ f. (basis.relation t).coefficient f *ℤ effect f) free)
+        (sum_over (λ f. (basis.relation t).coefficient f *ℤ effect f) dependents)
         (sum_below (labels lts) (λ i. (basis.relation t).coefficient i *ℤ effect i)) all others ∙ sym (follows t (basis.relation t) lt row)
-      where
-        zero_times : (z : ℤ) → pos 0 *ℤ z ≡ pos 0
-        zero_times z = omega (arith, ints)
 
-        close : (x y s : ℤ) → x +ℤ y ≡ s → y ≡ pos 0 → x ≡ s
-        close x y s p q = omega (arith, ints)
-
-    one_relation : (t : ℕ) → Contains (dependent_labels (labels lts) basis) t → sum_over (λ f. (counts t *ℤ part t) *ℤ ((basis.relation t).coefficient f *ℤ effect f)) (free_labels (labels lts) basis) ≡ b *ℤ (counts t *ℤ effect t)
+    one_relation : (t : ℕ) → Contains dependents t → sum_over (λ f. (counts t *ℤ part t) *ℤ ((basis.relation t).coefficient f *ℤ effect f)) free ≡ b *ℤ (counts t *ℤ effect t)
     one_relation t has =
-        sum_over-times (counts t *ℤ part t) (λ f. (basis.relation t).coefficient f *ℤ effect f) (free_labels (labels lts) basis)
+        sum_over-times (counts t *ℤ part t) (λ f. (basis.relation t).coefficient f *ℤ effect f) free
         ∙ ap (λ z. (counts t *ℤ part t) *ℤ z) (relation_sum t has)
         ∙ turn (counts t) (part t) (basis.relation t).d (effect t)
         ∙ ap (λ z. z *ℤ (counts t *ℤ effect t)) (sym (divides t has))
@@ -243,13 +216,10 @@ row_value_is it name e start effect scale out is names no_start follows unused (
   where
     close : (g m t u r k v c s : ℤ) → g ≢ pos 0 → g *ℤ r ≡ m *ℤ v → g *ℤ k ≡ c *ℤ m → t *ℤ g ≡ m *ℤ u → u *ℤ (r +ℤ (k *ℤ s)) ≡ t *ℤ (v +ℤ (c *ℤ s))
     close g m t u r k v c s ne p q f = mul-cancel_left g (u *ℤ (r +ℤ (k *ℤ s))) (t *ℤ (v +ℤ (c *ℤ s))) ne
-        (left g u r k s ∙ ap₂ (λ a b. u *ℤ (a +ℤ (b *ℤ s))) p q ∙ mid u m v c s ∙ ap (λ z. z *ℤ (v +ℤ (c *ℤ s))) (sym f) ∙ right t g (v +ℤ (c *ℤ s)))
+        (left g u r k s ∙ ap₂ (λ a b. u *ℤ (a +ℤ (b *ℤ s))) p q ∙ mid u m v c s ∙ ap (λ z. z *ℤ (v +ℤ (c *ℤ s))) (sym f) ∙ mul_second_out t g (v +ℤ (c *ℤ s)))
       where
         left : (g u r k s : ℤ) → g *ℤ (u *ℤ (r +ℤ (k *ℤ s))) ≡ u *ℤ ((g *ℤ r) +ℤ ((g *ℤ k) *ℤ s))
         left g u r k s = simp ring
 
         mid : (u m v c s : ℤ) → u *ℤ ((m *ℤ v) +ℤ ((c *ℤ m) *ℤ s)) ≡ (m *ℤ u) *ℤ (v +ℤ (c *ℤ s))
         mid u m v c s = simp ring
-
-        right : (t g w : ℤ) → (t *ℤ g) *ℤ w ≡ g *ℤ (t *ℤ w)
-        right t g w = simp ring

@@ -6,7 +6,7 @@ use Rattle.std.proofs.lemmas.Bool.{true≢false, cases_Bool}
 use Rattle.rg_theory.specs.declared.Problem.{Problem}
 use Rattle.rg_theory.specs.declared.Problem.TheVariants.{Event, States}
 use Rattle.rg_theory.specs.System.{states, labels}
-use Rattle.rg_integers.proofs.Ring.{ring}
+use Rattle.rg_integers.proofs.Ring.{ring, one-mul}
 use Rattle.rg_integers.proofs.Order.{mul_positive, mul_not_negative, factor_not_negative}
 use Rattle.rg_linear.specs.System.{IsPoint, MeetsRows}
 use Rattle.rg_linear.specs.Branching.{Form, form_at, scaled_value, AreBounded}
@@ -28,7 +28,14 @@ use Rattle.rg_case_folds.proofs.StartBounds.{start_bounded}
 use Rattle.rg_cert_meaning.specs.Refutes.{IsSeparationProblem}
 use Rattle.rg_cert_meaning.specs.declared.RowName.TheVariants as row_name
 use Rattle.rg_cert_meaning.specs.declared.Form.TheVariants as split_form
+use Rattle.rg_case_folds.proofs.Products.{weak}
 use Rattle.rg_cert_meaning.specs.declared.Variable.TheVariants.{Tokens, Effect}
+
+most_of_times : (k a b : ℤ) → pos 0 <ℤ k → (k *ℤ a) ≤ℤ (k *ℤ b) → a ≤ℤ b
+most_of_times k a b h g = by_lt_z b a (λ less. (let m = positive_times_less k b a h less in absurd (omega (arith, ints)))) (λ most. most)
+
+turn : (f a t s : ℤ) → f *ℤ (a *ℤ (t *ℤ s)) ≡ t *ℤ (a *ℤ (f *ℤ s))
+turn f a t s = simp ring
 
 -- the bounds of a variable are those of its form
 bounds_of : (t s f z v low high : ℤ) → pos 0 <ℤ t → pos 0 <ℤ f → f *ℤ z ≡ t *ℤ v → (low *ℤ (t *ℤ s)) ≤ℤ z → z ≤ℤ (high *ℤ (t *ℤ s)) → ((low *ℤ (f *ℤ s)) ≤ℤ v) × (v ≤ℤ (high *ℤ (f *ℤ s)))
@@ -37,27 +44,19 @@ bounds_of t s f z v low high ht hf e below above = (
   most_of_times t _ _ ht (carry _ _ _ _ (positive_times_most f _ _ hf above) e (turn f high t s)),
 )
   where
-    most_of_times : (k a b : ℤ) → pos 0 <ℤ k → (k *ℤ a) ≤ℤ (k *ℤ b) → a ≤ℤ b
-    most_of_times k a b h g = by_lt_z b a (λ less. (let m = positive_times_less k b a h less in absurd (omega (arith, ints)))) (λ most. most)
-
     carry : (a b a' b' : ℤ) → a ≤ℤ b → a ≡ a' → b ≡ b' → a' ≤ℤ b'
     carry a b a' b' h e g = omega (arith, ints)
 
-    turn : (f a t s : ℤ) → f *ℤ (a *ℤ (t *ℤ s)) ≡ t *ℤ (a *ℤ (f *ℤ s))
-    turn f a t s = simp ring
-
 -- by steps, where the least is 0
-start_bounds : (n : ℕ) (t s f z v high : ℤ) → 0 < n → pos 0 <ℤ t → pos 0 <ℤ f → f *ℤ z ≡ pos n *ℤ (t *ℤ v) → (pos 0 *ℤ (t *ℤ s)) ≤ℤ z → z ≤ℤ (high *ℤ (t *ℤ s)) → ((pos 0 *ℤ (f *ℤ s)) ≤ℤ v) × (v ≤ℤ (high *ℤ (f *ℤ s)))
-start_bounds n t s f z v high some ht hf e below above = (from_zero (f *ℤ s) v low, subst (λ w. w ≤ℤ (high *ℤ (f *ℤ s))) refl (of_times t v (high *ℤ (f *ℤ s)) ht most))
+start_bounds : (n : ℕ) (t s f z v high : ℤ) → 0 < n → pos 0 <ℤ t → pos 0 <ℤ f → f *ℤ z ≡ pos n *ℤ (t *ℤ v) → (pos 0 *ℤ (t *ℤ s)) ≤ℤ z → z ≤ℤ (high *ℤ (t *ℤ s))
+    → ((pos 0 *ℤ (f *ℤ s)) ≤ℤ v) × (v ≤ℤ (high *ℤ (f *ℤ s)))
+start_bounds n t s f z v high some ht hf e below above = (from_zero (f *ℤ s) v low, subst (λ w. w ≤ℤ (high *ℤ (f *ℤ s))) refl (most_of_times t v (high *ℤ (f *ℤ s)) ht most))
   where
     from_zero : (a v : ℤ) → pos 0 ≤ℤ v → (pos 0 *ℤ a) ≤ℤ v
     from_zero a v h = omega (arith, ints)
 
     to_zero : (a z : ℤ) → (pos 0 *ℤ a) ≤ℤ z → pos 0 ≤ℤ z
     to_zero a z h = omega (arith, ints)
-
-    weak : (z : ℤ) → pos 0 <ℤ z → pos 0 ≤ℤ z
-    weak z h = omega (arith, ints)
 
     positive : (n : ℕ) → 0 < n → pos 0 <ℤ pos n
     positive n h = omega (arith, ints)
@@ -77,17 +76,11 @@ start_bounds n t s f z v high some ht hf e below above = (from_zero (f *ℤ s) v
         less : (n : ℕ) → 0 < n → pos 0 ≤ℤ (pos n -ℤ pos 1)
         less n h = omega (arith, ints)
 
-    turn : (f a t s : ℤ) → f *ℤ (a *ℤ (t *ℤ s)) ≡ t *ℤ (a *ℤ (f *ℤ s))
-    turn f a t s = simp ring
-
     chain : (a b c d : ℤ) → a ≤ℤ b → b ≡ c → c ≤ℤ d → a ≤ℤ d
     chain a b c d h g k = omega (arith, ints)
 
     most : (t *ℤ v) ≤ℤ (t *ℤ (high *ℤ (f *ℤ s)))
     most = subst (λ w. (t *ℤ v) ≤ℤ w) (turn f high t s) (chain (t *ℤ v) (pos n *ℤ (t *ℤ v)) (f *ℤ z) (f *ℤ (high *ℤ (t *ℤ s))) (more n (t *ℤ v) some one_time) (sym e) (positive_times_most f z (high *ℤ (t *ℤ s)) hf above))
-
-    of_times : (k a b : ℤ) → pos 0 <ℤ k → (k *ℤ a) ≤ℤ (k *ℤ b) → a ≤ℤ b
-    of_times k a b h g = by_lt_z b a (λ less. (let m = positive_times_less k b a h less in absurd (omega (arith, ints)))) (λ most. most)
 
 module _ (it : CaseSetting) (case : CaseSystem) (c : IsCaseOver it case) where
   -- the rows bound a variable that has a form
@@ -117,7 +110,8 @@ module _ (it : CaseSetting) (case : CaseSystem) (c : IsCaseOver it case) where
       by_high (Event s t) kept q bound lt = tokens_high (x (Tokens q)) (pos (unwrap_or it.class.bound 0)) (kept (row_name.Cap q) (lt, bound))
       by_high (States s s') kept q bound lt = tokens_high (x (Tokens q)) (pos (unwrap_or it.class.bound 0)) (kept (row_name.Cap q) (lt, bound))
 
-      by_effect : (p : Problem) → KeepsRowsOver it.lts it.class p it.number k x → (t : ℕ) → it.class.plain ≡ true → t < labels it.lts → ((negsuc 0 *ℤ k) ≤ℤ x (Effect t)) × (x (Effect t) ≤ℤ (pos 1 *ℤ k))
+      by_effect : (p : Problem) → KeepsRowsOver it.lts it.class p it.number k x → (t : ℕ) → it.class.plain ≡ true → t < labels it.lts
+          → ((negsuc 0 *ℤ k) ≤ℤ x (Effect t)) × (x (Effect t) ≤ℤ (pos 1 *ℤ k))
       by_effect (Event s u) kept t plain lt = effect_both (x (Effect t)) (kept (row_name.Up t) (lt, plain)) (kept (row_name.Down t) (lt, plain))
       by_effect (States s s') kept t plain lt = effect_both (x (Effect t)) (kept (row_name.Up t) (lt, plain)) (kept (row_name.Down t) (lt, plain))
 
@@ -139,7 +133,8 @@ module _ (it : CaseSetting) (case : CaseSystem) (c : IsCaseOver it case) where
       from_first : (z s b : ℤ) → z ≡ s → s ≤ℤ (b *ℤ k) → z ≤ℤ (b *ℤ k)
       from_first z s b e h = omega (arith, ints)
 
-      by_event : (p : Problem) → IsSeparationProblem it.lts p → KeepsRowsOver it.lts it.class p it.number k x → it.class.plain ≡ true → (s t : ℕ) → p ≡ Event s t → x (Tokens it.lts.initial) ≤ℤ (pos (states it.lts) *ℤ k)
+      by_event : (p : Problem) → IsSeparationProblem it.lts p → KeepsRowsOver it.lts it.class p it.number k x → it.class.plain ≡ true → (s t : ℕ) → p ≡ Event s t
+          → x (Tokens it.lts.initial) ≤ℤ (pos (states it.lts) *ℤ k)
       by_event (Event s t) asked kept plain s' t' same = from_first (x (Tokens it.lts.initial)) start (pos (states it.lts)) (number_at_first it.lts it.tree start effect c.is_tree)
           (start_bounded it.lts it.tree it.class s t it.number k start effect c.in_range c.is_tree (c.reachable.each s asked.0) asked.1 plain scale kept)
       by_event (States s s') asked kept plain s'' t' same = absurd (is_event (States s s') (Event s'' t') same tt)
@@ -154,27 +149,26 @@ module _ (it : CaseSetting) (case : CaseSystem) (c : IsCaseOver it case) where
       start_high : splits_start it.class it.problem ≡ true → x (Tokens it.lts.initial) ≤ℤ (pos (unwrap_or it.class.bound (states it.lts)) *ℤ k)
       start_high splits = by_cases (cases_Bool (is_some it.class.bound)) (start_split it.class it.problem splits).1
         where
-          by_cases : (is_some it.class.bound ≡ true) ⊎ (is_some it.class.bound ≡ false) → (is_some it.class.bound ≡ true) ⊎ ((it.class.plain ≡ true) × ((s : ℕ) × (t : ℕ) × (it.problem ≡ Event s t))) → x (Tokens it.lts.initial) ≤ℤ (pos (unwrap_or it.class.bound (states it.lts)) *ℤ k)
+          by_cases : (is_some it.class.bound ≡ true) ⊎ (is_some it.class.bound ≡ false)
+              → (is_some it.class.bound ≡ true) ⊎ ((it.class.plain ≡ true) × ((s : ℕ) × (t : ℕ) × (it.problem ≡ Event s t)))
+              → x (Tokens it.lts.initial) ≤ℤ (pos (unwrap_or it.class.bound (states it.lts)) *ℤ k)
           by_cases (inl bound) _ = subst (λ b. x (Tokens it.lts.initial) ≤ℤ (b *ℤ k)) (of_bound bound) (by_high it.problem keeps it.lts.initial bound c.in_range.initial)
           by_cases (inr none) (inl bound) = absurd (true≢false (sym bound ∙ none))
           by_cases (inr none) (inr (plain, (s, t, same))) = subst (λ b. x (Tokens it.lts.initial) ≤ℤ (b *ℤ k)) (of_none none) (by_event it.problem c.asked keeps plain s t same)
 
-      by : (split : SplitForm) → IsSplitOf it.lts it.class it.problem split → ((form_low split *ℤ k) ≤ℤ x (form_variable it.lts.initial split)) × (x (form_variable it.lts.initial split) ≤ℤ (form_high it.lts it.class split *ℤ k))
+      by : (split : SplitForm) → IsSplitOf it.lts it.class it.problem split
+          → ((form_low split *ℤ k) ≤ℤ x (form_variable it.lts.initial split)) × (x (form_variable it.lts.initial split) ≤ℤ (form_high it.lts it.class split *ℤ k))
       by (split_form.Tokens q) (bound, lt) = (by_low it.problem keeps q, by_high it.problem keeps q bound lt)
       by (split_form.Effect t) (bound, plain, used, lt) = by_effect it.problem keeps t plain lt
       by split_form.Start splits = (by_low it.problem keeps it.lts.initial, start_high splits)
 
   -- the bounds of the variable are those of its form, by steps of any number where the least is 0
-  form_bounds : (split : SplitForm) (t s f z v high : ℤ) → pos 0 <ℤ t → pos 0 <ℤ f → f *ℤ z ≡ pos (step_of it.class split) *ℤ (t *ℤ v) → (form_low split *ℤ (t *ℤ s)) ≤ℤ z → z ≤ℤ (high *ℤ (t *ℤ s)) → ((form_low split *ℤ (f *ℤ s)) ≤ℤ v) × (v ≤ℤ (high *ℤ (f *ℤ s)))
-  form_bounds (split_form.Tokens q) t s f z v high ht hf e below above = bounds_of t s f z v (pos 0) high ht hf (e ∙ one (t *ℤ v)) below above
-    where
-      one : (z : ℤ) → pos 1 *ℤ z ≡ z
-      one z = omega (arith, ints)
-  form_bounds (split_form.Effect u) t s f z v high ht hf e below above = bounds_of t s f z v (negsuc 0) high ht hf (e ∙ one (t *ℤ v)) below above
-    where
-      one : (z : ℤ) → pos 1 *ℤ z ≡ z
-      one z = omega (arith, ints)
-  form_bounds split_form.Start t s f z v high ht hf e below above = start_bounds (step_of it.class split_form.Start) t s f z v high (step_positive it.class split_form.Start c.numbers) ht hf e below above
+  form_bounds : (split : SplitForm) (t s f z v high : ℤ) → pos 0 <ℤ t → pos 0 <ℤ f → f *ℤ z ≡ pos (step_of it.class split) *ℤ (t *ℤ v) → (form_low split *ℤ (t *ℤ s)) ≤ℤ z
+      → z ≤ℤ (high *ℤ (t *ℤ s)) → ((form_low split *ℤ (f *ℤ s)) ≤ℤ v) × (v ≤ℤ (high *ℤ (f *ℤ s)))
+  form_bounds (split_form.Tokens q) t s f z v high ht hf e below above = bounds_of t s f z v (pos 0) high ht hf (e ∙ one-mul (t *ℤ v)) below above
+  form_bounds (split_form.Effect u) t s f z v high ht hf e below above = bounds_of t s f z v (negsuc 0) high ht hf (e ∙ one-mul (t *ℤ v)) below above
+  form_bounds split_form.Start t s f z v high ht hf e below above =
+      start_bounds (step_of it.class split_form.Start) t s f z v high (step_positive it.class split_form.Start c.numbers) ht hf e below above
 
   pub forms_bounded : AreBounded (rows_of case) case.forms
   forms_bounded = record {
@@ -203,9 +197,6 @@ module _ (it : CaseSetting) (case : CaseSystem) (c : IsCaseOver it case) where
           subst (λ (e : ℤ). ((e *ℤ (form.scale *ℤ scale)) ≤ℤ scaled_value (rows_of case) form x) × (scaled_value (rows_of case) form x ≤ℤ (form.high *ℤ (form.scale *ℤ scale)))) (low_is split form made)
           (subst (λ (e : ℤ). ((form_low split *ℤ (form.scale *ℤ scale)) ≤ℤ scaled_value (rows_of case) form x) × (scaled_value (rows_of case) form x ≤ℤ (e *ℤ (form.scale *ℤ scale)))) (high_is split form made) both)
         where
-          weak : (z : ℤ) → pos 0 <ℤ z → pos 0 ≤ℤ z
-          weak z h = omega (arith, ints)
-
           low_is : (split : SplitForm) (form : Form) → form_fold it.setting split (Ok form) → form_low split ≡ form.low
           low_is split form (scaled, fold, e) = ap (λ (f : Form). f.low) (sym e)
 

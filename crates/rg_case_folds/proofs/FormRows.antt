@@ -1,7 +1,7 @@
 -- Each form of a case is a multiple of the row that stays for the tokens of its state or for `down` of its label.
 use Rattle.std.proofs.Common.{◌≡◌, ◌⊎◌, ⊎_elim, ℕ, zero, suc, max, ◌<◌, ◌≤◌, is_some, unwrap_or, Option, Some, None, IfSome, true, List, [], ◌∷◌, map, length, Ok, Contains, All, inl, inr, refl, sym, ap, subst, ◌∙◌, arith}
 use Rattle.std.specs.Prelude.{ℤ, pos, negsuc, ◌*ℤ◌, int_div, slice_index_or}
-use Rattle.std.proofs.Math.IntN.{*ℤ-zero}
+use Rattle.std.proofs.Math.IntN.{*ℤ-zero, zero-*ℤ, *ℤ_comm}
 use Rattle.std.proofs.lemmas.Int.{ints}
 use Rattle.std.proofs.lemmas.Bool.{true≢false}
 use Rattle.std.proofs.lemmas.List.{get_or_default, length-map}
@@ -12,7 +12,7 @@ use Rattle.rg_theory.specs.declared.Problem.TheVariants.{Event, States}
 use Rattle.rg_theory.specs.Limits.{most_states}
 use Rattle.rg_theory.specs.System.{System, IsInRange, states, labels}
 use Rattle.rg_theory.specs.Tree.{IsTree}
-use Rattle.rg_integers.proofs.Ring.{ring}
+use Rattle.rg_integers.proofs.Ring.{mul-one}
 use Rattle.rg_integers.specs.Range.{InRange}
 use Rattle.rg_integers.specs.Divisor.{int_gcd}
 use Rattle.rg_integers.specs.Sum.{number_at}
@@ -33,15 +33,18 @@ use Rattle.rg_case_folds.proofs.OneResult.{terms_one}
 use Rattle.rg_case_folds.proofs.Lists.{Contains-map}
 use Rattle.rg_case_folds.proofs.Opposites.{same_multiple}
 use Rattle.rg_case_folds.proofs.LeftOut.{left_out}
+use Rattle.rg_case_folds.proofs.CaseRows.{tokens_stand}
 use Rattle.rg_case_folds.proofs.SystemRows.{made_of}
 use Rattle.rg_case_folds.proofs.Forms.{form_named, start_of_bound, plain_has, IsSplitOf, split_is, split_starts}
 use Rattle.rg_case_folds.proofs.StartAlone.{start_alone}
 use Rattle.rg_integers.proofs.Signs.{abs-times}
 use Rattle.rg_cert_meaning.specs.declared.RowName.TheVariants as row_name
+use Rattle.rg_case_folds.proofs.Products.{once}
 use Rattle.rg_cert_meaning.specs.declared.Form.TheVariants as split_form
 
 -- the row has the terms of the form
-pub same_terms : (lts : System) (class : Class) (problem : Problem) (n : ℕ) (split : SplitForm) → (row_expression lts class problem n [] (form_row lts.initial split)).terms ≡ plus (form_variable lts.initial split) ∷ []
+pub same_terms : (lts : System) (class : Class) (problem : Problem) (n : ℕ) (split : SplitForm)
+    → (row_expression lts class problem n [] (form_row lts.initial split)).terms ≡ plus (form_variable lts.initial split) ∷ []
 same_terms lts class (Event s t) n (split_form.Tokens q) = refl
 same_terms lts class (Event s t) n (split_form.Effect u) = refl
 same_terms lts class (Event s t) n split_form.Start = refl
@@ -59,23 +62,21 @@ form_over_row it split form k (scaled, fold, e) (scaled', fold', (constant, prod
     (d.divisor, ap (λ (f : Form). f.coeffs) e ∙ ap (λ (s : Scaled). s.numbers) same ∙ d.coeffs)
 
 -- the row is among those of the case
-pub form_row_named : (lts : System) (class : Class) (problem : Problem) (n : ℕ) (split : SplitForm) → IsInRange lts → Contains (split_forms lts class problem) split → Contains (names_of lts class problem n) (form_row lts.initial split)
+pub form_row_named : (lts : System) (class : Class) (problem : Problem) (n : ℕ) (split : SplitForm) → IsInRange lts → Contains (split_forms lts class problem) split
+    → Contains (names_of lts class problem n) (form_row lts.initial split)
 form_row_named lts class problem n split fine has = by split (split_is lts class problem split has)
   where
-    tokens_stand : (p : Problem) (q : ℕ) → RowStands lts class p n [] (row_name.Tokens q)
-    tokens_stand (Event s t) q = tt
-    tokens_stand (States s s') q = tt
-
     down_stands : (p : Problem) (t : ℕ) → t < labels lts → class.plain ≡ true → RowStands lts class p n [] (row_name.Down t)
     down_stands (Event s u) t lt plain = (lt, plain)
     down_stands (States s s') t lt plain = (lt, plain)
 
     tokens_named : (q : ℕ) → q < states lts → has_start class ≡ true → Contains (names_of lts class problem n) (row_name.Tokens q)
-    tokens_named q lt starts = ⊎_elim (λ named. named) (⊎_elim (λ none. absurd (true≢false (sym starts ∙ none))) (λ past. absurd (omega arith))) (left_out lts class problem n (row_name.Tokens q) fine (tokens_stand problem q))
+    tokens_named q lt starts = ⊎_elim (λ named. named) (⊎_elim (λ none. absurd (true≢false (sym starts ∙ none))) (λ past. absurd (omega arith))) (left_out lts class problem n (row_name.Tokens q) fine (tokens_stand lts class problem n q))
 
     by : (split : SplitForm) → IsSplitOf lts class problem split → Contains (names_of lts class problem n) (form_row lts.initial split)
     by (split_form.Tokens q) (bound, lt) = tokens_named q lt (start_of_bound class bound)
-    by (split_form.Effect t) (bound, plain, used, lt) = ⊎_elim (λ named. named) (λ none. absurd (true≢false (sym used ∙ none))) (left_out lts class problem n (row_name.Down t) fine (down_stands problem t lt plain))
+    by (split_form.Effect t) (bound, plain, used, lt) =
+        ⊎_elim (λ named. named) (λ none. absurd (true≢false (sym used ∙ none))) (left_out lts class problem n (row_name.Down t) fine (down_stands problem t lt plain))
     by split_form.Start splits = tokens_named lts.initial fine.initial (split_starts lts class problem split_form.Start splits)
 
 pub number_times : (d : ℤ) (xs : List ℤ) (j : ℕ) → number_at (map (λ z. d *ℤ z) xs) j ≡ d *ℤ number_at xs j
@@ -103,15 +104,13 @@ multiple_of_kept case form k i divisor e lt at = record {
     within = subst (λ n. i < n) (sym (length-map case.kept (λ (x : KeptRow). x.row))) lt
 
 -- a form without coefficients
-pub multiple_of_none : (case : CaseSystem) (form : Form) (k : KeptRow) (divisor : ℕ) → form.coeffs ≡ map (λ z. pos (max divisor 1) *ℤ z) k.row.coeffs → All (λ z. z ≡ pos 0) k.row.coeffs → IsMultipleOfRow (rows_of case) form 0 (pos 0)
+pub multiple_of_none : (case : CaseSystem) (form : Form) (k : KeptRow) (divisor : ℕ) → form.coeffs ≡ map (λ z. pos (max divisor 1) *ℤ z) k.row.coeffs
+    → All (λ z. z ≡ pos 0) k.row.coeffs → IsMultipleOfRow (rows_of case) form 0 (pos 0)
 multiple_of_none case form k divisor e zeros = record {
   within = λ some. absurd (some refl);
   not_negative = (omega (arith, ints));
-  multiple = λ j below. ap (λ xs. number_at xs j) e ∙ number_times (pos (max divisor 1)) k.row.coeffs j ∙ ap (λ z. pos (max divisor 1) *ℤ z) (number_zero k.row.coeffs j zeros) ∙ *ℤ-zero (pos (max divisor 1)) ∙ sym (none (number_at (row_at (rows_of case) 0).coeffs j));
+  multiple = λ j below. ap (λ xs. number_at xs j) e ∙ number_times (pos (max divisor 1)) k.row.coeffs j ∙ ap (λ z. pos (max divisor 1) *ℤ z) (number_zero k.row.coeffs j zeros) ∙ *ℤ-zero (pos (max divisor 1)) ∙ sym (zero-*ℤ (number_at (row_at (rows_of case) 0).coeffs j));
 }
-  where
-    none : (z : ℤ) → pos 0 *ℤ z ≡ pos 0
-    none z = omega (arith, ints)
 
 pub form_multiple : (s : CaseSetting) (case : CaseSystem) → IsCaseOver s case → (f : ℕ) → f < length case.forms
     → (row : ℕ) × (times : ℤ) × IsMultipleOfRow (rows_of case) (form_at case.forms f) row times
@@ -130,10 +129,12 @@ form_multiple s case c f lt = from c.is_case
             × IsMultipleOfRow (rows_of case) (form_at case.forms f) row times
         found k divisor e (inl (zeros, weak)) = (0, pos 0, multiple_of_none case (form_at case.forms f) k divisor e zeros)
         found k divisor e (inr (inl (i, below, at))) = absurd (omega arith)
-        found k divisor e (inr (inr (y, has, same))) = from_index (subst (λ (r : LinearRow). Contains (map (λ (x : KeptRow). x.row) case.kept) r) same (Contains-map (λ (x : KeptRow). x.row) case.kept y has))
+        found k divisor e (inr (inr (y, has, same))) =
+            from_index (subst (λ (r : LinearRow). Contains (map (λ (x : KeptRow). x.row) case.kept) r) same (Contains-map (λ (x : KeptRow). x.row) case.kept y has))
           where
             from_index : Contains (map (λ (x : KeptRow). x.row) case.kept) k.row → (row : ℕ) × (times : ℤ) × IsMultipleOfRow (rows_of case) (form_at case.forms f) row times
-            from_index (i, below, at) = (i, pos (max divisor 1), multiple_of_kept case (form_at case.forms f) k i divisor e (subst (λ n. i < n) (length-map case.kept (λ (x : KeptRow). x.row)) below) at)
+            from_index (i, below, at) =
+                (i, pos (max divisor 1), multiple_of_kept case (form_at case.forms f) k i divisor e (subst (λ n. i < n) (length-map case.kept (λ (x : KeptRow). x.row)) below) at)
 
 -- ---- the bounds, times the scale
 
@@ -142,10 +143,7 @@ product_in_range : (c m : ℤ) (p : Ratio) → mul (whole c) (whole m) (Ok p) �
 product_in_range c m p (fits, _, _) = subst (λ z. InRange (z *ℤ m)) (first_part c) (subst (λ z. InRange (int_div c (int_gcd c (pos 1)) *ℤ z)) (first_part m) fits.left)
 
 by_one : (n : ℕ) (m : ℤ) → n ≡ 1 → m ≡ pos n *ℤ m
-by_one n m e = subst (λ k. m ≡ pos k *ℤ m) (sym e) (one m)
-  where
-    one : (m : ℤ) → m ≡ pos 1 *ℤ m
-    one m = omega (arith, ints)
+by_one n m e = subst (λ k. m ≡ pos k *ℤ m) (sym e) (once m)
 
 -- the scale times the constant of a row with the terms of the form, where a step is 1
 fits_one : (it : Setting) (split : SplitForm) (form : Form) (name : RowName) (e : Expression) (k : KeptRow) → step_of it.class split ≡ 1 → form_fold it split (Ok form)
@@ -164,23 +162,20 @@ fits_opposite s split form name e k step (scaled, fold, is) opposite (scaled', f
     ∙ ap (λ (f : Form). f.scale) (sym is)) (product_in_range e.constant scaled'.multiple constant product)
 
 pub start_scale : (s : Setting) (form : Form) → IsTree s.lts s.tree → form_fold s split_form.Start (Ok form) → form.scale ≡ pos (step_of s.class split_form.Start)
-start_scale s form g (scaled, fold, e) = ap (λ (f : Form). f.scale) e ∙ ap (λ m. pos (step_of s.class split_form.Start) *ℤ m) (start_alone s scaled g fold) ∙ once (pos (step_of s.class split_form.Start))
-  where
-    once : (z : ℤ) → z *ℤ pos 1 ≡ z
-    once z = omega (arith, ints)
+start_scale s form g (scaled, fold, e) =
+    ap (λ (f : Form). f.scale) e
+    ∙ ap (λ m. pos (step_of s.class split_form.Start) *ℤ m) (start_alone s scaled g fold)
+    ∙ mul-one (pos (step_of s.class split_form.Start))
 
 pub form_fits : (it : CaseSetting) (case : CaseSystem) → IsCaseOver it case → states it.lts ≤ most_states → (f : ℕ) → f < length case.forms
     → InRange ((form_at case.forms f).scale *ℤ (form_at case.forms f).low) × InRange ((form_at case.forms f).scale *ℤ (form_at case.forms f).high)
 form_fits it case c few f lt = from c.is_case
   where
-    turn : (a b : ℤ) → a *ℤ b ≡ b *ℤ a
-    turn a b = simp ring
-
     zero_low : (s : ℤ) → InRange (s *ℤ pos 0)
     zero_low s = subst InRange (sym (*ℤ-zero s)) (omega arith)
 
     plainly : (s : ℤ) → InRange (pos 1 *ℤ s) → InRange (s *ℤ negsuc 0) × InRange (s *ℤ pos 1)
-    plainly s h = (less s h, subst InRange (turn (pos 1) s) h)
+    plainly s h = (less s h, subst InRange (*ℤ_comm (pos 1) s) h)
       where
         less : (s : ℤ) → InRange (pos 1 *ℤ s) → InRange (s *ℤ negsuc 0)
         less s h = omega (arith, ints)
@@ -208,16 +203,24 @@ form_fits it case c few f lt = from c.is_case
         let (names, has, fold) = form_named it case f c.is_case lt in
         with_bounds split (form_at case.forms f) fold (bounds split (form_at case.forms f) (split_is it.lts it.class it.problem split has) fold)
       where
-        row_of : (name : RowName) → Contains (names_of it.lts it.class it.problem it.number) name → (k : KeptRow) × row_fold it.setting name (row_expression it.lts it.class it.problem it.number [] name) (Ok k)
+        row_of : (name : RowName) → Contains (names_of it.lts it.class it.problem it.number) name
+            → (k : KeptRow) × row_fold it.setting name (row_expression it.lts it.class it.problem it.number [] name) (Ok k)
         row_of name has = let (k, in_all, row) = made_of (λ m. row_fold it.setting m (row_expression it.lts it.class it.problem it.number [] m)) (names_of it.lts it.class it.problem it.number) all name made has in (k, row)
 
-        tokens_of : (q : ℕ) (form : Form) (p : Problem) → form_fold it.setting (split_form.Tokens q) (Ok form) → (k : KeptRow) → row_fold it.setting (row_name.Cap q) (row_expression it.lts it.class p it.number [] (row_name.Cap q)) (Ok k) → InRange (pos (unwrap_or it.class.bound 0) *ℤ form.scale)
-        tokens_of q form (Event s t) fold k row = fits_opposite it.setting (split_form.Tokens q) form (row_name.Cap q) (row_expression it.lts it.class (Event s t) it.number [] (row_name.Cap q)) k refl fold refl row
-        tokens_of q form (States s s') fold k row = fits_opposite it.setting (split_form.Tokens q) form (row_name.Cap q) (row_expression it.lts it.class (States s s') it.number [] (row_name.Cap q)) k refl fold refl row
+        tokens_of : (q : ℕ) (form : Form) (p : Problem) → form_fold it.setting (split_form.Tokens q) (Ok form) → (k : KeptRow)
+            → row_fold it.setting (row_name.Cap q) (row_expression it.lts it.class p it.number [] (row_name.Cap q)) (Ok k)
+            → InRange (pos (unwrap_or it.class.bound 0) *ℤ form.scale)
+        tokens_of q form (Event s t) fold k row =
+            fits_opposite it.setting (split_form.Tokens q) form (row_name.Cap q) (row_expression it.lts it.class (Event s t) it.number [] (row_name.Cap q)) k refl fold refl row
+        tokens_of q form (States s s') fold k row =
+            fits_opposite it.setting (split_form.Tokens q) form (row_name.Cap q) (row_expression it.lts it.class (States s s') it.number [] (row_name.Cap q)) k refl fold refl row
 
-        effect_of_label : (t : ℕ) (form : Form) (p : Problem) → form_fold it.setting (split_form.Effect t) (Ok form) → (k : KeptRow) → row_fold it.setting (row_name.Down t) (row_expression it.lts it.class p it.number [] (row_name.Down t)) (Ok k) → InRange (pos 1 *ℤ form.scale)
-        effect_of_label t form (Event s u) fold k row = fits_one it.setting (split_form.Effect t) form (row_name.Down t) (row_expression it.lts it.class (Event s u) it.number [] (row_name.Down t)) k refl fold refl row
-        effect_of_label t form (States s s') fold k row = fits_one it.setting (split_form.Effect t) form (row_name.Down t) (row_expression it.lts it.class (States s s') it.number [] (row_name.Down t)) k refl fold refl row
+        effect_of_label : (t : ℕ) (form : Form) (p : Problem) → form_fold it.setting (split_form.Effect t) (Ok form) → (k : KeptRow)
+            → row_fold it.setting (row_name.Down t) (row_expression it.lts it.class p it.number [] (row_name.Down t)) (Ok k) → InRange (pos 1 *ℤ form.scale)
+        effect_of_label t form (Event s u) fold k row =
+            fits_one it.setting (split_form.Effect t) form (row_name.Down t) (row_expression it.lts it.class (Event s u) it.number [] (row_name.Down t)) k refl fold refl row
+        effect_of_label t form (States s s') fold k row =
+            fits_one it.setting (split_form.Effect t) form (row_name.Down t) (row_expression it.lts it.class (States s s') it.number [] (row_name.Down t)) k refl fold refl row
 
         cap_stands : (p : Problem) (q : ℕ) → q < states it.lts → is_some it.class.bound ≡ true → RowStands it.lts it.class p it.number [] (row_name.Cap q)
         cap_stands (Event s t) q lt bound = (lt, bound)
@@ -226,16 +229,19 @@ form_fits it case c few f lt = from c.is_case
         cap_named : (q : ℕ) → q < states it.lts → is_some it.class.bound ≡ true → Contains (names_of it.lts it.class it.problem it.number) (row_name.Cap q)
         cap_named q lt bound = ⊎_elim (λ named. named) (λ none. absurd none) (left_out it.lts it.class it.problem it.number (row_name.Cap q) c.in_range (cap_stands it.problem q lt bound))
 
-        bounds : (split : SplitForm) (form : Form) → IsSplitOf it.lts it.class it.problem split → form_fold it.setting split (Ok form) → InRange (form.scale *ℤ form_low split) × InRange (form.scale *ℤ form_high it.lts it.class split)
+        bounds : (split : SplitForm) (form : Form) → IsSplitOf it.lts it.class it.problem split → form_fold it.setting split (Ok form)
+            → InRange (form.scale *ℤ form_low split) × InRange (form.scale *ℤ form_high it.lts it.class split)
         bounds (split_form.Tokens q) form (bound, lt) fold =
             let (k, row) = row_of (row_name.Cap q) (cap_named q lt bound) in
-            (zero_low form.scale, subst InRange (turn (pos (unwrap_or it.class.bound 0)) form.scale) (tokens_of q form it.problem fold k row))
+            (zero_low form.scale, subst InRange (*ℤ_comm (pos (unwrap_or it.class.bound 0)) form.scale) (tokens_of q form it.problem fold k row))
         bounds (split_form.Effect t) form (bound, plain, used, lt) fold =
             let (k, row) = row_of (row_name.Down t) (form_row_named it.lts it.class it.problem it.number (split_form.Effect t) c.in_range (plain_has it.lts it.class it.problem t bound plain lt used)) in
             plainly form.scale (effect_of_label t form it.problem fold k row)
         bounds split_form.Start form splits fold = (zero_low form.scale, start_fits form fold)
 
-        with_bounds : (split : SplitForm) (form : Form) → form_fold it.setting split (Ok form) → InRange (form.scale *ℤ form_low split) × InRange (form.scale *ℤ form_high it.lts it.class split) → InRange (form.scale *ℤ form.low) × InRange (form.scale *ℤ form.high)
+        with_bounds : (split : SplitForm) (form : Form) → form_fold it.setting split (Ok form)
+            → InRange (form.scale *ℤ form_low split) × InRange (form.scale *ℤ form_high it.lts it.class split)
+            → InRange (form.scale *ℤ form.low) × InRange (form.scale *ℤ form.high)
         with_bounds split form (scaled, fold, e) fits =
             subst (λ z. InRange (form.scale *ℤ z) × InRange (form.scale *ℤ form.high)) (sym (ap (λ (x : Form). x.low) e))
             (subst (λ z. InRange (form.scale *ℤ form_low split) × InRange (form.scale *ℤ z)) (sym (ap (λ (x : Form). x.high) e)) fits)

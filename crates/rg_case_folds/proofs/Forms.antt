@@ -12,7 +12,7 @@ use Rattle.rg_theory.specs.ClassWords.{HasNumbersInRange}
 use Rattle.rg_theory.specs.System.{System, states, labels}
 use Rattle.rg_theory.proofs.Lists.{Contains-cons_cases}
 use Rattle.rg_integers.specs.Sum.{dot, number_at}
-use Rattle.rg_integers.proofs.Ring.{ring}
+use Rattle.rg_integers.proofs.Ring.{ring, mul_left_comm}
 use Rattle.rg_integers.proofs.Order.{mul-cancel_left, positive_differs, mul_positive}
 use Rattle.rg_integers.proofs.Sums.{sum_below-same, sum_below-times}
 use Rattle.rg_integers.specs.declared.term.Wide.{Wide}
@@ -29,6 +29,7 @@ use Rattle.rg_case_folds.proofs.Signs.{terms_positive}
 use Rattle.rg_case_folds.specs.Meaning.{IsCaseOver, AreEffects, AreGivenBy}
 use Rattle.rg_case_folds.proofs.Lists.{first, nothing, Contains-map, Contains-of_map, where_is, where_has, if_true, if_false, of_if, of_optional}
 use Rattle.rg_case_folds.proofs.ColumnValues.{row_sum}
+use Rattle.rg_case_folds.proofs.Products.{grouped, once}
 use Rattle.rg_cert_meaning.specs.declared.Form.TheVariants as split_form
 
 -- ---- the forms are those of the variables, in order
@@ -37,10 +38,12 @@ pub each_length : {A X : Type 0} (make : A → Result X Wide → Type 0) (items 
 each_length make [] xs e = ap length e
 each_length make (a ∷ items) xs (x, is, (rest, each_is, e)) = ap length e ∙ ap suc (each_length make items rest each_is)
 
-pub each_at : {A X : Type 0} (make : A → Result X Wide → Type 0) (items : List A) (xs : List X) (f : ℕ) (a : A) (d : X) → each make items (Ok xs) → f < length items → make (slice_index_or items f a) (Ok (slice_index_or xs f d))
+pub each_at : {A X : Type 0} (make : A → Result X Wide → Type 0) (items : List A) (xs : List X) (f : ℕ) (a : A) (d : X) → each make items (Ok xs) → f < length items
+    → make (slice_index_or items f a) (Ok (slice_index_or xs f d))
 each_at make [] xs f a d e lt = absurd (omega arith)
 each_at make (b ∷ items) xs zero a d (x, is, (rest, each_is, e)) lt = subst (λ l. make b (Ok (slice_index_or l 0 d))) (sym e) is
-each_at make (b ∷ items) xs (suc f) a d (x, is, (rest, each_is, e)) lt = subst (λ l. make (slice_index_or items f a) (Ok (slice_index_or l (suc f) d))) (sym e) (each_at make items rest f a d each_is (omega arith))
+each_at make (b ∷ items) xs (suc f) a d (x, is, (rest, each_is, e)) lt =
+    subst (λ l. make (slice_index_or items f a) (Ok (slice_index_or l (suc f) d))) (sym e) (each_at make items rest f a d each_is (omega arith))
 
 -- what is known of the form with number f
 pub record FormOf (s : Setting) (case : CaseSystem) (split : SplitForm) : Type 0 where
@@ -84,24 +87,21 @@ module _ (it : CaseSetting) (case : CaseSystem) (c : IsCaseOver it case) where
       ap (λ (f : Form). pos (step_of it.class split) *ℤ dot f.coeffs (column_values it.lts it.basis it.class start effect)) e
       ∙ ap (λ z. pos (step_of it.class split) *ℤ z) (terms_value it.setting (plus (form_variable it.lts.initial split) ∷ []) start effect scaled c.is_basis names no_start given.follows given.unused fold
       ∙ ap (λ z. scaled.multiple *ℤ z) (one (numbers_along it.lts it.tree start effect (form_variable it.lts.initial split))))
-      ∙ turn (pos (step_of it.class split)) scaled.multiple (numbers_along it.lts it.tree start effect (form_variable it.lts.initial split))
+      ∙ grouped (pos (step_of it.class split)) scaled.multiple (numbers_along it.lts it.tree start effect (form_variable it.lts.initial split))
       ∙ ap (λ (f : Form). f.scale *ℤ numbers_along it.lts it.tree start effect (form_variable it.lts.initial split)) (sym e)
     where
       one : (z : ℤ) → (pos 1 *ℤ z) +ℤ pos 0 ≡ z
       one z = omega (arith, ints)
 
-      turn : (n m z : ℤ) → n *ℤ (m *ℤ z) ≡ (n *ℤ m) *ℤ z
-      turn n m z = simp ring
-
   -- over the columns of a point
-  pub point_form : (v : ℕ → ℤ) (times start : ℤ) (effect : ℕ → ℤ) (form : Form) → AreGivenBy it.setting case v times start effect → times *ℤ scaled_value (rows_of case) form v ≡ dot form.coeffs (column_values it.lts it.basis it.class start effect)
+  pub point_form : (v : ℕ → ℤ) (times start : ℤ) (effect : ℕ → ℤ) (form : Form) → AreGivenBy it.setting case v times start effect
+      → times *ℤ scaled_value (rows_of case) form v ≡ dot form.coeffs (column_values it.lts it.basis it.class start effect)
   point_form v times start effect form g =
       sym (sum_below-times case.columns times (λ j. number_at form.coeffs j *ℤ v j))
-      ∙ sum_below-same case.columns (λ j. times *ℤ (number_at form.coeffs j *ℤ v j)) (λ j. number_at form.coeffs j *ℤ number_at (column_values it.lts it.basis it.class start effect) j) (λ j lt. turn times (number_at form.coeffs j) (v j) ∙ ap (λ z. number_at form.coeffs j *ℤ z) (g.columns j lt))
+      ∙ sum_below-same case.columns (λ j. times *ℤ (number_at form.coeffs j *ℤ v j))
+      (λ j. number_at form.coeffs j *ℤ number_at (column_values it.lts it.basis it.class start effect) j)
+      (λ j lt. mul_left_comm times (number_at form.coeffs j) (v j) ∙ ap (λ z. number_at form.coeffs j *ℤ z) (g.columns j lt))
       ∙ sym (row_sum it case start effect form.coeffs c.is_case)
-    where
-      turn : (a b d : ℤ) → a *ℤ (b *ℤ d) ≡ b *ℤ (a *ℤ d)
-      turn a b d = simp ring
 
   -- a variable with a whole form is a multiple of the scale, by its steps
   pub variable_multiple : (v : ℕ → ℤ) (scale times start : ℤ) (effect : ℕ → ℤ) (split : SplitForm) → has_start it.class ≡ true
@@ -134,13 +134,10 @@ module _ (it : CaseSetting) (case : CaseSystem) (c : IsCaseOver it case) where
       let some : pos 0 <ℤ pos (step_of it.class split) = (let h = step_positive it.class split c.numbers in omega (arith, ints)) in (
         w,
         mul-cancel_left (pos (step_of it.class split)) _ _ (positive_differs (pos (step_of it.class split)) some)
-            (ap (λ z. pos (step_of it.class split) *ℤ z) (one (scaled_value (rows_of case) (form_at case.forms f) v) ∙ over) ∙ value
+            (ap (λ z. pos (step_of it.class split) *ℤ z) (once (scaled_value (rows_of case) (form_at case.forms f) v) ∙ over) ∙ value
             ∙ ap (λ z. (form_at case.forms f).scale *ℤ z) is ∙ turn (form_at case.forms f).scale (pos (step_of it.class split)) w),
       )
     where
-      one : (z : ℤ) → z ≡ pos 1 *ℤ z
-      one z = omega (arith, ints)
-
       turn : (f n u : ℤ) → f *ℤ (n *ℤ u) ≡ n *ℤ (u *ℤ (f *ℤ pos 1))
       turn f n u = simp ring
 
@@ -164,13 +161,16 @@ start_of_plain class e = go class.pure class.plain (is_some class.bound) e
     go false false d e = absurd (true≢false (sym e))
 
 pub bounded_has : (lts : System) (class : Class) (problem : Problem) (q : ℕ) → is_some class.bound ≡ true → q < states lts → Contains (split_forms lts class problem) (split_form.Tokens q)
-bounded_has lts class problem q bound lt = Contains-append_left (if is_some class.bound then map split_form.Tokens (all_numbers (states lts)) else (if class.plain then map split_form.Effect (used_labels lts) else []))
+bounded_has lts class problem q bound lt =
+    Contains-append_left (if is_some class.bound then map split_form.Tokens (all_numbers (states lts)) else (if class.plain then map split_form.Effect (used_labels lts) else []))
     (if splits_start class problem then (split_form.Start ∷ []) else []) (split_form.Tokens q)
     (if_true (is_some class.bound) (map split_form.Tokens (all_numbers (states lts))) (if class.plain then map split_form.Effect (used_labels lts) else []) (split_form.Tokens q) bound
     (Contains-map split_form.Tokens (all_numbers (states lts)) q (where_has (λ q. true) 0 (states lts) q refl (omega arith) (omega arith))))
 
-pub plain_has : (lts : System) (class : Class) (problem : Problem) (t : ℕ) → is_some class.bound ≡ false → class.plain ≡ true → t < labels lts → has_label t lts.arcs ≡ true → Contains (split_forms lts class problem) (split_form.Effect t)
-plain_has lts class problem t bound plain lt used = Contains-append_left (if is_some class.bound then map split_form.Tokens (all_numbers (states lts)) else (if class.plain then map split_form.Effect (used_labels lts) else []))
+pub plain_has : (lts : System) (class : Class) (problem : Problem) (t : ℕ) → is_some class.bound ≡ false → class.plain ≡ true → t < labels lts
+    → has_label t lts.arcs ≡ true → Contains (split_forms lts class problem) (split_form.Effect t)
+plain_has lts class problem t bound plain lt used =
+    Contains-append_left (if is_some class.bound then map split_form.Tokens (all_numbers (states lts)) else (if class.plain then map split_form.Effect (used_labels lts) else []))
     (if splits_start class problem then (split_form.Start ∷ []) else []) (split_form.Effect t)
     (if_false (is_some class.bound) (map split_form.Tokens (all_numbers (states lts))) (if class.plain then map split_form.Effect (used_labels lts) else []) (split_form.Effect t) bound
     (if_true class.plain (map split_form.Effect (used_labels lts)) [] (split_form.Effect t) plain
@@ -201,7 +201,8 @@ split_is lts class problem split has = ⊎_elim
     (Contains-append_cases (if is_some class.bound then map split_form.Tokens (all_numbers (states lts)) else (if class.plain then map split_form.Effect (used_labels lts) else [])) (if splits_start class problem then (split_form.Start ∷ []) else []) split has)
 
 -- where the start is split on it has to be a multiple, and has a bound: that of the class, or that of an event in a plain one
-pub start_split : (class : Class) (problem : Problem) → splits_start class problem ≡ true → (is_some class.marking ≡ true) × ((is_some class.bound ≡ true) ⊎ ((class.plain ≡ true) × ((s : ℕ) × (t : ℕ) × (problem ≡ Event s t))))
+pub start_split : (class : Class) (problem : Problem) → splits_start class problem ≡ true
+    → (is_some class.marking ≡ true) × ((is_some class.bound ≡ true) ⊎ ((class.plain ≡ true) × ((s : ℕ) × (t : ℕ) × (problem ≡ Event s t))))
 start_split class (Event s t) e = by (is_some class.marking) class.plain (is_some class.bound) e
   where
     by : (m p b : Bool) → (m && (p || b)) ≡ true → (m ≡ true) × ((b ≡ true) ⊎ ((p ≡ true) × ((s' : ℕ) × (t' : ℕ) × (Event s t ≡ Event s' t'))))
@@ -223,7 +224,8 @@ split_starts lts class problem (split_form.Effect t) (bound, plain, used, lt) = 
 split_starts lts class problem split_form.Start splits = ⊎_elim (start_of_bound class) (λ (plain, event). start_of_plain class plain) (start_split class problem splits).1
 
 -- the variable of a form names a label of the system
-pub form_names : (lts : System) (class : Class) (problem : Problem) (split : SplitForm) → Contains (split_forms lts class problem) split → NamesLabels (labels lts) (plus (form_variable lts.initial split) ∷ [])
+pub form_names : (lts : System) (class : Class) (problem : Problem) (split : SplitForm) → Contains (split_forms lts class problem) split
+    → NamesLabels (labels lts) (plus (form_variable lts.initial split) ∷ [])
 form_names lts class problem split has = by split (split_is lts class problem split has)
   where
     by : (split : SplitForm) → IsSplitOf lts class problem split → NamesLabels (labels lts) (plus (form_variable lts.initial split) ∷ [])

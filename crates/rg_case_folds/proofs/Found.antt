@@ -1,5 +1,5 @@
 -- Effects and Start, made whole, keep the rows of a case over the common multiple.
-use Rattle.std.proofs.Common.{◌≡◌, ⊎_elim, ℕ, zero, suc, ◌+◌, ◌-◌, ◌<◌, ◌≤◌, ◌||◌, is_some, Bool, true, false, if◌then◌else◌, Option, Some, None, IsNone, List, [], ◌∷◌, ◌++◌, map, length, slice_index_or, Contains, Result, Ok, unwrap_or, IfSome, refl, sym, ap, ap₂, subst, ◌∙◌, arith, zero-add}
+use Rattle.std.proofs.Common.{◌≡◌, ⊎_elim, ℕ, zero, suc, ◌+◌, ◌<◌, ◌≤◌, ◌||◌, is_some, Bool, true, false, if◌then◌else◌, Option, Some, None, IsNone, List, [], ◌∷◌, ◌++◌, map, length, slice_index_or, Contains, Result, Ok, unwrap_or, IfSome, refl, sym, ap, ap₂, subst, ◌∙◌, arith, zero-add}
 use Rattle.std.specs.Prelude.{ℤ, pos, ◌+ℤ◌, ◌*ℤ◌, ◌<ℤ◌, ◌≤ℤ◌}
 use Rattle.std.specs.List.{range_with_len}
 use Rattle.std.proofs.lemmas.Int.{ints}
@@ -14,7 +14,7 @@ use Rattle.rg_integers.specs.declared.term.Wide.{Wide}
 use Rattle.rg_integers.specs.Range.{InRange}
 use Rattle.rg_integers.proofs.Ranges.{zero_in_range}
 use Rattle.rg_integers.specs.Sum.{sum_below, dot}
-use Rattle.rg_integers.proofs.Ring.{ring}
+use Rattle.rg_integers.proofs.Ring.{ring, mul_assoc, mul_left_comm}
 use Rattle.rg_integers.proofs.Order.{mul-cancel_left, mul_is_zero, mul_not_negative, factor_not_negative, positive_differs, mul_positive}
 use Rattle.rg_integers.proofs.Sums.{sum_below-same, sum_below-times}
 use Rattle.rg_integers.proofs.Dots.{dot_comm, dot-times}
@@ -35,6 +35,8 @@ use Rattle.rg_case_folds.specs.Places.{AreValuesOf}
 use Rattle.rg_case_folds.proofs.Signs.{AllPositive, all_multiple}
 use Rattle.rg_case_folds.proofs.Items.{each_length}
 use Rattle.rg_case_folds.proofs.Wholes.{product_fits, each_at, divides_at}
+use Rattle.rg_case_folds.proofs.Products.{mul_right_comm, itself_taken, once, none_of, weak}
+use Rattle.std.proofs.Math.IntN.{*ℤ_comm, zero-*ℤ}
 use Rattle.rg_case_folds.proofs.EffectValues.{effect_is}
 
 -- ---- lists of numbers
@@ -80,13 +82,7 @@ made_at rs found m scale z i lt multiple products (over, positive) =
     let (q, is) = divides_at rs m i (whole (pos 0)) (all_divide (map (λ r. r.bottom) rs) m multiple) lt in
     let (same, fits) = product_fits (ratio_at rs i) (ratio_at found i) m q positive is (each_at (λ r. mul r (whole m)) rs found (whole (pos 0)) (whole (pos 0)) i products lt) in
     let top : top_at found i ≡ (ratio_at rs i).top *ℤ q = ap (λ (r : Ratio). r.top) same in
-    (same ∙ ap whole (sym top), subst InRange (sym top) fits, ap (λ z. z *ℤ scale) top ∙ turn (ratio_at rs i).top q scale ∙ ap (λ z. z *ℤ q) over ∙ turn' z (ratio_at rs i).bottom q ∙ ap (λ y. z *ℤ y) (sym is))
-  where
-    turn : (t q s : ℤ) → (t *ℤ q) *ℤ s ≡ (t *ℤ s) *ℤ q
-    turn t q s = simp ring
-
-    turn' : (z b q : ℤ) → (z *ℤ b) *ℤ q ≡ z *ℤ (b *ℤ q)
-    turn' z b q = simp ring
+    (same ∙ ap whole (sym top), subst InRange (sym top) fits, ap (λ z. z *ℤ scale) top ∙ mul_right_comm (ratio_at rs i).top q scale ∙ ap (λ z. z *ℤ q) over ∙ mul_assoc z (ratio_at rs i).bottom q ∙ ap (λ y. z *ℤ y) (sym is))
 
 pub not_bounded : (o : Option ℕ) → IsNone o → is_some o ≡ false
 not_bounded None e = refl
@@ -114,10 +110,7 @@ module _ (lts : System) (tree : List Arc) (basis : CycleBasis) (start : Ratio) (
       (each_at (effect_fold lts basis value) (all_numbers (labels lts)) effects 0 (whole (pos 0)) t made (subst (λ n. t < n) (sym (all_length (labels lts))) lt))))
 
   pub start_at : IsOverAt scale (ratio_at (effects ++ start ∷ []) (labels lts)) first
-  start_at = subst (λ r. IsOverAt scale r first) (sym (get_or-append_right effects (start ∷ []) (labels lts) (labels lts) (whole (pos 0)) effects_count (omega arith) ∙ ap (λ k. ratio_at (start ∷ []) k) (none (labels lts)))) (v.start_is, v.start_bottom)
-    where
-      none : (n : ℕ) → n - n ≡ 0
-      none n = omega arith
+  start_at = subst (λ r. IsOverAt scale r first) (sym (get_or-append_right effects (start ∷ []) (labels lts) (labels lts) (whole (pos 0)) effects_count (omega arith) ∙ ap (λ k. ratio_at (start ∷ []) k) (itself_taken (labels lts)))) (v.start_is, v.start_bottom)
 
 products_are : (s : Setting) (start : Ratio) (value : ℕ → Ratio) (first : ℤ) (effect : ℕ → ℤ) (scale : ℤ) (effects found : List Ratio) → s.class.plain ≡ false
     → IsNone s.class.bound → IsBasis s.lts s.tree s.basis → AreEffects s.lts s.tree s.basis effect → AreValuesOf s.lts s.basis start value first effect scale
@@ -156,14 +149,12 @@ products_are s start value first effect scale effects found plain bound is e v m
     past_fits m products i le = let beyond = get_or_past found i (whole (pos 0)) (subst (λ n. n ≤ i) (sym (each_length (λ r. mul r (whole m)) (effects ++ start ∷ []) found products)) le) in subst (λ (r : Ratio). InRange r.top) (sym beyond) zero_in_range
 
 -- times n
-times_at : (products found : List Ratio) (n : ℤ) (i : ℕ) → i < length products → each (λ r. mul r (whole n)) products (Ok found) → ratio_at products i ≡ whole (top_at products i) → (ratio_at found i ≡ whole (top_at found i)) × InRange (top_at found i) × (top_at found i ≡ top_at products i *ℤ n)
+times_at : (products found : List Ratio) (n : ℤ) (i : ℕ) → i < length products → each (λ r. mul r (whole n)) products (Ok found)
+    → ratio_at products i ≡ whole (top_at products i) → (ratio_at found i ≡ whole (top_at found i)) × InRange (top_at found i) × (top_at found i ≡ top_at products i *ℤ n)
 times_at products found n i lt times is =
     let (same, fits) = product_fits (whole (top_at products i)) (ratio_at found i) n n (omega (arith, ints)) (once n) (subst (λ r. mul r (whole n) (Ok (ratio_at found i))) is (each_at (λ r. mul r (whole n)) products found (whole (pos 0)) (whole (pos 0)) i times lt)) in
     let top : top_at found i ≡ top_at products i *ℤ n = ap (λ (r : Ratio). r.top) same in
     (same ∙ ap whole (sym top), subst InRange (sym top) fits, top)
-  where
-    once : (n : ℤ) → n ≡ pos 1 *ℤ n
-    once n = omega (arith, ints)
 
 -- each number is so many steps
 abbrev pub AreSteps : Class → List Ratio → Type 0
@@ -175,11 +166,9 @@ times_are : (lts : System) (class : Class) (products found : List Ratio) (first 
     × AreFound lts found first effect scale k × AreSteps class found
 times_are lts class products found first effect scale m numbers many f times = by class.marking numbers.marking times
   where
-    by : (o : Option ℕ) → IfSome o (λ n. (0 < n) × (n ≤ 255)) → either (is_some o) (each (λ r. mul r (whole (pos (unwrap_or o 1)))) products) (gives products) (Ok found) → (k : ℤ) × AreFound lts found first effect scale k × ((i : ℕ) → (u : ℤ) × (top_at found i ≡ pos (unwrap_or o 1) *ℤ u))
+    by : (o : Option ℕ) → IfSome o (λ n. (0 < n) × (n ≤ 255)) → either (is_some o) (each (λ r. mul r (whole (pos (unwrap_or o 1)))) products) (gives products) (Ok found)
+        → (k : ℤ) × AreFound lts found first effect scale k × ((i : ℕ) → (u : ℤ) × (top_at found i ≡ pos (unwrap_or o 1) *ℤ u))
     by None h same = (m, subst (λ l. AreFound lts l first effect scale m) (sym same) f, λ i. (top_at found i, once (top_at found i)))
-      where
-        once : (n : ℤ) → n ≡ pos 1 *ℤ n
-        once n = omega (arith, ints)
     by (Some n) (some, few) made = (
       m *ℤ pos n,
       record {
@@ -189,7 +178,7 @@ times_are lts class products found first effect scale m numbers many f times = b
         effects = λ t lt. moved (top_at found t) (top_at products t) scale (effect t) m (pos n) (at t (omega arith)).2 (f.effects t lt);
         start_is = moved (top_at found (labels lts)) (top_at products (labels lts)) scale first m (pos n) (at (labels lts) (omega arith)).2 f.start_is;
       },
-      λ i. ⊎_elim (λ lt. (top_at products i, (at i lt).2 ∙ swap (top_at products i) (pos n))) (λ le. (pos 0, (past i le).2 ∙ none (pos n))) (cases_lt i (length products)),
+      λ i. ⊎_elim (λ lt. (top_at products i, (at i lt).2 ∙ *ℤ_comm (top_at products i) (pos n))) (λ le. (pos 0, (past i le).2 ∙ none_of (pos n))) (cases_lt i (length products)),
     )
       where
         at : (i : ℕ) → i < length products → (ratio_at found i ≡ whole (top_at found i)) × InRange (top_at found i) × (top_at found i ≡ top_at products i *ℤ pos n)
@@ -200,23 +189,8 @@ times_are lts class products found first effect scale m numbers many f times = b
             let beyond = get_or_past found i (whole (pos 0)) (subst (λ k. k ≤ i) (sym (each_length (λ r. mul r (whole (pos n))) products found made)) le) in
             (beyond ∙ ap (λ (r : Ratio). whole r.top) (sym beyond), subst (λ (r : Ratio). InRange r.top) (sym beyond) zero_in_range, ap (λ (r : Ratio). r.top) beyond)
 
-        swap : (a b : ℤ) → a *ℤ b ≡ b *ℤ a
-        swap a b = simp ring
-
-        none : (n : ℤ) → pos 0 ≡ n *ℤ pos 0
-        none n = sym (swap n (pos 0) ∙ zero_times n)
-          where
-            zero_times : (m : ℤ) → pos 0 *ℤ m ≡ pos 0
-            zero_times m = omega (arith, ints)
-
-        turn : (p n s : ℤ) → (p *ℤ n) *ℤ s ≡ (p *ℤ s) *ℤ n
-        turn p n s = simp ring
-
-        turn' : (e m n : ℤ) → (e *ℤ m) *ℤ n ≡ e *ℤ (m *ℤ n)
-        turn' e m n = simp ring
-
         moved : (a p s e m n : ℤ) → a ≡ p *ℤ n → p *ℤ s ≡ e *ℤ m → a *ℤ s ≡ e *ℤ (m *ℤ n)
-        moved a p s e m n g h = ap (λ z. z *ℤ s) g ∙ turn p n s ∙ ap (λ z. z *ℤ n) h ∙ turn' e m n
+        moved a p s e m n g h = ap (λ z. z *ℤ s) g ∙ mul_right_comm p n s ∙ ap (λ z. z *ℤ n) h ∙ mul_assoc e m n
 
 pub found_is : (s : Setting) (start : Ratio) (value : ℕ → Ratio) (first : ℤ) (effect : ℕ → ℤ) (scale : ℤ) (effects found : List Ratio) → HasNumbersInRange s.class
     → s.class.plain ≡ false → IsNone s.class.bound → IsBasis s.lts s.tree s.basis → AreEffects s.lts s.tree s.basis effect
@@ -233,43 +207,36 @@ found_is s start value first effect scale effects found numbers plain bound is e
 abbrev pub found_effect : System → List Ratio → ℕ → ℤ
 found_effect lts found t = if has_label t lts.arcs then top_at found t else pos 0
 
-pub same_effect : (lts : System) (tree : List Arc) (basis : CycleBasis) (found : List Ratio) (first : ℤ) (effect : ℕ → ℤ) (scale m : ℤ) (t : ℕ) → pos 0 <ℤ scale → AreEffects lts tree basis effect → AreFound lts found first effect scale m → t < labels lts → found_effect lts found t ≡ top_at found t
-same_effect lts tree basis found first effect scale m t positive e f lt = ⊎_elim (λ used. ap (λ b. if b then top_at found t else pos 0) used)
-    (λ unused. ap (λ b. if b then top_at found t else pos 0) unused
-    ∙ sym (mul_is_zero (top_at found t) scale (positive_differs scale positive) (f.effects t lt ∙ none (effect t) m (e.unused t unused))))
-    (cases_Bool (has_label t lts.arcs))
-  where
-    none : (z m : ℤ) → z ≡ pos 0 → z *ℤ m ≡ pos 0
-    none z m p = ap (λ y. y *ℤ m) p ∙ zero_times m
-      where
-        zero_times : (m : ℤ) → pos 0 *ℤ m ≡ pos 0
-        zero_times m = omega (arith, ints)
+module _ (lts : System) (tree : List Arc) (basis : CycleBasis) (found : List Ratio) (first : ℤ) (effect : ℕ → ℤ) (scale m : ℤ) (positive : pos 0 <ℤ scale)
+    (e : AreEffects lts tree basis effect) (f : AreFound lts found first effect scale m) where
+  pub same_effect : (t : ℕ) → t < labels lts → found_effect lts found t ≡ top_at found t
+  same_effect t lt = ⊎_elim
+      (λ used. ap (λ b. if b then top_at found t else pos 0) used)
+      (λ unused. ap (λ b. if b then top_at found t else pos 0) unused
+      ∙ sym (mul_is_zero (top_at found t) scale (positive_differs scale positive)
+      (f.effects t lt ∙ ap (λ z. z *ℤ m) (e.unused t unused) ∙ zero-*ℤ m)))
+      (cases_Bool (has_label t lts.arcs))
 
--- effects below the labels, over the scale and over the multiple
-over_both : (lts : System) (tree : List Arc) (basis : CycleBasis) (found : List Ratio) (first : ℤ) (effect : ℕ → ℤ) (scale m : ℤ) (t : ℕ) → pos 0 <ℤ scale → AreEffects lts tree basis effect → AreFound lts found first effect scale m → t < labels lts → m *ℤ effect t ≡ scale *ℤ found_effect lts found t
-over_both lts tree basis found first effect scale m t positive e f lt = swap m (effect t) ∙ sym (f.effects t lt) ∙ swap (top_at found t) scale ∙ ap (λ z. scale *ℤ z) (sym (same_effect lts tree basis found first effect scale m t positive e f lt))
-  where
-    swap : (a b : ℤ) → a *ℤ b ≡ b *ℤ a
-    swap a b = simp ring
+  -- effects below the labels, over the scale and over the multiple
+  over_both : (t : ℕ) → t < labels lts → m *ℤ effect t ≡ scale *ℤ found_effect lts found t
+  over_both t lt = *ℤ_comm m (effect t) ∙ sym (f.effects t lt) ∙ *ℤ_comm (top_at found t) scale ∙ ap (λ z. scale *ℤ z) (sym (same_effect t lt))
 
-pub found_effects : (lts : System) (tree : List Arc) (basis : CycleBasis) (found : List Ratio) (first : ℤ) (effect : ℕ → ℤ) (scale m : ℤ) → pos 0 <ℤ scale → AreEffects lts tree basis effect → AreFound lts found first effect scale m → AreEffects lts tree basis (found_effect lts found)
-found_effects lts tree basis found first effect scale m positive e f = record { follows = follows; unused = λ t unused. ap (λ b. if b then top_at found t else pos 0) unused }
-  where
-    over : (t : ℕ) → t < labels lts → m *ℤ effect t ≡ scale *ℤ found_effect lts found t
-    over t lt = over_both lts tree basis found first effect scale m t positive e f lt
+  follows : FollowsRelations (chord_system lts tree basis.kept) basis.members (found_effect lts found)
+  follows t k lt row = mul-cancel_left scale (k.d *ℤ other t) (sum_below (labels lts) (λ j. k.coefficient j *ℤ other j)) (positive_differs scale positive)
+      (mul_left_comm scale k.d (other t)
+      ∙ ap (λ z. k.d *ℤ z) (sym (over_both t lt))
+      ∙ mul_left_comm k.d m (effect t)
+      ∙ ap (λ z. m *ℤ z) (e.follows t k lt row)
+      ∙ sym (sum_below-times (labels lts) m (λ j. k.coefficient j *ℤ effect j))
+      ∙ sum_below-same (labels lts) (λ j. m *ℤ (k.coefficient j *ℤ effect j)) (λ j. scale *ℤ (k.coefficient j *ℤ other j))
+      (λ j lt'. mul_left_comm m (k.coefficient j) (effect j) ∙ ap (λ z. k.coefficient j *ℤ z) (over_both j lt') ∙ mul_left_comm (k.coefficient j) scale (other j))
+      ∙ sum_below-times (labels lts) scale (λ j. k.coefficient j *ℤ other j))
+    where
+      other : ℕ → ℤ
+      other = found_effect lts found
 
-    turn : (s d z : ℤ) → s *ℤ (d *ℤ z) ≡ d *ℤ (s *ℤ z)
-    turn s d z = simp ring
-
-    follows : FollowsRelations (chord_system lts tree basis.kept) basis.members (found_effect lts found)
-    follows t k lt row = mul-cancel_left scale (k.d *ℤ found_effect lts found t) (sum_below (labels lts) (λ j. k.coefficient j *ℤ found_effect lts found j)) (positive_differs scale positive)
-        (turn scale k.d (found_effect lts found t)
-        ∙ ap (λ z. k.d *ℤ z) (sym (over t lt))
-        ∙ turn k.d m (effect t)
-        ∙ ap (λ z. m *ℤ z) (e.follows t k lt row)
-        ∙ sym (sum_below-times (labels lts) m (λ j. k.coefficient j *ℤ effect j))
-        ∙ sum_below-same (labels lts) (λ j. m *ℤ (k.coefficient j *ℤ effect j)) (λ j. scale *ℤ (k.coefficient j *ℤ found_effect lts found j)) (λ j lt'. turn m (k.coefficient j) (effect j) ∙ ap (λ z. k.coefficient j *ℤ z) (over j lt') ∙ turn (k.coefficient j) scale (found_effect lts found j))
-        ∙ sum_below-times (labels lts) scale (λ j. k.coefficient j *ℤ found_effect lts found j))
+  pub found_effects : AreEffects lts tree basis (found_effect lts found)
+  found_effects = record { follows = follows; unused = λ t unused. ap (λ b. if b then top_at found t else pos 0) unused }
 
 -- ---- the columns
 
@@ -277,11 +244,14 @@ picked_times : (a b : ℤ) (test : ℕ → Bool) (ts : List ℕ) (x y : ℕ → 
 picked_times a b test [] x y same = refl
 picked_times a b test (t ∷ ts) x y same = go (test t) (same t (0, omega arith, refl)) (picked_times a b test ts x y (λ u (i, lt, e). same u (suc i, omega arith, e)))
   where
-    go : (c : Bool) → a *ℤ x t ≡ b *ℤ y t → map (λ z. a *ℤ z) (picked test ts x) ≡ map (λ z. b *ℤ z) (picked test ts y) → map (λ z. a *ℤ z) (if c then (x t ∷ picked test ts x) else picked test ts x) ≡ map (λ z. b *ℤ z) (if c then (y t ∷ picked test ts y) else picked test ts y)
+    go : (c : Bool) → a *ℤ x t ≡ b *ℤ y t → map (λ z. a *ℤ z) (picked test ts x) ≡ map (λ z. b *ℤ z) (picked test ts y)
+        → map (λ z. a *ℤ z) (if c then (x t ∷ picked test ts x) else picked test ts x) ≡ map (λ z. b *ℤ z) (if c then (y t ∷ picked test ts y) else picked test ts y)
     go true here rest = ap₂ (λ z l. z ∷ l) here rest
     go false here rest = rest
 
-columns_times : (lts : System) (basis : CycleBasis) (class : Class) (a b first other : ℤ) (x y : ℕ → ℤ) → a *ℤ first ≡ b *ℤ other → ((t : ℕ) → t < labels lts → a *ℤ x t ≡ b *ℤ y t) → map (λ z. a *ℤ z) (column_values lts basis class first x) ≡ map (λ z. b *ℤ z) (column_values lts basis class other y)
+columns_times : (lts : System) (basis : CycleBasis) (class : Class) (a b first other : ℤ) (x y : ℕ → ℤ) → a *ℤ first ≡ b *ℤ other
+    → ((t : ℕ) → t < labels lts → a *ℤ x t ≡ b *ℤ y t)
+    → map (λ z. a *ℤ z) (column_values lts basis class first x) ≡ map (λ z. b *ℤ z) (column_values lts basis class other y)
 columns_times lts basis class a b first other x y start same = go (has_start class)
   where
     rest : map (λ z. a *ℤ z) (picked (λ t. has_label t lts.arcs) (free_labels (labels lts) basis) x) ≡ map (λ z. b *ℤ z) (picked (λ t. has_label t lts.arcs) (free_labels (labels lts) basis) y)
@@ -292,13 +262,11 @@ columns_times lts basis class a b first other x y start same = go (has_start cla
     go false = rest
 
 -- a row is met over the scale exactly where it is over a multiple
-row_over : (row : LinearRow) (xs ys : List ℤ) (a b : ℤ) → pos 0 <ℤ a → pos 0 <ℤ b → map (λ z. a *ℤ z) xs ≡ map (λ z. b *ℤ z) ys → pos 0 ≤ℤ (dot row.coeffs xs +ℤ (row.constant *ℤ b)) → pos 0 ≤ℤ (dot row.coeffs ys +ℤ (row.constant *ℤ a))
+row_over : (row : LinearRow) (xs ys : List ℤ) (a b : ℤ) → pos 0 <ℤ a → pos 0 <ℤ b → map (λ z. a *ℤ z) xs ≡ map (λ z. b *ℤ z) ys
+    → pos 0 ≤ℤ (dot row.coeffs xs +ℤ (row.constant *ℤ b)) → pos 0 ≤ℤ (dot row.coeffs ys +ℤ (row.constant *ℤ a))
 row_over row xs ys a b pa pb same met = factor_not_negative b (dot row.coeffs ys +ℤ (row.constant *ℤ a)) pb
     (subst (λ z. pos 0 ≤ℤ z) (spread a (dot row.coeffs xs) row.constant b ∙ ap (λ z. z +ℤ (row.constant *ℤ (a *ℤ b))) dots ∙ shut b (dot row.coeffs ys) row.constant a) (mul_not_negative a (dot row.coeffs xs +ℤ (row.constant *ℤ b)) (weak a pa) met))
   where
-    weak : (a : ℤ) → pos 0 <ℤ a → pos 0 ≤ℤ a
-    weak a p = omega (arith, ints)
-
     spread : (a s c b : ℤ) → a *ℤ (s +ℤ (c *ℤ b)) ≡ (a *ℤ s) +ℤ (c *ℤ (a *ℤ b))
     spread a s c b = simp ring
 
@@ -311,9 +279,10 @@ row_over row xs ys a b pa pb same met = factor_not_negative b (dot row.coeffs ys
 pub found_meets : (s : Setting) (case : CaseSystem) (found : List Ratio) (first : ℤ) (effect : ℕ → ℤ) (scale m : ℤ) → pos 0 <ℤ scale
     → AreEffects s.lts s.tree s.basis effect → AreFound s.lts found first effect scale m → MeetsCase s case first effect scale
     → MeetsCase s case (top_at found (labels s.lts)) (found_effect s.lts found) m
-found_meets s case found first effect scale m positive e f met k has = row_over k.row (column_values s.lts s.basis s.class first effect) (column_values s.lts s.basis s.class (top_at found (labels s.lts)) (found_effect s.lts found)) m scale f.positive positive
-    (columns_times s.lts s.basis s.class m scale first (top_at found (labels s.lts)) effect (found_effect s.lts found) (swap m first ∙ sym f.start_is ∙ swap (top_at found (labels s.lts)) scale) (λ t lt. over_both s.lts s.tree s.basis found first effect scale m t positive e f lt))
+found_meets s case found first effect scale m positive e f met k has =
+    let start = top_at found (labels s.lts) in
+    let other = found_effect s.lts found in
+    row_over k.row (column_values s.lts s.basis s.class first effect) (column_values s.lts s.basis s.class start other) m scale f.positive positive
+    (columns_times s.lts s.basis s.class m scale first start effect other (*ℤ_comm m first ∙ sym f.start_is ∙ *ℤ_comm start scale)
+    (over_both s.lts s.tree s.basis found first effect scale m positive e f))
     (met k has)
-  where
-    swap : (a b : ℤ) → a *ℤ b ≡ b *ℤ a
-    swap a b = simp ring

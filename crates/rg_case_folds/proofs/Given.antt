@@ -17,13 +17,16 @@ use Rattle.rg_case_folds.specs.Chords.{chord_system, IsBasis}
 use Rattle.rg_case_folds.specs.Rewriting.{has_label}
 use Rattle.rg_case_folds.proofs.Potentials.{own_potential}
 use Rattle.rg_case_folds.proofs.ChordRows.{effects_exact}
+use Rattle.std.proofs.Math.IntN.{*ℤ-zero}
 use Rattle.rg_case_folds.proofs.LeftOut.{finds_label}
 
 -- the numbers that the effects give along the tree are their own
-pub own_number : (lts : System) (tree : List Arc) (number effect : ℕ → ℤ) (q : ℕ) → IsInRange lts → IsAllReachable lts → IsTree lts tree → KeepsArcs lts number effect → q < states lts → number q ≡ potential lts tree (number lts.initial) effect q
+pub own_number : (lts : System) (tree : List Arc) (number effect : ℕ → ℤ) (q : ℕ) → IsInRange lts → IsAllReachable lts → IsTree lts tree → KeepsArcs lts number effect
+    → q < states lts → number q ≡ potential lts tree (number lts.initial) effect q
 own_number lts tree number effect q fine reached g keeps lt = own_potential lts tree number effect q fine g keeps (reached.each q lt)
 
-pub own_effects : (lts : System) (tree : List Arc) (basis : CycleBasis) (number effect : ℕ → ℤ) → IsInRange lts → IsAllReachable lts → IsTree lts tree → IsBasis lts tree basis → KeepsArcs lts number effect → FollowsRelations (chord_system lts tree basis.kept) basis.members effect
+pub own_effects : (lts : System) (tree : List Arc) (basis : CycleBasis) (number effect : ℕ → ℤ) → IsInRange lts → IsAllReachable lts → IsTree lts tree
+    → IsBasis lts tree basis → KeepsArcs lts number effect → FollowsRelations (chord_system lts tree basis.kept) basis.members effect
 own_effects lts tree basis number effect fine reached g is keeps = (effects_exact lts tree basis (number lts.initial) effect fine g is).0 along
   where
     along : KeepsArcs lts (potential lts tree (number lts.initial) effect) effect
@@ -36,7 +39,8 @@ own_effects lts tree basis number effect fine reached g is keeps = (effects_exac
 -- ---- labels without an arc
 
 -- a label without an arc may have any effect
-one_follows : (lts : System) (tree : List Arc) (basis : CycleBasis) (u : ℕ) → IsInRange lts → IsAllReachable lts → IsTree lts tree → IsBasis lts tree basis → has_label u lts.arcs ≡ false → FollowsRelations (chord_system lts tree basis.kept) basis.members (only u (pos 1))
+one_follows : (lts : System) (tree : List Arc) (basis : CycleBasis) (u : ℕ) → IsInRange lts → IsAllReachable lts → IsTree lts tree → IsBasis lts tree basis
+    → has_label u lts.arcs ≡ false → FollowsRelations (chord_system lts tree basis.kept) basis.members (only u (pos 1))
 one_follows lts tree basis u fine reached g is unused = own_effects lts tree basis (λ q. pos 0) (only u (pos 1)) fine reached g is kept
   where
     differs : (a : Arc) → Contains lts.arcs a → a.label ≢ u
@@ -49,9 +53,12 @@ one_follows lts tree basis u fine reached g is unused = own_effects lts tree bas
 relation_at : (lts : System) (tree : List Arc) (basis : CycleBasis) (t u : ℕ) → IsInRange lts → IsAllReachable lts → IsTree lts tree → IsBasis lts tree basis
     → t < labels lts → ¬ Contains basis.members t → u < labels lts → has_label u lts.arcs ≡ false
     → (basis.relation t).d *ℤ only u (pos 1) t ≡ (basis.relation t).coefficient u
-relation_at lts tree basis t u fine reached g is lt outside lt' unused = one_follows lts tree basis u fine reached g is unused t (basis.relation t) lt (is.relations t lt outside) ∙ sum_one (labels lts) u (basis.relation t).coefficient lt'
+relation_at lts tree basis t u fine reached g is lt outside lt' unused =
+    one_follows lts tree basis u fine reached g is unused t (basis.relation t) lt (is.relations t lt outside)
+    ∙ sum_one (labels lts) u (basis.relation t).coefficient lt'
 
-pub unused_is_free : (lts : System) (tree : List Arc) (basis : CycleBasis) (t : ℕ) → IsInRange lts → IsAllReachable lts → IsTree lts tree → IsBasis lts tree basis → t < labels lts → has_label t lts.arcs ≡ false → Contains basis.members t
+pub unused_is_free : (lts : System) (tree : List Arc) (basis : CycleBasis) (t : ℕ) → IsInRange lts → IsAllReachable lts → IsTree lts tree → IsBasis lts tree basis
+    → t < labels lts → has_label t lts.arcs ≡ false → Contains basis.members t
 unused_is_free lts tree basis t fine reached g is lt unused = ⊎_elim (λ has. has) (λ outside. absurd (impossible outside)) (is_member basis.members t)
   where
     one : (d k : ℤ) → d *ℤ pos 1 ≡ k → k ≡ pos 0 → pos 0 <ℤ d → ⊥
@@ -62,17 +69,16 @@ unused_is_free lts tree basis t fine reached g is lt unused = ⊎_elim (λ has. 
         let row = is.relations t lt outside in
         one (basis.relation t).d ((basis.relation t).coefficient t) (ap (λ b. (basis.relation t).d *ℤ (if b then pos 1 else pos 0)) (sym (eq-eqb t t refl)) ∙ relation_at lts tree basis t t fine reached g is lt outside lt unused) (row.over t outside) row.positive
 
-pub unused_is_unnamed : (lts : System) (tree : List Arc) (basis : CycleBasis) (t u : ℕ) → IsInRange lts → IsAllReachable lts → IsTree lts tree → IsBasis lts tree basis → u < labels lts → has_label u lts.arcs ≡ false → (basis.relation t).coefficient u ≡ pos 0
-unused_is_unnamed lts tree basis t u fine reached g is lt' unused = ⊎_elim (λ lt. ⊎_elim (λ has. none (is.others t (inr has))) (λ outside. named lt outside) (is_member basis.members t)) (λ le. none (is.others t (inl le))) (cases_lt t (labels lts))
+pub unused_is_unnamed : (lts : System) (tree : List Arc) (basis : CycleBasis) (t u : ℕ) → IsInRange lts → IsAllReachable lts → IsTree lts tree → IsBasis lts tree basis
+    → u < labels lts → has_label u lts.arcs ≡ false → (basis.relation t).coefficient u ≡ pos 0
+unused_is_unnamed lts tree basis t u fine reached g is lt' unused =
+    ⊎_elim (λ lt. ⊎_elim (λ has. none (is.others t (inr has))) (λ outside. named lt outside) (is_member basis.members t)) (λ le. none (is.others t (inl le))) (cases_lt t (labels lts))
   where
     none : basis.relation t ≡ no_relation → (basis.relation t).coefficient u ≡ pos 0
     none e = ap (λ (k : Relation). k.coefficient u) e
 
     zero_times : (d k : ℤ) → d *ℤ pos 0 ≡ k → k ≡ pos 0
-    zero_times d k p = sym p ∙ times_zero d
-      where
-        times_zero : (d : ℤ) → d *ℤ pos 0 ≡ pos 0
-        times_zero d = omega (arith, ints)
+    zero_times d k p = sym p ∙ *ℤ-zero d
 
     differs : ¬ Contains basis.members t → t ≢ u
     differs outside same = outside (subst (Contains basis.members) (sym same) (unused_is_free lts tree basis u fine reached g is lt' unused))

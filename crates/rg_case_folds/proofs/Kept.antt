@@ -1,5 +1,5 @@
 -- Numbers that keep all rows keep them with the effect 0 for labels without an arc.
-use Rattle.std.proofs.Common.{◌≡◌, ⊎_elim, ℕ, zero, suc, ◌<◌, ◌≤◌, true, false, if◌then◌else◌, [], unwrap_or, sym, ap, subst, ◌∙◌, arith}
+use Rattle.std.proofs.Common.{◌≡◌, ⊎_elim, ℕ, ◌<◌, ◌≤◌, true, false, if◌then◌else◌, sym, ap, subst, ◌∙◌, arith}
 use Rattle.std.specs.Prelude.{ℤ, pos, negsuc, ◌+ℤ◌, ◌*ℤ◌, ◌≤ℤ◌, ◌<ℤ◌}
 use Rattle.std.proofs.lemmas.Int.{ints}
 use Rattle.std.proofs.lemmas.Bool.{true≢false, cases_Bool, cases_lt}
@@ -10,9 +10,6 @@ use Rattle.rg_theory.specs.System.{arc, System, IsInRange, states, HasArc}
 use Rattle.rg_theory.specs.Tree.{KeepsArcs}
 use Rattle.rg_theory.proofs.Arcs.{arc_in_range}
 use Rattle.rg_cert_meaning.specs.declared.Variable.{Variable}
-use Rattle.rg_cert_meaning.specs.declared.RowName.{RowName}
-use Rattle.rg_cert_meaning.specs.Row.{SharedStands, RowStands}
-use Rattle.rg_cert_meaning.specs.Row.{shared_expression, apart_expression, order_of, consumer_of, Says}
 use Rattle.rg_cert_meaning.specs.Refutes.{IsSeparationProblem}
 use Rattle.rg_linear.specs.Cycle.{FollowsRelations}
 use Rattle.rg_case_folds.specs.Setting.{CaseSetting}
@@ -21,17 +18,20 @@ use Rattle.rg_case_folds.specs.Chords.{chord_system}
 use Rattle.rg_case_folds.specs.Rewriting.{has_label, has_start, CaseSystem}
 use Rattle.rg_case_folds.specs.Values.{numbers_along}
 use Rattle.rg_case_folds.specs.Shown.{IsLive}
-use Rattle.rg_case_folds.specs.Meaning.{value_over, RowHolds, KeepsRowsOver, IsCaseOver, AreEffects, MeetsCase, AgreeOnUsed, used_effect}
+use Rattle.rg_case_folds.specs.Meaning.{KeepsRowsOver, IsCaseOver, AreEffects, MeetsCase, AgreeOnUsed, used_effect}
 use Rattle.rg_case_folds.proofs.LeftOut.{finds_label}
 use Rattle.rg_case_folds.proofs.Along.{number_past}
 use Rattle.rg_case_folds.proofs.Given.{own_number, own_effects}
-use Rattle.rg_case_folds.proofs.CaseRows.{tokens_row_holds}
+use Rattle.rg_case_folds.proofs.CaseRows.{kept_tokens}
+use Rattle.rg_case_folds.proofs.RowKinds.{CarriesEachKind, effect_constant, carries_rows}
+use Rattle.rg_integers.proofs.Order.{mul_not_negative}
 use Rattle.rg_case_folds.proofs.CaseMeaning.{start_means, no_start_means}
 use Rattle.rg_cert_meaning.specs.declared.RowName.TheVariants as row_name
 use Rattle.rg_cert_meaning.specs.declared.Variable.TheVariants.{Tokens, Effect}
 
 -- the numbers keep every arc
-pub arc_value : (lts : System) (class : Class) (problem : Problem) (number : ℕ) (scale : ℤ) (x : Variable → ℤ) (q t q' : ℕ) → KeepsRowsOver lts class problem number scale x → HasArc lts q t q' → x (Tokens q) +ℤ x (Effect t) ≡ x (Tokens q')
+pub arc_value : (lts : System) (class : Class) (problem : Problem) (number : ℕ) (scale : ℤ) (x : Variable → ℤ) (q t q' : ℕ)
+    → KeepsRowsOver lts class problem number scale x → HasArc lts q t q' → x (Tokens q) +ℤ x (Effect t) ≡ x (Tokens q')
 arc_value lts class problem number scale x q t q' keeps has = close (x (Tokens q)) (x (Effect t)) (x (Tokens q')) scale (by problem keeps)
   where
     by : (p : Problem) → KeepsRowsOver lts class p number scale x → ((pos 1 *ℤ x (Tokens q)) +ℤ ((pos 1 *ℤ x (Effect t)) +ℤ ((negsuc 0 *ℤ x (Tokens q')) +ℤ pos 0))) +ℤ (pos 0 *ℤ scale) ≡ pos 0
@@ -41,18 +41,23 @@ arc_value lts class problem number scale x q t q' keeps has = close (x (Tokens q
     close : (a e b k : ℤ) → ((pos 1 *ℤ a) +ℤ ((pos 1 *ℤ e) +ℤ ((negsuc 0 *ℤ b) +ℤ pos 0))) +ℤ (pos 0 *ℤ k) ≡ pos 0 → a +ℤ e ≡ b
     close a e b k p = omega (arith, ints)
 
-keeps_arcs : (lts : System) (class : Class) (problem : Problem) (number : ℕ) (scale : ℤ) (x : Variable → ℤ) (effect : ℕ → ℤ) → KeepsRowsOver lts class problem number scale x → AgreeOnUsed lts x effect → KeepsArcs lts (λ q. x (Tokens q)) effect
-keeps_arcs lts class problem number scale x effect keeps agree a has = ap (λ z. x (Tokens a.from) +ℤ z) (agree a.label (finds_label a lts.arcs has)) ∙ arc_value lts class problem number scale x a.from a.label a.to keeps has
+keeps_arcs : (lts : System) (class : Class) (problem : Problem) (number : ℕ) (scale : ℤ) (x : Variable → ℤ) (effect : ℕ → ℤ)
+    → KeepsRowsOver lts class problem number scale x → AgreeOnUsed lts x effect → KeepsArcs lts (λ q. x (Tokens q)) effect
+keeps_arcs lts class problem number scale x effect keeps agree a has =
+    ap (λ z. x (Tokens a.from) +ℤ z) (agree a.label (finds_label a lts.arcs has))
+    ∙ arc_value lts class problem number scale x a.from a.label a.to keeps has
 
 pub follow_given : (s : CaseSetting) (case : CaseSystem) (x : Variable → ℤ) (effect : ℕ → ℤ) (scale : ℤ) → IsCaseOver s case
     → KeepsRowsOver s.lts s.class s.problem s.number scale x → AgreeOnUsed s.lts x effect
     → FollowsRelations (chord_system s.lts s.tree s.basis.kept) s.basis.members effect
-follow_given s case x effect scale c keeps agree = own_effects s.lts s.tree s.basis (λ q. x (Tokens q)) effect c.in_range c.reachable c.is_tree c.is_basis (keeps_arcs s.lts s.class s.problem s.number scale x effect keeps agree)
+follow_given s case x effect scale c keeps agree =
+    own_effects s.lts s.tree s.basis (λ q. x (Tokens q)) effect c.in_range c.reachable c.is_tree c.is_basis (keeps_arcs s.lts s.class s.problem s.number scale x effect keeps agree)
 
 pub numbers_given : (s : CaseSetting) (case : CaseSystem) (x : Variable → ℤ) (effect : ℕ → ℤ) (scale : ℤ) (q : ℕ) → IsCaseOver s case
     → KeepsRowsOver s.lts s.class s.problem s.number scale x → AgreeOnUsed s.lts x effect → q < states s.lts
     → x (Tokens q) ≡ potential s.lts s.tree (x (Tokens s.lts.initial)) effect q
-numbers_given s case x effect scale q c keeps agree lt = own_number s.lts s.tree (λ q. x (Tokens q)) effect q c.in_range c.reachable c.is_tree (keeps_arcs s.lts s.class s.problem s.number scale x effect keeps agree) lt
+numbers_given s case x effect scale q c keeps agree lt =
+    own_number s.lts s.tree (λ q. x (Tokens q)) effect q c.in_range c.reachable c.is_tree (keeps_arcs s.lts s.class s.problem s.number scale x effect keeps agree) lt
 
 pub used_agrees : (lts : System) (x : Variable → ℤ) → AgreeOnUsed lts x (used_effect lts x)
 used_agrees lts x t e = ap (λ b. if b then x (Effect t) else pos 0) e
@@ -78,80 +83,59 @@ record SameUsed (lts : System) (x y : Variable → ℤ) : Type 0 where
 pub live_label : (lts : System) (t : ℕ) → ¬ ((s s' : ℕ) → ¬ HasArc lts s t s') → has_label t lts.arcs ≡ true
 live_label lts t live = ⊎_elim (λ e. e) (λ e. absurd (live (λ s s' has. true≢false (sym (finds_label (record { from = s; label = t; to = s' }) lts.arcs has) ∙ e)))) (cases_Bool (has_label t lts.arcs))
 
-tokens_stay : (lts : System) (class : Class) (problem : Problem) (number : ℕ) (scale : ℤ) (x y : Variable → ℤ) (q : ℕ) → lts.initial < states lts → SameUsed lts x y → KeepsRowsOver lts class problem number scale x → pos 0 ≤ℤ y (Tokens q)
-tokens_stay lts class problem number scale x y q initial same keeps = ⊎_elim (λ lt. subst (λ z. pos 0 ≤ℤ z) (same.tokens q lt) (at q)) (λ le. subst (λ z. pos 0 ≤ℤ z) (sym (same.past q le)) (at lts.initial)) (cases_lt q (states lts))
-  where
-    at : (r : ℕ) → pos 0 ≤ℤ x (Tokens r)
-    at r = (tokens_row_holds lts class problem number scale x r).1 (keeps (row_name.Tokens r) (stand problem))
-      where
-        stand : (p : Problem) → RowStands lts class p number [] (row_name.Tokens r)
-        stand (Event s t) = tt
-        stand (States s s') = tt
-
 -- ---- rows of one and of two terms
 
 one_term : (c k a b : ℤ) → a ≡ b → pos 0 ≤ℤ (((c *ℤ a) +ℤ pos 0) +ℤ k) → pos 0 ≤ℤ (((c *ℤ b) +ℤ pos 0) +ℤ k)
 one_term c k a b p h = subst (λ z. pos 0 ≤ℤ (((c *ℤ z) +ℤ pos 0) +ℤ k)) p h
 
 two_terms : (c d k a b e f : ℤ) → a ≡ b → e ≡ f → pos 0 ≤ℤ (((c *ℤ a) +ℤ ((d *ℤ e) +ℤ pos 0)) +ℤ k) → pos 0 ≤ℤ (((c *ℤ b) +ℤ ((d *ℤ f) +ℤ pos 0)) +ℤ k)
-two_terms c d k a b e f p q h = subst (λ z. pos 0 ≤ℤ (((c *ℤ b) +ℤ ((d *ℤ z) +ℤ pos 0)) +ℤ k)) q (subst (λ z. pos 0 ≤ℤ (((c *ℤ z) +ℤ ((d *ℤ e) +ℤ pos 0)) +ℤ k)) p h)
+two_terms c d k a b e f p q h =
+    subst (λ z. pos 0 ≤ℤ (((c *ℤ b) +ℤ ((d *ℤ z) +ℤ pos 0)) +ℤ k)) q (subst (λ z. pos 0 ≤ℤ (((c *ℤ z) +ℤ ((d *ℤ e) +ℤ pos 0)) +ℤ k)) p h)
 
-arc_terms : (k a b e f m n : ℤ) → a ≡ b → e ≡ f → m ≡ n → ((pos 1 *ℤ a) +ℤ ((pos 1 *ℤ e) +ℤ ((negsuc 0 *ℤ m) +ℤ pos 0))) +ℤ k ≡ pos 0 → ((pos 1 *ℤ b) +ℤ ((pos 1 *ℤ f) +ℤ ((negsuc 0 *ℤ n) +ℤ pos 0))) +ℤ k ≡ pos 0
+arc_terms : (k a b e f m n : ℤ) → a ≡ b → e ≡ f → m ≡ n → ((pos 1 *ℤ a) +ℤ ((pos 1 *ℤ e) +ℤ ((negsuc 0 *ℤ m) +ℤ pos 0))) +ℤ k ≡ pos 0
+    → ((pos 1 *ℤ b) +ℤ ((pos 1 *ℤ f) +ℤ ((negsuc 0 *ℤ n) +ℤ pos 0))) +ℤ k ≡ pos 0
 arc_terms k a b e f m n p q r h = omega (arith, ints)
 
 -- ---- each row
 
-effect_stays : (lts : System) (c k : ℤ) (x y : Variable → ℤ) (t : ℕ) → SameUsed lts x y → pos 0 ≤ℤ k → pos 0 ≤ℤ (((c *ℤ x (Effect t)) +ℤ pos 0) +ℤ k) → pos 0 ≤ℤ (((c *ℤ y (Effect t)) +ℤ pos 0) +ℤ k)
-effect_stays lts c k x y t same weak h = ⊎_elim (λ e. one_term c k (x (Effect t)) (y (Effect t)) (same.used t e) h) (λ e. subst (λ z. pos 0 ≤ℤ (((c *ℤ z) +ℤ pos 0) +ℤ k)) (sym (same.unused t e)) (none c k weak)) (cases_Bool (has_label t lts.arcs))
-  where
-    none : (c k : ℤ) → pos 0 ≤ℤ k → pos 0 ≤ℤ (((c *ℤ pos 0) +ℤ pos 0) +ℤ k)
-    none c k h = omega (arith, ints)
+module _ (lts : System) (class : Class) (problem : Problem) (number : ℕ) (scale : ℤ) (x y : Variable → ℤ) (fine : IsInRange lts)
+    (asked : IsSeparationProblem lts problem) (live : IsLive lts problem) (same : SameUsed lts x y) (positive : pos 0 <ℤ scale)
+    (keeps : KeepsRowsOver lts class problem number scale x) where
+  tokens_stay : (q : ℕ) → pos 0 ≤ℤ y (Tokens q)
+  tokens_stay q = ⊎_elim
+      (λ lt. subst (λ z. pos 0 ≤ℤ z) (same.tokens q lt) (kept_tokens lts class problem number scale x keeps q))
+      (λ le. subst (λ z. pos 0 ≤ℤ z) (sym (same.past q le)) (kept_tokens lts class problem number scale x keeps lts.initial))
+      (cases_lt q (states lts))
 
-shared_stays : (lts : System) (class : Class) (consumer : ℕ) (scale : ℤ) (x y : Variable → ℤ) (name : RowName) → IsInRange lts → SameUsed lts x y → pos 0 <ℤ scale
-    → ((q : ℕ) → pos 0 ≤ℤ y (Tokens q)) → SharedStands lts class consumer [] name → Says name (value_over scale x (shared_expression lts class [] name))
-    → Says name (value_over scale y (shared_expression lts class [] name))
-shared_stays lts class consumer scale x y (row_name.Arc a) fine same positive tokens has h =
-    let ranges = arc_in_range lts fine a.from a.label a.to has in
-    arc_terms (pos 0 *ℤ scale) (x (Tokens a.from)) (y (Tokens a.from)) (x (Effect a.label)) (y (Effect a.label)) (x (Tokens a.to)) (y (Tokens a.to)) (same.tokens a.from ranges.0) (same.used a.label (finds_label a lts.arcs has)) (same.tokens a.to ranges.2) h
-shared_stays lts class consumer scale x y (row_name.Tokens q) fine same positive tokens stands h = let above = tokens q in omega (arith, ints)
-shared_stays lts class consumer scale x y (row_name.Cap q) fine same positive tokens (lt, some) h = one_term (negsuc 0) (pos (unwrap_or class.bound 0) *ℤ scale) (x (Tokens q)) (y (Tokens q)) (same.tokens q lt) h
-shared_stays lts class consumer scale x y (row_name.Up t) fine same positive tokens stands h = effect_stays lts (negsuc 0) (pos 1 *ℤ scale) x y t same (omega (arith, ints)) h
-shared_stays lts class consumer scale x y (row_name.Down t) fine same positive tokens stands h = effect_stays lts (pos 1) (pos 1 *ℤ scale) x y t same (omega (arith, ints)) h
-shared_stays lts class consumer scale x y (row_name.Makes t) fine same positive tokens stands h = effect_stays lts (pos 1) (pos 0 *ℤ scale) x y t same (omega (arith, ints)) h
-shared_stays lts class consumer scale x y (row_name.Above d) fine same positive tokens stands h = absurd stands
-shared_stays lts class consumer scale x y (row_name.Stop q) fine same positive tokens stands h = absurd stands
-shared_stays lts class consumer scale x y row_name.Block fine same positive tokens stands h = absurd stands
-shared_stays lts class consumer scale x y row_name.Empty fine same positive tokens stands h = absurd stands
-shared_stays lts class consumer scale x y (row_name.Full q) fine same positive tokens stands h = absurd stands
-shared_stays lts class consumer scale x y row_name.Keep fine same positive tokens stands h = absurd stands
-shared_stays lts class consumer scale x y row_name.Apart fine same positive tokens stands h = absurd stands
+  own_row : (z k : ℤ) → pos 0 ≤ℤ z → pos 0 ≤ℤ (((pos 1 *ℤ z) +ℤ pos 0) +ℤ (pos 0 *ℤ k))
+  own_row z k h = omega (arith, ints)
 
-event_stays : (lts : System) (class : Class) (s t number : ℕ) (scale : ℤ) (x y : Variable → ℤ) (name : RowName) → IsInRange lts → s < states lts
-    → has_label t lts.arcs ≡ true → SameUsed lts x y → pos 0 <ℤ scale → ((q : ℕ) → pos 0 ≤ℤ y (Tokens q)) → RowStands lts class (Event s t) number [] name
-    → RowHolds lts class (Event s t) number scale x name → RowHolds lts class (Event s t) number scale y name
-event_stays lts class s t number scale x y (row_name.Stop q) fine lt live same positive tokens (pure, plain, (q', has)) h = two_terms (pos 1) (negsuc 0) (negsuc 0 *ℤ scale)
-    (x (Tokens q)) (y (Tokens q)) (x (Tokens s)) (y (Tokens s)) (same.tokens q (arc_in_range lts fine q t q' has).0) (same.tokens s lt) h
-event_stays lts class s t number scale x y row_name.Block fine lt live same positive tokens stands h = two_terms (negsuc 0) (negsuc 0) (negsuc 0 *ℤ scale) (x (Tokens s)) (y (Tokens s)) (x (Effect t)) (y (Effect t)) (same.tokens s lt) (same.used t live) h
-event_stays lts class s t number scale x y row_name.Empty fine lt live same positive tokens stands h = one_term (negsuc 0) (pos 0 *ℤ scale) (x (Tokens s)) (y (Tokens s)) (same.tokens s lt) h
-event_stays lts class s t number scale x y (row_name.Full q) fine lt live same positive tokens (plain, pure, (q', has)) h = one_term (pos 1) (negsuc 0 *ℤ scale) (x (Tokens q)) (y (Tokens q)) (same.tokens q (arc_in_range lts fine q t q' has).0) h
-event_stays lts class s t number scale x y row_name.Keep fine lt live same positive tokens stands h = one_term (negsuc 0) (pos 0 *ℤ scale) (x (Effect t)) (y (Effect t)) (same.used t live) h
-event_stays lts class s t number scale x y name fine lt live same positive tokens stands h = shared_stays lts class t scale x y name fine same positive tokens stands h
+  none : (c k : ℤ) → pos 0 ≤ℤ k → pos 0 ≤ℤ (((c *ℤ pos 0) +ℤ pos 0) +ℤ k)
+  none c k h = omega (arith, ints)
 
-apart_stays : (lts : System) (s s' order : ℕ) (scale : ℤ) (x y : Variable → ℤ) → s < states lts → s' < states lts → SameUsed lts x y → pos 0 ≤ℤ value_over scale x (apart_expression s s' order) → pos 0 ≤ℤ value_over scale y (apart_expression s s' order)
-apart_stays lts s s' zero scale x y lt lt' same h = two_terms (pos 1) (negsuc 0) (negsuc 0 *ℤ scale) (x (Tokens s')) (y (Tokens s')) (x (Tokens s)) (y (Tokens s)) (same.tokens s' lt') (same.tokens s lt) h
-apart_stays lts s s' (suc order) scale x y lt lt' same h = two_terms (pos 1) (negsuc 0) (negsuc 0 *ℤ scale) (x (Tokens s)) (y (Tokens s)) (x (Tokens s')) (y (Tokens s')) (same.tokens s lt) (same.tokens s' lt') h
+  effect_stays : (c k : ℤ) (t : ℕ) → pos 0 ≤ℤ k → pos 0 ≤ℤ (((c *ℤ x (Effect t)) +ℤ pos 0) +ℤ k) → pos 0 ≤ℤ (((c *ℤ y (Effect t)) +ℤ pos 0) +ℤ k)
+  effect_stays c k t weak h = ⊎_elim
+      (λ e. one_term c k (x (Effect t)) (y (Effect t)) (same.used t e) h)
+      (λ e. subst (λ z. pos 0 ≤ℤ (((c *ℤ z) +ℤ pos 0) +ℤ k)) (sym (same.unused t e)) (none c k weak))
+      (cases_Bool (has_label t lts.arcs))
 
-state_stays : (lts : System) (class : Class) (s s' number : ℕ) (scale : ℤ) (x y : Variable → ℤ) (name : RowName) → IsInRange lts → s < states lts → s' < states lts
-    → SameUsed lts x y → pos 0 <ℤ scale → ((q : ℕ) → pos 0 ≤ℤ y (Tokens q)) → RowStands lts class (States s s') number [] name
-    → RowHolds lts class (States s s') number scale x name → RowHolds lts class (States s s') number scale y name
-state_stays lts class s s' number scale x y row_name.Apart fine lt lt' same positive tokens stands h = apart_stays lts s s' (order_of lts class number) scale x y lt lt' same h
-state_stays lts class s s' number scale x y name fine lt lt' same positive tokens stands h = shared_stays lts class (consumer_of lts number) scale x y name fine same positive tokens stands h
+  kinds : CarriesEachKind lts class problem scale scale x y
+  kinds = record {
+    arc = λ a has h. (let ranges = arc_in_range lts fine a.from a.label a.to has in
+        arc_terms (pos 0 *ℤ scale) (x (Tokens a.from)) (y (Tokens a.from)) (x (Effect a.label)) (y (Effect a.label)) (x (Tokens a.to)) (y (Tokens a.to))
+        (same.tokens a.from ranges.0) (same.used a.label (finds_label a lts.arcs has)) (same.tokens a.to ranges.2) h);
+    tokens = λ q h. own_row (y (Tokens q)) scale (tokens_stay q);
+    effect = λ t k c label constant h. effect_stays k (c *ℤ scale) t (mul_not_negative c scale (effect_constant class c constant) (omega (arith, ints))) h;
+    most = λ q c state constant h. one_term (negsuc 0) (c *ℤ scale) (x (Tokens q)) (y (Tokens q)) (same.tokens q (state fine asked)) h;
+    full = λ q state event plain impure h. one_term (pos 1) (negsuc 0 *ℤ scale) (x (Tokens q)) (y (Tokens q)) (same.tokens q (state fine asked)) h;
+    apart = λ q r state state' h. two_terms (pos 1) (negsuc 0) (negsuc 0 *ℤ scale) (x (Tokens q)) (y (Tokens q)) (x (Tokens r)) (y (Tokens r))
+        (same.tokens q (state fine asked)) (same.tokens r (state' fine asked)) h;
+    block = λ s t event state label used pure h. two_terms (negsuc 0) (negsuc 0) (negsuc 0 *ℤ scale) (x (Tokens s)) (y (Tokens s)) (x (Effect t)) (y (Effect t))
+        (same.tokens s (state fine asked)) (same.used t (live_label lts t (used live))) h;
+  }
 
-rows_stay : (lts : System) (class : Class) (problem : Problem) (number : ℕ) (scale : ℤ) (x y : Variable → ℤ) → IsInRange lts → IsSeparationProblem lts problem
-    → IsLive lts problem → SameUsed lts x y → pos 0 <ℤ scale → KeepsRowsOver lts class problem number scale x → KeepsRowsOver lts class problem number scale y
-rows_stay lts class (Event s t) number scale x y fine (lt, _, _) live same positive keeps name stands = event_stays lts class s t number scale x y name fine lt
-    (live_label lts t live) same positive (λ q. tokens_stay lts class (Event s t) number scale x y q fine.initial same keeps) stands (keeps name stands)
-rows_stay lts class (States s s') number scale x y fine (lt, lt', _) live same positive keeps name stands = state_stays lts class s s' number scale x y name fine lt lt' same positive (λ q. tokens_stay lts class (States s s') number scale x y q fine.initial same keeps) stands (keeps name stands)
+  rows_stay : KeepsRowsOver lts class problem number scale y
+  rows_stay = carries_rows scale scale x y lts class problem number kinds keeps
 
 pub rows_given : (s : CaseSetting) (case : CaseSystem) (x : Variable → ℤ) (scale : ℤ) → IsCaseOver s case → IsLive s.lts s.problem → pos 0 <ℤ scale
     → KeepsRowsOver s.lts s.class s.problem s.number scale x

@@ -46,3 +46,5 @@ pub mod WholeKept
 pub mod PlaceWeights
 pub mod Made
 pub mod PlacePoints
+pub mod RowKinds
+pub mod Products

@@ -1,9 +1,9 @@
 -- Members of lists made by maps, tests and conditions, and of joined lists.
-use Rattle.std.proofs.Common.{◌≡◌, ◌⊎◌, ⊎_elim, ℕ, zero, suc, ◌+◌, ◌<◌, ◌≤◌, Bool, true, false, if◌then◌else◌, List, [], ◌∷◌, ◌++◌, map, Contains, inl, inr, refl, sym, subst, ap, ◌∙◌, arith}
+use Rattle.std.proofs.Common.{◌≡◌, ◌⊎◌, ⊎_elim, ℕ, zero, suc, ◌+◌, ◌<◌, ◌≤◌, ◌==◌, Bool, true, false, if◌then◌else◌, List, [], ◌∷◌, ◌++◌, map, Contains, inl, inr, refl, sym, subst, ap, ◌∙◌, arith, eq-eqb}
 use Rattle.std.proofs.lemmas.Bool.{true≢false, cases_eq}
 use Rattle.std.proofs.lemmas.List.Elements.{Contains-append_left, Contains-append_right, Contains-append_cases}
 use Rattle.rg_theory.proofs.Lists.{Contains-cons_cases}
-use Rattle.rg_folds.specs.Substitution.{numbers_where}
+use Rattle.rg_folds.specs.Substitution.{is_in, numbers_where}
 
 pub nothing : {X : Type 0} (x : X) → Contains [] x → ⊥
 nothing x (k, lt, e) = omega arith
@@ -14,15 +14,33 @@ first x xs = (0, omega arith, refl)
 pub behind : {X : Type 0} (x y : X) (xs : List X) → Contains xs y → Contains (x ∷ xs) y
 behind x y xs (k, lt, e) = (suc k, omega arith, e)
 
+-- ---- the test whether a number is in a list
+
+pub has_in : (xs : List ℕ) (m : ℕ) → Contains xs m → is_in xs m ≡ true
+has_in [] m has = absurd (nothing m has)
+has_in (x ∷ xs) m has = ⊎_elim
+    (λ is. ap (λ b. if b then true else is_in xs m) (eq-eqb x m is))
+    (λ there. later (x == m) (has_in xs m there))
+    (Contains-cons_cases x m xs has)
+  where
+    later : (b : Bool) → is_in xs m ≡ true → (if b then true else is_in xs m) ≡ true
+    later true e = refl
+    later false e = e
+
+pub not_in : (xs : List ℕ) (m : ℕ) → is_in xs m ≡ false → Contains xs m → ⊥
+not_in xs m e has = true≢false (sym (has_in xs m has) ∙ e)
+
 -- ---- maps
 
 pub Contains-map : {X Y : Type 0} (f : X → Y) (xs : List X) (x : X) → Contains xs x → Contains (map f xs) (f x)
 Contains-map f [] x has = absurd (nothing x has)
-Contains-map f (y ∷ xs) x has = ⊎_elim (λ is. subst (λ z. Contains (f y ∷ map f xs) z) (ap f is) (first (f y) (map f xs))) (λ there. behind (f y) (f x) (map f xs) (Contains-map f xs x there)) (Contains-cons_cases y x xs has)
+Contains-map f (y ∷ xs) x has =
+    ⊎_elim (λ is. subst (λ z. Contains (f y ∷ map f xs) z) (ap f is) (first (f y) (map f xs))) (λ there. behind (f y) (f x) (map f xs) (Contains-map f xs x there)) (Contains-cons_cases y x xs has)
 
 pub Contains-of_map : {X Y : Type 0} (f : X → Y) (xs : List X) (y : Y) → Contains (map f xs) y → (x : X) × Contains xs x × (f x ≡ y)
 Contains-of_map f [] y has = absurd (nothing y has)
-Contains-of_map f (x ∷ xs) y has = ⊎_elim (λ is. (x, first x xs, is)) (λ there. (let (z, has', is) = Contains-of_map f xs y there in (z, behind x z xs has', is))) (Contains-cons_cases (f x) y (map f xs) has)
+Contains-of_map f (x ∷ xs) y has =
+    ⊎_elim (λ is. (x, first x xs, is)) (λ there. (let (z, has', is) = Contains-of_map f xs y there in (z, behind x z xs has', is))) (Contains-cons_cases (f x) y (map f xs) has)
 
 -- ---- numbers that pass a test
 
@@ -33,9 +51,13 @@ where_is test a (suc n) t has = go (test a) refl has (λ h. where_is test (suc a
     later : (test t ≡ true) × (suc a ≤ t) × (t < suc a + n) → (test t ≡ true) × (a ≤ t) × (t < a + suc n)
     later (e, le, lt) = (e, omega arith, omega arith)
 
-    go : (b : Bool) → test a ≡ b → Contains (if b then (a ∷ numbers_where test (suc a) n) else numbers_where test (suc a) n) t → (Contains (numbers_where test (suc a) n) t → (test t ≡ true) × (suc a ≤ t) × (t < suc a + n)) → (test t ≡ true) × (a ≤ t) × (t < a + suc n)
+    go : (b : Bool) → test a ≡ b → Contains (if b then (a ∷ numbers_where test (suc a) n) else numbers_where test (suc a) n) t
+        → (Contains (numbers_where test (suc a) n) t → (test t ≡ true) × (suc a ≤ t) × (t < suc a + n)) → (test t ≡ true) × (a ≤ t) × (t < a + suc n)
     go true e h next = ⊎_elim (λ is. (subst (λ x. test x ≡ true) is e, omega arith, omega arith)) (λ there. later (next there)) (Contains-cons_cases a t (numbers_where test (suc a) n) h)
     go false e h next = later (next h)
+
+pub where_contains : (test : ℕ → Bool) (a n t : ℕ) → Contains (numbers_where test a n) t → (test t ≡ true) × (t < a + n)
+where_contains test a n t has = let (e, _, lt) = where_is test a n t has in (e, lt)
 
 pub where_has : (test : ℕ → Bool) (a n t : ℕ) → test t ≡ true → a ≤ t → t < a + n → Contains (numbers_where test a n) t
 where_has test a zero t e le lt = absurd (omega arith)

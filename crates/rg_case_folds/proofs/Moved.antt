@@ -16,6 +16,7 @@ use Rattle.rg_case_folds.specs.Potentials.{potential}
 use Rattle.rg_case_folds.specs.Placing.{along_tree, lesser, least_from, least_of}
 use Rattle.rg_case_folds.proofs.Potentials.{counted, led_below}
 use Rattle.rg_case_folds.proofs.Lists.{nothing, first, behind}
+use Rattle.rg_case_folds.proofs.Products.{and_nothing, itself}
 use Rattle.rg_case_folds.proofs.Wholes.{add_whole}
 
 -- f is the whole number z, in range
@@ -28,7 +29,8 @@ along_is : (effect number out : ℕ → Ratio) (tree : List Arc) (way : ℕ → 
     → ((s : ℕ) → IsWholeAt (number s) (z +ℤ sum_over e (way s))) → along_tree effect number tree (Ok out) → (s : ℕ)
     → IsWholeAt (out s) (z +ℤ sum_over e (ways_from way tree s))
 along_is effect number out [] way z e whole_effects at made s = subst (λ (f : ℕ → Ratio). IsWholeAt (f s) (z +ℤ sum_over e (way s))) (sym made) (at s)
-along_is effect number out (a ∷ tree) way z e whole_effects at (m, added, rest) s = along_is effect (λ q. if q == a.to then m else number q) out tree (λ q. if q == a.to then (way a.from ++ a.label ∷ []) else way q) z e whole_effects next rest s
+along_is effect number out (a ∷ tree) way z e whole_effects at (m, added, rest) s =
+    along_is effect (λ q. if q == a.to then m else number q) out tree (λ q. if q == a.to then (way a.from ++ a.label ∷ []) else way q) z e whole_effects next rest s
   where
     joined : IsWholeAt m (z +ℤ sum_over e (way a.from ++ a.label ∷ []))
     joined =
@@ -51,12 +53,9 @@ pub along_gives : (lts : System) (tree : List Arc) (effect out : ℕ → Ratio) 
     → InRange z → ((t : ℕ) → effect t ≡ whole (e t)) → ((t : ℕ) → t < labels lts → e t ≡ e' t) → along_tree effect (λ q. whole z) tree (Ok out)
     → IsWholeAt (out s) (potential lts tree z e' s)
 along_gives lts tree effect out z e e' s fine g reached fits whole_effects same made =
-    let (is, in_range) = along_is effect (λ q. whole z) out tree (λ q. []) z e whole_effects (λ q. (ap whole (none z), subst InRange (none z) fits)) made s in
+    let (is, in_range) = along_is effect (λ q. whole z) out tree (λ q. []) z e whole_effects (λ q. (ap whole (and_nothing z), subst InRange (and_nothing z) fits)) made s in
     (is ∙ ap whole by_labels, subst InRange by_labels in_range)
   where
-    none : (z : ℤ) → z ≡ z +ℤ pos 0
-    none z = omega (arith, ints)
-
     by_labels : z +ℤ sum_over e (way_to tree s) ≡ potential lts tree z e' s
     by_labels = ap (λ y. z +ℤ y) (sym (counted (labels lts) e (way_to tree s) (led_below lts lts.initial (way_to tree s) s fine (way_leads lts tree s g reached)))
         ∙ sum_below-same (labels lts) (λ t. pos (count t (way_to tree s)) *ℤ e t) (λ t. pos (count t (way_to tree s)) *ℤ e' t)
@@ -82,19 +81,14 @@ lesser_is f g p q = go (int_lt (g.top *ℤ f.bottom) (f.top *ℤ g.bottom)) refl
         close : (x y : ℤ) → int_lt (y *ℤ pos 1) (x *ℤ pos 1) ≡ false → x ≤ℤ y
         close x y e = omega (arith, ints)
 
-    itself : (z : ℤ) → z ≤ℤ z
-    itself z = omega (arith, ints)
-
-    go : (b : Bool) → int_lt (g.top *ℤ f.bottom) (f.top *ℤ g.bottom) ≡ b → (((if b then g else f) ≡ f) ⊎ ((if b then g else f) ≡ g)) × ((if b then g else f).top ≤ℤ f.top) × ((if b then g else f).top ≤ℤ g.top)
+    go : (b : Bool) → int_lt (g.top *ℤ f.bottom) (f.top *ℤ g.bottom) ≡ b
+        → (((if b then g else f) ≡ f) ⊎ ((if b then g else f) ≡ g)) × ((if b then g else f).top ≤ℤ f.top) × ((if b then g else f).top ≤ℤ g.top)
     go true e = (inr refl, less e, itself g.top)
     go false e = (inl refl, itself f.top, not_less e)
 
 -- it is one of them, and none is less
 least_from_is : (f : Ratio) (rest : List Ratio) → AllWhole (f ∷ rest) → Contains (f ∷ rest) (least_from f rest) × ((r : Ratio) → Contains (f ∷ rest) r → (least_from f rest).top ≤ℤ r.top)
 least_from_is f [] all = ((0, omega arith, refl), λ r has. ⊎_elim (λ is. subst (λ (g : Ratio). f.top ≤ℤ g.top) is (itself f.top)) (λ there. absurd (nothing r there)) (Contains-cons_cases f r [] has))
-  where
-    itself : (z : ℤ) → z ≤ℤ z
-    itself z = omega (arith, ints)
 least_from_is f (g ∷ rest) all =
     let (is, below_f, below_g) = lesser_is f g (all f (first f (g ∷ rest))) (all g (behind f g (g ∷ rest) (first g rest))) in
     let one : (lesser f g).bottom ≡ pos 1 = ⊎_elim (λ e. subst (λ (r : Ratio). r.bottom ≡ pos 1) (sym e) (all f (first f (g ∷ rest)))) (λ e. subst (λ (r : Ratio). r.bottom ≡ pos 1) (sym e) (all g (behind f g (g ∷ rest) (first g rest)))) is in

@@ -14,9 +14,8 @@ use Rattle.rg_folds.specs.Substitution.{is_in}
 use Rattle.rg_case_folds.specs.Rewriting.{has_label, free_columns, has_start, CaseSystem}
 use Rattle.rg_case_folds.specs.Values.{column_values}
 use Rattle.rg_case_folds.specs.Meaning.{IsCaseOver, AreGivenBy, first_column}
-use Rattle.rg_case_folds.proofs.Lists.{where_has}
+use Rattle.rg_case_folds.proofs.Lists.{where_has, has_in}
 use Rattle.rg_case_folds.proofs.ColumnValues.{first_value, free_value, start_below, free_below}
-use Rattle.rg_case_folds.proofs.PointEffects.{has_in}
 
 same_column : (s : Setting) (case : CaseSystem) (v : ℕ → ℤ) (times start start' : ℤ) (effect effect' : ℕ → ℤ) (j : ℕ) → AreGivenBy s case v times start effect
     → AreGivenBy s case v times start' effect' → j < case.columns

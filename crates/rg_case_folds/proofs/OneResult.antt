@@ -67,10 +67,12 @@ divided_same name scaled constant (Ok k) (Ok k') (n, h) (n', h') = ap Ok (same_k
     g = same_divisor _ h.divisor h'.divisor h.greatest h'.greatest
 
     coeffs : k.row.coeffs ≡ k'.row.coeffs
-    coeffs = same_parts (pos (max h.divisor 1)) k.row.coeffs k'.row.coeffs (not_none h.divisor) (sym h.coeffs ∙ subst (λ d. scaled.numbers ≡ map (λ z. pos (max d 1) *ℤ z) k'.row.coeffs) (sym g) h'.coeffs)
+    coeffs =
+        same_parts (pos (max h.divisor 1)) k.row.coeffs k'.row.coeffs (not_none h.divisor) (sym h.coeffs ∙ subst (λ d. scaled.numbers ≡ map (λ z. pos (max d 1) *ℤ z) k'.row.coeffs) (sym g) h'.coeffs)
 
     constants : k.row.constant ≡ k'.row.constant
-    constants = mul-cancel_left (pos (max h.divisor 1)) k.row.constant k'.row.constant (not_none h.divisor) (sym h.constant ∙ subst (λ d. constant ≡ pos (max d 1) *ℤ k'.row.constant) (sym g) h'.constant)
+    constants =
+        mul-cancel_left (pos (max h.divisor 1)) k.row.constant k'.row.constant (not_none h.divisor) (sym h.constant ∙ subst (λ d. constant ≡ pos (max d 1) *ℤ k'.row.constant) (sym g) h'.constant)
 
     factors : k.factor ≡ k'.factor
     factors = ratio_one k.factor k'.factor scaled.multiple (pos (max h.divisor 1)) h.factor (subst (λ d. IsRatio k'.factor scaled.multiple (pos (max d 1))) (sym g) h'.factor)
@@ -81,7 +83,8 @@ pub divided_one : (name : RowName) (scaled : Scaled) (constant : ℤ) → IsOne 
 divided_one name scaled constant = record { one = divided_same name scaled constant }
 
 pub coefficient_one : (labels : ℕ) (basis : CycleBasis) (counts : ℕ → ℤ) (f : ℕ) → IsOne (coefficient_fold labels basis counts f)
-coefficient_one labels basis counts f = further_one add (dependent_term basis counts f) add_one (λ t. and_then_one _ _ (quotient_one _ _) (λ k. two_terms_one _ _ _ _)) (whole (counts f)) (dependent_labels labels basis)
+coefficient_one labels basis counts f =
+    further_one add (dependent_term basis counts f) add_one (λ t. and_then_one _ _ (quotient_one _ _) (λ k. two_terms_one _ _ _ _)) (whole (counts f)) (dependent_labels labels basis)
 
 pub substitute_one : (labels : ℕ) (basis : CycleBasis) (counts : ℕ → ℤ) → IsOne (substitute_fold labels basis counts)
 substitute_one labels basis counts = each_one (coefficient_fold labels basis counts) (coefficient_one labels basis counts) (free_labels labels basis)
@@ -156,7 +159,8 @@ addend_one (product x y) = term_one _
 
 pub tree_one : (expression : RowName → Expression) (rows : List NamedRow) (done : List ArcTimes) (arcs : List Arc) → IsOne (tree_fold expression rows done arcs)
 tree_one expression rows done [] = gives_one done
-tree_one expression rows done (a ∷ arcs) = and_then_one _ _ (joined_one whole_sum addend_fold (λ x y. term_one _) addend_one _ _) (λ m. tree_one expression rows (record { arc = a; multiplier = m } ∷ done) arcs)
+tree_one expression rows done (a ∷ arcs) =
+    and_then_one _ _ (joined_one whole_sum addend_fold (λ x y. term_one _) addend_one _ _) (λ m. tree_one expression rows (record { arc = a; multiplier = m } ∷ done) arcs)
 
 pub parts_same : (numbers : List ℤ) → Same (parts_of numbers)
 parts_same numbers (Ok xs) (Ok ys) h h' =

@@ -5,7 +5,7 @@ use Rattle.std.specs.Int.{IsGcd}
 use Rattle.std.proofs.lemmas.Int.{ints}
 use Rattle.rg_theory.specs.declared.Class.{Class}
 use Rattle.rg_theory.specs.System.{System, labels}
-use Rattle.rg_integers.proofs.Ring.{ring}
+use Rattle.rg_integers.proofs.Ring.{ring, neg-mul}
 use Rattle.rg_linear.specs.Cycle.{CycleBasis}
 use Rattle.rg_cert_meaning.specs.Expression.{plus, minus}
 use Rattle.rg_cert_meaning.specs.declared.Variable.{Variable}
@@ -30,13 +30,11 @@ negated_ratio f n d h = record {
     size z = omega (arith, ints)
 
     turn : (t d n b : ℤ) → t *ℤ d ≡ n *ℤ b → neg_ℤ t *ℤ d ≡ neg_ℤ n *ℤ b
-    turn t d n b e = outer t d ∙ ap neg_ℤ e ∙ sym (outer n b)
-      where
-        outer : (t d : ℤ) → neg_ℤ t *ℤ d ≡ neg_ℤ (t *ℤ d)
-        outer t d = simp ring
+    turn t d n b e = neg-mul t d ∙ ap neg_ℤ e ∙ sym (neg-mul n b)
 
 negated_product : (c : ℤ) (k p p' : Ratio) → mul (whole c) k (Ok p) → mul (whole (neg_ℤ c)) k (Ok p') → p' ≡ negated p
-negated_product c k p p' (_, _, is) (_, _, is') = ratio_one p' (negated p) (neg_ℤ c *ℤ k.top) (pos 1 *ℤ k.bottom) is' (subst (λ n. IsRatio (negated p) n (pos 1 *ℤ k.bottom)) (turn c k.top) (negated_ratio p (c *ℤ k.top) (pos 1 *ℤ k.bottom) is))
+negated_product c k p p' (_, _, is) (_, _, is') =
+    ratio_one p' (negated p) (neg_ℤ c *ℤ k.top) (pos 1 *ℤ k.bottom) is' (subst (λ n. IsRatio (negated p) n (pos 1 *ℤ k.bottom)) (turn c k.top) (negated_ratio p (c *ℤ k.top) (pos 1 *ℤ k.bottom) is))
   where
     turn : (c t : ℤ) → neg_ℤ (c *ℤ t) ≡ neg_ℤ c *ℤ t
     turn c t = simp ring
@@ -64,7 +62,8 @@ module _ (labels : ℕ) (basis : CycleBasis) (counts counts' : ℕ → ℤ) (opp
       (subst (λ (r : Ratio). mul (whole (neg_ℤ (counts t))) r (Ok p')) (ratio_one k' k ((basis.relation t).coefficient f) (basis.relation t).d is' is)
       (subst (λ c. mul (whole c) k' (Ok p')) (opposite t) product'))
 
-  negated_further : (f : ℕ) (ts : List ℕ) (s s' h h' : Ratio) → s' ≡ negated s → further add (dependent_term basis counts f) s ts (Ok h) → further add (dependent_term basis counts' f) s' ts (Ok h') → h' ≡ negated h
+  negated_further : (f : ℕ) (ts : List ℕ) (s s' h h' : Ratio) → s' ≡ negated s → further add (dependent_term basis counts f) s ts (Ok h)
+      → further add (dependent_term basis counts' f) s' ts (Ok h') → h' ≡ negated h
   negated_further f [] s s' h h' same e e' = e' ∙ same ∙ ap negated (sym e)
   negated_further f (t ∷ ts) s s' h h' same (p, made, (more, sum, rest)) (p', made', (more', sum', rest')) =
       negated_further f ts more more' h h' (negated_sum s p more more' sum (subst (λ (r : Ratio). add (negated s) r (Ok more')) (negated_term f t p p' made made') (subst (λ (r : Ratio). add r p' (Ok more')) same sum'))) rest rest'
@@ -74,7 +73,10 @@ module _ (labels : ℕ) (basis : CycleBasis) (counts counts' : ℕ → ℤ) (opp
 
   negated_all : (fs : List ℕ) (rs rs' : List Ratio) → each (coefficient_fold labels basis counts) fs (Ok rs) → each (coefficient_fold labels basis counts') fs (Ok rs') → rs' ≡ map negated rs
   negated_all [] rs rs' e e' = e' ∙ sym (ap (map negated) e)
-  negated_all (f ∷ fs) rs rs' (h, is, (rest, more, e)) (h', is', (rest', more', e')) = e' ∙ ap₂ ◌∷◌ (negated_coefficient f h h' is is') (negated_all fs rest rest' more more') ∙ sym (ap (map negated) e)
+  negated_all (f ∷ fs) rs rs' (h, is, (rest, more, e)) (h', is', (rest', more', e')) =
+      e'
+      ∙ ap₂ ◌∷◌ (negated_coefficient f h h' is is') (negated_all fs rest rest' more more')
+      ∙ sym (ap (map negated) e)
 
 -- ---- the denominators
 
@@ -89,7 +91,8 @@ bottoms_picked test (f ∷ fs) (r ∷ rs) = go (test f) (bottoms_picked test fs 
     go true e = ap (λ l. r.bottom ∷ l) e
     go false e = e
 
-bottoms_same : (lts : System) (basis : CycleBasis) (class : Class) (start start' : ℤ) (rs : List Ratio) → map (λ (r : Ratio). r.bottom) (columns_of lts basis class start' (map negated rs)) ≡ map (λ (r : Ratio). r.bottom) (columns_of lts basis class start rs)
+bottoms_same : (lts : System) (basis : CycleBasis) (class : Class) (start start' : ℤ) (rs : List Ratio)
+    → map (λ (r : Ratio). r.bottom) (columns_of lts basis class start' (map negated rs)) ≡ map (λ (r : Ratio). r.bottom) (columns_of lts basis class start rs)
 bottoms_same lts basis class start start' rs = go (has_start class)
   where
     go : (b : Bool) → map (λ (r : Ratio). r.bottom)

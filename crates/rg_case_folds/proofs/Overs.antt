@@ -11,7 +11,7 @@ use Rattle.rg_theory.proofs.Trees.{way_leads}
 use Rattle.rg_integers.specs.Range.{InRange}
 use Rattle.rg_integers.specs.Divisor.{int_gcd}
 use Rattle.rg_integers.specs.Sum.{sum_over}
-use Rattle.rg_integers.proofs.Ring.{ring}
+use Rattle.rg_integers.proofs.Ring.{ring, neg-mul}
 use Rattle.rg_integers.proofs.Order.{mul-cancel, mul_positive, positive_differs, quotient_positive}
 use Rattle.rg_integers.proofs.Divisors.{gcd_of-is, exact, int_gcd_positive}
 use Rattle.rg_integers.proofs.ListSums.{sum_over-append}
@@ -25,6 +25,8 @@ use Rattle.rg_case_folds.proofs.Scaling.{whole_ratio}
 use Rattle.rg_case_folds.proofs.Potentials.{counted, led_below}
 use Rattle.rg_case_folds.proofs.Lists.{nothing, first, behind}
 use Rattle.rg_case_folds.specs.Places.{IsReduced}
+use Rattle.rg_case_folds.proofs.Products.{mul_rotate, weak, and_nothing, itself}
+use Rattle.std.proofs.Math.IntN.{*ℤ_comm}
 use Rattle.rg_case_folds.proofs.Found.{IsOverAt}
 
 -- ---- reduced numbers
@@ -38,11 +40,8 @@ whole_over k z r positive (over, bottom) reduced = ratio_one r (whole z) (z *ℤ
     (record { nonzero = positive_differs r.bottom bottom; positive = bottom; reduced = reduced; value = ap (λ t. t *ℤ r.bottom) top })
     (whole_ratio z (z *ℤ r.bottom) r.bottom (positive_differs r.bottom bottom) refl)
   where
-    turn : (k z b : ℤ) → (k *ℤ z) *ℤ b ≡ (z *ℤ b) *ℤ k
-    turn k z b = simp ring
-
     top : r.top ≡ z *ℤ r.bottom
-    top = mul-cancel r.top (z *ℤ r.bottom) k (positive_differs k positive) (over ∙ turn k z r.bottom)
+    top = mul-cancel r.top (z *ℤ r.bottom) k (positive_differs k positive) (over ∙ mul_rotate k z r.bottom)
 
 -- what a sum is, where it is a whole number
 pub sum_in_range : (f g : Ratio) (z : ℤ) → pos 0 <ℤ f.bottom → pos 0 <ℤ g.bottom → add f g (Ok (whole z)) → InRange z
@@ -59,14 +58,12 @@ sum_in_range f g z pf pg (top, bottom, is) = smaller z ((int_div f.bottom (int_g
     gcd_positive : pos 0 <ℤ int_gcd f.bottom g.bottom
     gcd_positive = int_gcd_positive f.bottom g.bottom (positive_differs g.bottom pg)
 
-    weak : (z : ℤ) → pos 0 <ℤ z → pos 0 ≤ℤ z
-    weak z h = omega (arith, ints)
-
     part : pos 0 <ℤ int_div f.bottom (int_gcd f.bottom g.bottom)
     part = quotient_positive (int_div f.bottom (int_gcd f.bottom g.bottom)) (int_gcd f.bottom g.bottom) f.bottom (weak _ gcd_positive) (sym divides) pf
 
     close : (z d e t u G : ℤ) (d' e' : ℤ) → G ≢ pos 0 → d ≡ d' *ℤ G → e ≡ e' *ℤ G → z *ℤ (d *ℤ e) ≡ ((t *ℤ e) +ℤ (u *ℤ d)) *ℤ pos 1 → z *ℤ (d' *ℤ e) ≡ (t *ℤ e') -ℤ (neg_ℤ u *ℤ d')
-    close z d e t u G d' e' ne p q v = mul-cancel (z *ℤ (d' *ℤ e)) ((t *ℤ e') -ℤ (neg_ℤ u *ℤ d')) G ne (left z d' e G ∙ ap (λ y. z *ℤ (y *ℤ e)) (sym p) ∙ v ∙ ap₂ (λ a b. ((t *ℤ a) +ℤ (u *ℤ b)) *ℤ pos 1) q p ∙ right t u d' e' G)
+    close z d e t u G d' e' ne p q v =
+        mul-cancel (z *ℤ (d' *ℤ e)) ((t *ℤ e') -ℤ (neg_ℤ u *ℤ d')) G ne (left z d' e G ∙ ap (λ y. z *ℤ (y *ℤ e)) (sym p) ∙ v ∙ ap₂ (λ a b. ((t *ℤ a) +ℤ (u *ℤ b)) *ℤ pos 1) q p ∙ right t u d' e' G)
       where
         left : (z d' e G : ℤ) → (z *ℤ (d' *ℤ e)) *ℤ G ≡ z *ℤ ((d' *ℤ G) *ℤ e)
         left z d' e G = simp ring
@@ -125,12 +122,9 @@ pub along_gives_over : (lts : System) (tree : List Arc) (k : ℤ) (effect out : 
     → IsReachable lts s → ((a : Arc) → Contains tree a → IsOverAt k (effect a.label) (e a.label)) → IsOverAt k start z → IsReduced start
     → along_tree effect (λ q. start) tree (Ok out) → IsOverAt k (out s) (potential lts tree z e s) × IsReduced (out s)
 along_gives_over lts tree k effect out start z e s fine g reached overs at reduced made =
-    let (over, is_reduced) = along_over k effect (λ q. start) out tree (λ q. []) z e overs (λ q. subst (IsOverAt k start) (none z) at) (λ q. reduced) made s in
+    let (over, is_reduced) = along_over k effect (λ q. start) out tree (λ q. []) z e overs (λ q. subst (IsOverAt k start) (and_nothing z) at) (λ q. reduced) made s in
     (subst (IsOverAt k (out s)) by_labels over, is_reduced)
   where
-    none : (z : ℤ) → z ≡ z +ℤ pos 0
-    none z = omega (arith, ints)
-
     by_labels : z +ℤ sum_over e (way_to tree s) ≡ potential lts tree z e s
     by_labels = ap (λ y. z +ℤ y) (sym (counted (labels lts) e (way_to tree s) (led_below lts lts.initial (way_to tree s) s fine (way_leads lts tree s g reached))))
 
@@ -140,10 +134,7 @@ pub opposite_over : (k z : ℤ) (r : Ratio) → IsOverAt k r z → IsOverAt k (n
 opposite_over k z r (over, bottom) = (turn r.top k z r.bottom over, bottom)
   where
     turn : (t k z b : ℤ) → t *ℤ k ≡ z *ℤ b → neg_ℤ t *ℤ k ≡ neg_ℤ z *ℤ b
-    turn t k z b e = outer t k ∙ ap neg_ℤ e ∙ sym (outer z b)
-      where
-        outer : (t k : ℤ) → neg_ℤ t *ℤ k ≡ neg_ℤ (t *ℤ k)
-        outer t k = simp ring
+    turn t k z b e = neg-mul t k ∙ ap neg_ℤ e ∙ sym (neg-mul z b)
 
 -- a number that is not less has not the lesser value
 order_over : (k a b : ℤ) (f g : Ratio) → pos 0 <ℤ k → IsOverAt k f a → IsOverAt k g b → (f.top *ℤ g.bottom) ≤ℤ (g.top *ℤ f.bottom) → a ≤ℤ b
@@ -152,23 +143,17 @@ order_over k a b f g positive (of_f, pf) (of_g, pg) le = by_lt_z b a (λ less. a
     turn : (t k c : ℤ) → (t *ℤ c) *ℤ k ≡ (t *ℤ k) *ℤ c
     turn t k c = simp ring
 
-    both : (a b c : ℤ) → (a *ℤ b) *ℤ c ≡ (b *ℤ c) *ℤ a
-    both a b c = simp ring
-
     both' : (b c a : ℤ) → (b *ℤ c) *ℤ a ≡ (a *ℤ c) *ℤ b
     both' b c a = simp ring
 
     f_is : (f.top *ℤ g.bottom) *ℤ k ≡ (f.bottom *ℤ g.bottom) *ℤ a
-    f_is = turn f.top k g.bottom ∙ ap (λ z. z *ℤ g.bottom) of_f ∙ both a f.bottom g.bottom
+    f_is = turn f.top k g.bottom ∙ ap (λ z. z *ℤ g.bottom) of_f ∙ mul_rotate a f.bottom g.bottom
 
     g_is : (g.top *ℤ f.bottom) *ℤ k ≡ (f.bottom *ℤ g.bottom) *ℤ b
     g_is = turn g.top k f.bottom ∙ ap (λ z. z *ℤ f.bottom) of_g ∙ both' b g.bottom f.bottom
 
     times : (x y k : ℤ) → pos 0 <ℤ k → x ≤ℤ y → (x *ℤ k) ≤ℤ (y *ℤ k)
-    times x y k h le = let m = positive_times_most k x y h le in let p = swap k x in let q = swap k y in omega (arith, ints)
-      where
-        swap : (a b : ℤ) → a *ℤ b ≡ b *ℤ a
-        swap a b = simp ring
+    times x y k h le = let m = positive_times_most k x y h le in let p = *ℤ_comm k x in let q = *ℤ_comm k y in omega (arith, ints)
 
     more : b <ℤ a → ⊥
     more less =
@@ -182,9 +167,6 @@ order_over k a b f g positive (of_f, pf) (of_g, pg) le = by_lt_z b a (λ less. a
 lesser_over : (k a b : ℤ) (f g : Ratio) → pos 0 <ℤ k → IsOverAt k f a → IsOverAt k g b → (c : ℤ) × IsOverAt k (lesser f g) c × ((lesser f g ≡ f) ⊎ (lesser f g ≡ g)) × (c ≤ℤ a) × (c ≤ℤ b)
 lesser_over k a b f g positive of_f of_g = go (int_lt (g.top *ℤ f.bottom) (f.top *ℤ g.bottom)) refl
   where
-    itself : (z : ℤ) → z ≤ℤ z
-    itself z = omega (arith, ints)
-
     less : (x y : ℤ) → int_lt x y ≡ true → x ≤ℤ y
     less x y e = omega (arith, ints)
 
@@ -203,7 +185,8 @@ AreOver k rs = (r : Ratio) → Contains rs r → (z : ℤ) × IsOverAt k r z
 pub one_value : (k a b : ℤ) (r : Ratio) → IsOverAt k r a → IsOverAt k r b → a ≡ b
 one_value k a b r (p, bottom) (q, _) = mul-cancel a b r.bottom (positive_differs r.bottom bottom) (sym p ∙ q)
 
-least_from_over : (k : ℤ) (f : Ratio) (rest : List Ratio) → pos 0 <ℤ k → AreOver k (f ∷ rest) → (c : ℤ) × IsOverAt k (least_from f rest) c × Contains (f ∷ rest) (least_from f rest) × ((r : Ratio) (z : ℤ) → Contains (f ∷ rest) r → IsOverAt k r z → c ≤ℤ z)
+least_from_over : (k : ℤ) (f : Ratio) (rest : List Ratio) → pos 0 <ℤ k → AreOver k (f ∷ rest)
+    → (c : ℤ) × IsOverAt k (least_from f rest) c × Contains (f ∷ rest) (least_from f rest) × ((r : Ratio) (z : ℤ) → Contains (f ∷ rest) r → IsOverAt k r z → c ≤ℤ z)
 least_from_over k f [] positive all =
     let (c, over) = all f (first f []) in
     (c, over, first f [], λ r z has at. ⊎_elim (λ is. same c z (one_value k c z f over (subst (λ q. IsOverAt k q z) (sym is) at))) (λ there. absurd (nothing r there)) (Contains-cons_cases f r [] has))
@@ -236,6 +219,7 @@ least_from_over k f (g ∷ rest) positive all =
     after : (c l a z : ℤ) → c ≤ℤ l → l ≤ℤ a → a ≡ z → c ≤ℤ z
     after c l a z p q e = omega (arith, ints)
 
-pub least_over : (k : ℤ) (rs : List Ratio) → 0 < length rs → pos 0 <ℤ k → AreOver k rs → (c : ℤ) × IsOverAt k (least_of rs) c × Contains rs (least_of rs) × ((r : Ratio) (z : ℤ) → Contains rs r → IsOverAt k r z → c ≤ℤ z)
+pub least_over : (k : ℤ) (rs : List Ratio) → 0 < length rs → pos 0 <ℤ k → AreOver k rs
+    → (c : ℤ) × IsOverAt k (least_of rs) c × Contains rs (least_of rs) × ((r : Ratio) (z : ℤ) → Contains rs r → IsOverAt k r z → c ≤ℤ z)
 least_over k [] some positive all = absurd (omega arith)
 least_over k (f ∷ rest) some positive all = least_from_over k f rest positive all

@@ -1,5 +1,5 @@
 -- The whole numbers that are found keep all rows of the case.
-use Rattle.std.proofs.Common.{◌≡◌, ⊎_elim, ℕ, zero, suc, ◌+◌, ◌<◌, ◌&&◌, ◌||◌, not, is_some, unwrap_or, Option, Some, None, IfSome, Contains, if◌then◌else◌, Bool, true, false, IsNone, List, map, length, refl, Ok, sym, ap, ap₂, subst, ◌∙◌, arith}
+use Rattle.std.proofs.Common.{◌≡◌, ⊎_elim, ℕ, ◌+◌, ◌<◌, ◌&&◌, ◌||◌, not, is_some, unwrap_or, Option, Some, None, IfSome, Contains, if◌then◌else◌, Bool, true, false, IsNone, List, map, length, refl, Ok, sym, ap, ap₂, subst, ◌∙◌, arith}
 use Rattle.std.specs.Prelude.{ℤ, pos, neg_ℤ, ◌+ℤ◌, ◌-ℤ◌, ◌*ℤ◌, ◌<ℤ◌, ◌≤ℤ◌, unsigned_abs}
 use Rattle.std.proofs.Math.IntN.{*ℤ-zero}
 use Rattle.std.proofs.lemmas.Int.{ints}
@@ -12,9 +12,9 @@ use Rattle.rg_theory.specs.declared.Problem.TheVariants.{Event, States}
 use Rattle.rg_theory.specs.Class.{IsMultiple, AllowsStart}
 use Rattle.rg_theory.specs.ClassWords.{HasNumbersInRange}
 use Rattle.rg_integers.specs.Sum.{sum_below}
-use Rattle.rg_integers.proofs.Ring.{ring}
+use Rattle.rg_integers.proofs.Ring.{ring, mul_left_comm}
 use Rattle.rg_case_folds.specs.Setting.{CaseSetting}
-use Rattle.rg_case_folds.proofs.CaseRows.{tokens_row_holds}
+use Rattle.rg_case_folds.proofs.CaseRows.{kept_tokens}
 use Rattle.rg_case_folds.proofs.Lifts.{lifted_keeps}
 use Rattle.rg_case_folds.proofs.Missing.{missing_is_least}
 use Rattle.rg_case_folds.proofs.Times.{allows_by, multiple_positive}
@@ -33,7 +33,7 @@ use Rattle.rg_case_folds.proofs.Items.{each_length}
 use Rattle.rg_case_folds.proofs.Wholes.{add_whole, each_at}
 use Rattle.rg_case_folds.proofs.Found.{all_length, all_at, not_bounded, AreFound, AreSteps, found_effect, same_effect, found_effects, found_meets}
 use Rattle.rg_case_folds.proofs.Moved.{IsWholeAt, along_gives, AllWhole, least_is}
-use Rattle.rg_cert_meaning.specs.declared.RowName.TheVariants as row_name
+use Rattle.rg_case_folds.proofs.Products.{natural, join, sum_times}
 use Rattle.rg_cert_meaning.specs.declared.Variable.TheVariants.{Tokens, Effect}
 
 -- ---- the shift
@@ -48,7 +48,8 @@ AreWholeAt list n p = (length list ≡ n) × ((s : ℕ) → s < n → IsWholeAt 
 pub all_whole : (list : List Ratio) (n : ℕ) (p : ℕ → ℤ) → AreWholeAt list n p → AllWhole list
 all_whole list n p (count, at) r (i, lt, e) = ap (λ (q : Ratio). q.bottom) (sym e ∙ get_or_default list i r (whole (pos 0)) lt ∙ (at i (subst (λ k. i < k) count lt)).0)
 
-shifted_at : (list numbers : List Ratio) (n : ℕ) (p : ℕ → ℤ) → 0 < n → AreWholeAt list n p → each (λ m. add m (negated (least_of list))) list (Ok numbers) → (by : ℤ) × AreWholeAt numbers n (λ s. p s +ℤ by) × ((s : ℕ) → s < n → pos 0 ≤ℤ (p s +ℤ by)) × ((l : ℕ) × (l < n) × (by ≡ neg_ℤ (p l)))
+shifted_at : (list numbers : List Ratio) (n : ℕ) (p : ℕ → ℤ) → 0 < n → AreWholeAt list n p → each (λ m. add m (negated (least_of list))) list (Ok numbers)
+    → (by : ℤ) × AreWholeAt numbers n (λ s. p s +ℤ by) × ((s : ℕ) → s < n → pos 0 ≤ℤ (p s +ℤ by)) × ((l : ℕ) × (l < n) × (by ≡ neg_ℤ (p l)))
 shifted_at list numbers n p some (count, at) made =
     let whole_list = all_whole list n p (count, at) in
     let (has, low) = least_is list (subst (λ k. 0 < k) (sym count) some) whole_list in
@@ -122,7 +123,7 @@ lift_kept lts class (States s s') number found moved numbers x fine in_range k l
     m = unsigned_abs (x (Tokens lts.initial))
 
     low : x (Tokens lts.initial) ≡ pos (unsigned_abs (x (Tokens lts.initial)))
-    low = absolute (x (Tokens lts.initial)) ((tokens_row_holds lts class (States s s') number (pos 1) x lts.initial).1 (k.keeps (row_name.Tokens lts.initial) tt))
+    low = absolute (x (Tokens lts.initial)) (kept_tokens lts class (States s s') number (pos 1) x k.keeps lts.initial)
 
     top : unsigned_abs (top_at moved lts.initial) ≡ unsigned_abs (x (Tokens lts.initial))
     top = ap (λ (r : Ratio). unsigned_abs r.top) (k.at.1 lts.initial fine.initial).0
@@ -132,9 +133,6 @@ lift_kept lts class (States s s') number found moved numbers x fine in_range k l
 
     more : (z : ℤ) (a b : ℕ) → z ≡ pos a → unsigned_abs (z +ℤ pos b) ≡ a + b
     more z a b e = ap (λ y. unsigned_abs (y +ℤ pos b)) e
-
-    natural : (a : ℕ) → pos 0 ≤ℤ pos a
-    natural a = omega (arith, ints)
 
     up : is_lifted class (States s s') ≡ true → (y : Variable → ℤ) × AreKept lts class (States s s') number found numbers y
     up e =
@@ -158,16 +156,6 @@ lift_kept lts class (States s s') number found moved numbers x fine in_range k l
 abbrev pub shift_by : Bool → List Ratio → List Ratio → Type 0
 shift_by b list numbers = either b (each (λ m. add m (negated (least_of list))) list) (gives list) (Ok numbers)
 
-join : (k a b u w : ℤ) → a ≡ k *ℤ u → b ≡ k *ℤ w → a +ℤ b ≡ k *ℤ (u +ℤ w)
-join k a b u w e g = let h : k *ℤ (u +ℤ w) ≡ (k *ℤ u) +ℤ (k *ℤ w) = simp ring (omega (arith, ints)) in omega (arith, ints)
-
-sum_times : (k : ℤ) (n : ℕ) (f : ℕ → ℤ) → ((t : ℕ) → t < n → (u : ℤ) × (f t ≡ k *ℤ u)) → (u : ℤ) × (sum_below n f ≡ k *ℤ u)
-sum_times k zero f each = (pos 0, sym (*ℤ-zero k))
-sum_times k (suc n) f each =
-    let (u, e) = sum_times k n f (λ t lt. each t (omega arith)) in
-    let (w, g) = each n (omega arith) in
-    (u +ℤ w, join k (sum_below n f) (f n) u w e g)
-
 pub kept_is : (it : CaseSetting) (case : CaseSystem) (first : ℤ) (effect : ℕ → ℤ) (scale m : ℤ) (found numbers : List Ratio) (out : ℕ → Ratio) → it.class.plain ≡ false
     → IsNone it.class.bound → IsCaseOver it case → AreEffects it.lts it.tree it.basis effect → pos 0 <ℤ scale → AreFound it.lts found first effect scale m
     → AreSteps it.class found → MeetsCase it.setting case first effect scale → along_tree (ratio_at found) (λ s. ratio_at found (labels it.lts)) it.tree (Ok out)
@@ -188,7 +176,7 @@ kept_is it case first effect scale m found numbers out plain bound c e positive 
     meets = found_meets it.setting case found first effect scale m positive e f met
 
     same : (t : ℕ) → t < labels it.lts → top_at found t ≡ found_effect it.lts found t
-    same t lt = sym (same_effect it.lts it.tree it.basis found first effect scale m t positive e f lt)
+    same t lt = sym (same_effect it.lts it.tree it.basis found first effect scale m positive e f t lt)
 
     at : AreWholeAt (map out (all_numbers (states it.lts))) (states it.lts) (potential it.lts it.tree (top_at found (labels it.lts)) (found_effect it.lts found))
     at = (
@@ -212,10 +200,7 @@ kept_is it case first effect scale m found numbers out plain bound c e positive 
         used t false = (pos 0, sym (*ℤ-zero (pos (unwrap_or it.class.marking 1))))
 
         scaled : (k n z : ℤ) → (u : ℤ) × (z ≡ k *ℤ u) → (u : ℤ) × (n *ℤ z ≡ k *ℤ u)
-        scaled k n z (u, e) = (n *ℤ u, ap (λ y. n *ℤ y) e ∙ turn n k u)
-          where
-            turn : (n k u : ℤ) → n *ℤ (k *ℤ u) ≡ k *ℤ (n *ℤ u)
-            turn n k u = simp ring
+        scaled k n z (u, e) = (n *ℤ u, ap (λ y. n *ℤ y) e ∙ mul_left_comm n k u)
 
     less : (k a b by u w : ℤ) → a ≡ k *ℤ u → b ≡ k *ℤ w → by ≡ neg_ℤ b → a +ℤ by ≡ k *ℤ (u -ℤ w)
     less k a b by u w e g h = let d : k *ℤ (u -ℤ w) ≡ (k *ℤ u) -ℤ (k *ℤ w) = simp ring (omega (arith, ints)) in omega (arith, ints)

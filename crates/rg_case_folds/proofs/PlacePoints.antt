@@ -9,7 +9,7 @@ use Rattle.rg_theory.specs.System.{System, labels}
 use Rattle.rg_theory.specs.Net.{Place}
 use Rattle.rg_integers.specs.Sum.{number_at}
 use Rattle.rg_integers.specs.Value.{SameValue}
-use Rattle.rg_integers.proofs.Ring.{ring}
+use Rattle.rg_integers.proofs.Ring.{ring, mul_left_comm}
 use Rattle.rg_integers.proofs.Order.{mul-cancel, mul_positive, positive_differs}
 use Rattle.rg_linear.specs.System.{LinearSystem, IsPoint, MeetsRows}
 use Rattle.rg_linear.specs.Dictionary.{Relation, DictionaryRow}
@@ -35,6 +35,7 @@ use Rattle.rg_case_folds.proofs.Points.{point_meets}
 use Rattle.rg_case_folds.proofs.ColumnValues.{first_value, free_value, start_below, free_below}
 use Rattle.rg_case_folds.specs.Places.{IsReduced, AreFormsWhole, AreValuesOf, AreAtPoint, PlaceIsMade}
 use Rattle.rg_case_folds.proofs.Overs.{whole_reduced}
+use Rattle.rg_case_folds.proofs.Products.{grouped, mul_right_comm, mul_rotate}
 use Rattle.rg_case_folds.proofs.Made.{place_made}
 
 -- where Start is no column, the columns don't depend on it
@@ -51,13 +52,7 @@ other_start s case v times first other effect none g = record {
 
 -- the same value over a multiple of the scale
 over_multiple : (top bottom z scale times w : ℤ) → SameValue top bottom z scale → times *ℤ z ≡ w → SameValue top bottom w (times *ℤ scale)
-over_multiple top bottom z scale times w same is = turn top times scale ∙ ap (λ y. times *ℤ y) same ∙ turn' times z bottom ∙ ap (λ y. y *ℤ bottom) is
-  where
-    turn : (a t s : ℤ) → a *ℤ (t *ℤ s) ≡ t *ℤ (a *ℤ s)
-    turn a t s = simp ring
-
-    turn' : (t z b : ℤ) → t *ℤ (z *ℤ b) ≡ (t *ℤ z) *ℤ b
-    turn' t z b = simp ring
+over_multiple top bottom z scale times w same is = mul_left_comm top times scale ∙ ap (λ y. times *ℤ y) same ∙ grouped times z bottom ∙ ap (λ y. y *ℤ bottom) is
 
 given_values : (s : CaseSetting) (case : CaseSystem) (v : ℕ → ℤ) (scale times first : ℤ) (effect : ℕ → ℤ) (start : Ratio) (value : ℕ → Ratio) → IsCaseOver s case
     → pos 0 <ℤ scale → AreGivenBy s.setting case v times first effect → AreAtPoint s.lts s.basis s.class scale v start value
@@ -104,7 +99,8 @@ point_makes it case scale v start value place c live p met forms_whole a fold =
     zeros : (s : ℤ) → pos 0 *ℤ s ≡ pos 0 *ℤ pos 1
     zeros s = omega (arith, ints)
 
-    by : (times first : ℤ) (effect : ℕ → ℤ) → AreGivenBy it.setting case v times first effect → SameValue start.top start.bottom first (times *ℤ scale) → PlaceIsMade it.setting it.problem start value place
+    by : (times first : ℤ) (effect : ℕ → ℤ) → AreGivenBy it.setting case v times first effect → SameValue start.top start.bottom first (times *ℤ scale)
+        → PlaceIsMade it.setting it.problem start value place
     by times first effect g start_is = place_made it case start value first effect (times *ℤ scale) place c live g.effects
         ((point_meets it case v scale times first effect c p g).0 met)
         (forms_over it case v scale times first effect c g forms_whole)
@@ -125,7 +121,8 @@ found_whole system forms above o (high_ends members f u t d first low high end) 
 found_whole system forms above o (both_refuted members f u t t' d first low high) = tt
 
 -- a value where every member is 0 is the point's
-value_at : (system : LinearSystem) (members : List ℕ) (j : ℕ) (r : Ratio) (scale : ℤ) (v : ℕ → ℤ) → IsPoint system scale v → IsAtZero members v → IsValueAt system members j r → SameValue r.top r.bottom (v j) scale × (pos 0 <ℤ r.bottom) × IsReduced r
+value_at : (system : LinearSystem) (members : List ℕ) (j : ℕ) (r : Ratio) (scale : ℤ) (v : ℕ → ℤ) → IsPoint system scale v → IsAtZero members v
+    → IsValueAt system members j r → SameValue r.top r.bottom (v j) scale × (pos 0 <ℤ r.bottom) × IsReduced r
 value_at system members j r scale v p zeros at = ⊎_elim (λ (has, e). member has e) (λ (k, row, is). outside k row is) at
   where
     member : Contains members j → r ≡ whole (pos 0) → SameValue r.top r.bottom (v j) scale × (pos 0 <ℤ r.bottom) × IsReduced r
@@ -137,17 +134,11 @@ value_at system members j r scale v p zeros at = ⊎_elim (λ (has, e). member h
     outside : (k : Relation) → DictionaryRow system members j k → IsRatio r k.constant k.d → SameValue r.top r.bottom (v j) scale × (pos 0 <ℤ r.bottom) × IsReduced r
     outside k row is = (
       mul-cancel (r.top *ℤ scale) (v j *ℤ r.bottom) k.d (positive_differs k.d row.positive)
-          (turn r.top scale k.d ∙ ap (λ z. z *ℤ scale) is.value ∙ turn k.constant r.bottom scale
-          ∙ ap (λ z. z *ℤ r.bottom) (sym (constant_left system members j k row scale v p zeros)) ∙ turn' k.d (v j) r.bottom),
+          (mul_right_comm r.top scale k.d ∙ ap (λ z. z *ℤ scale) is.value ∙ mul_right_comm k.constant r.bottom scale
+          ∙ ap (λ z. z *ℤ r.bottom) (sym (constant_left system members j k row scale v p zeros)) ∙ mul_rotate k.d (v j) r.bottom),
       is.positive,
       is.reduced,
     )
-      where
-        turn : (a b c : ℤ) → (a *ℤ b) *ℤ c ≡ (a *ℤ c) *ℤ b
-        turn a b c = simp ring
-
-        turn' : (d z b : ℤ) → (d *ℤ z) *ℤ b ≡ (z *ℤ b) *ℤ d
-        turn' d z b = simp ring
 
 at_point : (lts : System) (basis : CycleBasis) (class : Class) (system : LinearSystem) (members : List ℕ) (start : Ratio) (value : ℕ → Ratio) (scale : ℤ) (v : ℕ → ℤ)
     → IsPoint system scale v → IsAtZero members v → PointOf lts basis class system members start value → AreAtPoint lts basis class scale v start value

@@ -1,5 +1,5 @@
 -- What the labels take from the place and put on it, and the place that has these weights.
-use Rattle.std.proofs.Common.{◌≡◌, ⊎_elim, ℕ, suc, ◌+◌, ◌-◌, ◌<◌, ◌≤◌, ◌^◌, Bool, true, false, if◌then◌else◌, List, map, length, slice_index_or, All, Ok, refl, sym, ap, subst, ◌∙◌, arith}
+use Rattle.std.proofs.Common.{◌≡◌, ⊎_elim, ℕ, suc, ◌+◌, ◌-◌, ◌<◌, ◌≤◌, ◌^◌, Bool, true, false, if◌then◌else◌, List, map, length, slice_index_or, All, Ok, refl, sym, ap, subst, ◌∙◌, arith, zero-add}
 use Rattle.std.specs.Prelude.{ℤ, pos, negsuc, neg_ℤ, ◌+ℤ◌, ◌-ℤ◌, ◌*ℤ◌, ◌≤ℤ◌, int_lt, unsigned_abs}
 use borrow.Author.Differences.{up, down}
 use Rattle.std.specs.List.{range_with_len}
@@ -23,6 +23,7 @@ use Rattle.rg_case_folds.specs.Rewriting.{all_numbers}
 use Rattle.rg_case_folds.specs.Placing.{taken_by_effect}
 use Rattle.rg_case_folds.proofs.Items.{each_length}
 use Rattle.rg_case_folds.proofs.Wholes.{each_at}
+use Rattle.rg_integers.proofs.Ring.{mul-one}
 use Rattle.rg_case_folds.proofs.Found.{all_length, all_at}
 
 -- ---- numbers
@@ -86,11 +87,8 @@ fits_most z h = at_most (unsigned_abs z) (2 ^ 127) h
 pub listed : (xs : List ℤ) (f : ℕ → ℕ) (n : ℕ) → length xs ≡ n → ((i : ℕ) → i < n → unsigned_abs (number_at xs i) ≡ f i) → map unsigned_abs xs ≡ map f (range_with_len 0 n)
 listed xs f n count same = ext_get_or 0 (map unsigned_abs xs) (map f (range_with_len 0 n)) (length-map xs unsigned_abs ∙ count ∙ sym (length-map-range_with_len f 0 n)) (λ i lt. at i (subst (λ k. i < k) (length-map xs unsigned_abs ∙ count) lt))
   where
-    start : (i : ℕ) → 0 + i ≡ i
-    start i = omega arith
-
     at : (i : ℕ) → i < n → slice_index_or (map unsigned_abs xs) i 0 ≡ slice_index_or (map f (range_with_len 0 n)) i 0
-    at i lt = get_or-map unsigned_abs xs i (pos 0) 0 (subst (λ k. i < k) (sym count) lt) ∙ same i lt ∙ sym (get_or-map-range_with_len f 0 n i i 0 lt (start i))
+    at i lt = get_or-map unsigned_abs xs i (pos 0) 0 (subst (λ k. i < k) (sym count) lt) ∙ same i lt ∙ sym (get_or-map-range_with_len f 0 n i i 0 lt (zero-add i))
 
 pub all_most : (xs : List ℤ) → ((i : ℕ) → i < length xs → InRange (number_at xs i)) → All (λ n. n ≤ greatest) (map unsigned_abs xs)
 all_most xs fits = All-from_get_or (λ n. n ≤ greatest) (map unsigned_abs xs) 0 (λ i lt. at i (subst (λ k. i < k) (length-map xs unsigned_abs) lt))
@@ -118,10 +116,7 @@ given_at g e n i post made lt =
 pub taken_in_range : (g e : ℕ → ℤ) (n i : ℕ) (post : List ℤ) → each (λ u. whole_sum (g u) (e u)) (all_numbers n) (Ok post) → i < n → InRange (g i)
 taken_in_range g e n i post made lt =
     let (fits, is) = subst (λ u. whole_sum (g u) (e u) (Ok (number_at post i))) (all_at n i lt) (each_at (λ u. whole_sum (g u) (e u)) (all_numbers n) post 0 (pos 0) i made (subst (λ k. i < k) (sym (all_length n)) lt)) in
-    subst InRange (once (g i)) fits.left
-  where
-    once : (z : ℤ) → z *ℤ pos 1 ≡ z
-    once z = omega (arith, ints)
+    subst InRange (mul-one (g i)) fits.left
 
 pub given_length : (g e : ℕ → ℤ) (n : ℕ) (post : List ℤ) → each (λ u. whole_sum (g u) (e u)) (all_numbers n) (Ok post) → length post ≡ n
 given_length g e n post made = each_length (λ u. whole_sum (g u) (e u)) (all_numbers n) post made ∙ all_length n

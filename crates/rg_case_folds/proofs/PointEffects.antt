@@ -4,13 +4,12 @@ use Rattle.std.specs.Prelude.{ℤ, pos, ◌*ℤ◌, ◌<ℤ◌}
 use Rattle.std.proofs.lemmas.Int.{ints}
 use Rattle.std.proofs.lemmas.Bool.{true≢false, cases_Bool, cases_eq, eqb-true, and_parts}
 use Rattle.std.proofs.lemmas.List.{length-map}
-use Rattle.std.proofs.Math.IntN.{zero-*ℤ}
+use Rattle.std.proofs.Math.IntN.{zero-*ℤ, *ℤ_comm, *ℤ-zero}
 use Rattle.rg_theory.specs.declared.Arc.{Arc}
 use Rattle.rg_theory.specs.System.{System, IsInRange, IsAllReachable, labels}
 use Rattle.rg_theory.specs.Tree.{IsTree}
-use Rattle.rg_theory.proofs.Lists.{Contains-cons_cases}
 use Rattle.rg_integers.specs.Sum.{sum_below, number_at}
-use Rattle.rg_integers.proofs.Ring.{ring}
+use Rattle.rg_integers.proofs.Ring.{mul_assoc, mul_left_comm}
 use Rattle.rg_integers.proofs.Order.{mul_positive}
 use Rattle.rg_integers.proofs.Sums.{sum_below-same, sum_below-times}
 use Rattle.rg_linear.specs.Dictionary.{Relation}
@@ -23,8 +22,9 @@ use Rattle.rg_folds.specs.Substitution.{is_in, numbers_where}
 use Rattle.rg_case_folds.specs.Rewriting.{has_label, free_columns, has_start, CaseSystem}
 use Rattle.rg_case_folds.specs.Values.{column_values}
 use Rattle.rg_case_folds.specs.Meaning.{IsCaseOver, AreGivenBy, first_column}
-use Rattle.rg_case_folds.proofs.Lists.{nothing, first, behind, where_is}
+use Rattle.rg_case_folds.proofs.Lists.{first, behind, where_is, has_in}
 use Rattle.rg_case_folds.proofs.Given.{unused_is_free}
+use Rattle.rg_case_folds.proofs.Products.{mul_last_in, none_of}
 use Rattle.rg_case_folds.proofs.ColumnValues.{columns_split, values_counted}
 
 -- ---- members
@@ -36,14 +36,6 @@ in_has (x ∷ xs) m e = go (x == m) refl e (λ h. in_has xs m h)
     go : (b : Bool) → (x == m) ≡ b → (if b then true else is_in xs m) ≡ true → (is_in xs m ≡ true → Contains xs m) → Contains (x ∷ xs) m
     go true is e next = subst (Contains (x ∷ xs)) (eqb-true x m is) (first x xs)
     go false is e next = behind x m xs (next e)
-
-pub has_in : (xs : List ℕ) (m : ℕ) → Contains xs m → is_in xs m ≡ true
-has_in [] m has = absurd (nothing m has)
-has_in (x ∷ xs) m has = ⊎_elim (λ is. ap (λ b. if b then true else is_in xs m) (eq-eqb x m is)) (λ there. later (x == m) (has_in xs m there)) (Contains-cons_cases x m xs has)
-  where
-    later : (b : Bool) → is_in xs m ≡ true → (if b then true else is_in xs m) ≡ true
-    later true e = refl
-    later false e = e
 
 -- ---- values of the numbers in a list
 
@@ -65,11 +57,13 @@ assigned test a (suc n) f = go (test a) (assigned test (suc a) n (λ j. f (suc j
         above : suc a ≤ t → t ≢ a
         above le same = omega arith
 
-    at : (w : ℕ → ℤ) → ((j : ℕ) → j < length (numbers_where test (suc a) n) → f (suc j) ≡ number_at (map w (numbers_where test (suc a) n)) j) → (j : ℕ) → j < length (a ∷ numbers_where test (suc a) n) → f j ≡ number_at (map (λ t. if t == a then f 0 else w t) (a ∷ numbers_where test (suc a) n)) j
+    at : (w : ℕ → ℤ) → ((j : ℕ) → j < length (numbers_where test (suc a) n) → f (suc j) ≡ number_at (map w (numbers_where test (suc a) n)) j) → (j : ℕ)
+        → j < length (a ∷ numbers_where test (suc a) n) → f j ≡ number_at (map (λ t. if t == a then f 0 else w t) (a ∷ numbers_where test (suc a) n)) j
     at w h zero lt = sym (ap (λ b. if b then f 0 else w a) (eq-eqb a a refl))
     at w h (suc j) lt = h j (omega arith) ∙ ap (λ l. number_at l j) (map_same w (λ t. if t == a then f 0 else w t) (numbers_where test (suc a) n) (later w))
 
-    go : (b : Bool) → ((w : ℕ → ℤ) × ((j : ℕ) → j < length (numbers_where test (suc a) n) → f (suc j) ≡ number_at (map w (numbers_where test (suc a) n)) j)) → ((w : ℕ → ℤ) × ((j : ℕ) → j < length (numbers_where test (suc a) n) → f j ≡ number_at (map w (numbers_where test (suc a) n)) j))
+    go : (b : Bool) → ((w : ℕ → ℤ) × ((j : ℕ) → j < length (numbers_where test (suc a) n) → f (suc j) ≡ number_at (map w (numbers_where test (suc a) n)) j))
+        → ((w : ℕ → ℤ) × ((j : ℕ) → j < length (numbers_where test (suc a) n) → f j ≡ number_at (map w (numbers_where test (suc a) n)) j))
         → (w : ℕ → ℤ) × ((j : ℕ) → j < length (if b then (a ∷ numbers_where test (suc a) n) else numbers_where test (suc a) n) → f j ≡ number_at (map w (if b then (a ∷ numbers_where test (suc a) n) else numbers_where test (suc a) n)) j)
     go true (w, h) other = (λ t. if t == a then f 0 else w t, at w h)
     go false other (w, h) = (w, h)
@@ -87,67 +81,58 @@ multiple_below (suc n) d each_positive =
     below t lt differ = omega arith
 
     last : (b : ℤ) (part : ℕ → ℤ) (t : ℕ) → t ≡ n → b *ℤ d n ≡ d t *ℤ (if t == n then b else part t *ℤ d n)
-    last b part t same = turn b (d n) ∙ ap (λ k. d k *ℤ b) (sym same) ∙ ap (λ c. d t *ℤ (if c then b else part t *ℤ d n)) (sym (eq-eqb t n same))
-      where
-        turn : (b k : ℤ) → b *ℤ k ≡ k *ℤ b
-        turn b k = simp ring
+    last b part t same = *ℤ_comm b (d n) ∙ ap (λ k. d k *ℤ b) (sym same) ∙ ap (λ c. d t *ℤ (if c then b else part t *ℤ d n)) (sym (eq-eqb t n same))
 
     earlier : (b : ℤ) (part : ℕ → ℤ) (t : ℕ) → t ≢ n → b ≡ d t *ℤ part t → b *ℤ d n ≡ d t *ℤ (if t == n then b else part t *ℤ d n)
-    earlier b part t differ e = ap (λ z. z *ℤ d n) e ∙ turn (d t) (part t) (d n) ∙ ap (λ c. d t *ℤ (if c then b else part t *ℤ d n)) (sym (ne_eqb t n differ))
-      where
-        turn : (k p m : ℤ) → (k *ℤ p) *ℤ m ≡ k *ℤ (p *ℤ m)
-        turn k p m = simp ring
+    earlier b part t differ e = ap (λ z. z *ℤ d n) e ∙ mul_assoc (d t) (part t) (d n) ∙ ap (λ c. d t *ℤ (if c then b else part t *ℤ d n)) (sym (ne_eqb t n differ))
 
 -- ---- the effects
 
+-- the value of a free label with an arc, and what the relation of t makes of them
+abbrev pub used_value : System → (ℕ → ℤ) → ℕ → ℤ
+used_value lts w j = if has_label j lts.arcs then w j else pos 0
+
+abbrev pub related : System → CycleBasis → (ℕ → ℤ) → ℕ → ℤ
+related lts basis w t = sum_below (labels lts) (λ j. (basis.relation t).coefficient j *ℤ used_value lts w j)
+
 -- what the free labels with an arc give, and the relations for the others
+abbrev pub effect_of : Bool → Bool → ℤ → ℤ → ℤ
+effect_of used member free dependent = if used then (if member then free else dependent) else pos 0
+
 abbrev pub given_effect : System → CycleBasis → ℤ → (ℕ → ℤ) → (ℕ → ℤ) → ℕ → ℤ
-given_effect lts basis b part w t =
-    if has_label t lts.arcs
-    then (if is_in basis.members t then b *ℤ w t else sum_below (labels lts) (λ j. (basis.relation t).coefficient j *ℤ (if has_label j lts.arcs then w j else pos 0)) *ℤ part t)
-    else pos 0
+given_effect lts basis b part w t = effect_of (has_label t lts.arcs) (is_in basis.members t) (b *ℤ w t) (related lts basis w t *ℤ part t)
 
-free_effect : (lts : System) (basis : CycleBasis) (b : ℤ) (part w : ℕ → ℤ) (t : ℕ) → has_label t lts.arcs ≡ true → is_in basis.members t ≡ true → given_effect lts basis b part w t ≡ b *ℤ w t
-free_effect lts basis b part w t used member =
-    ap (λ c. if c then (if is_in basis.members t then b *ℤ w t else sum_below (labels lts) (λ j. (basis.relation t).coefficient j *ℤ (if has_label j lts.arcs then w j else pos 0)) *ℤ part t) else pos 0) used
-    ∙ ap (λ c. if c then b *ℤ w t else sum_below (labels lts) (λ j. (basis.relation t).coefficient j *ℤ (if has_label j lts.arcs then w j else pos 0)) *ℤ part t) member
+module _ (lts : System) (basis : CycleBasis) (b : ℤ) (part w : ℕ → ℤ) (t : ℕ) where
+  free_effect : has_label t lts.arcs ≡ true → is_in basis.members t ≡ true → given_effect lts basis b part w t ≡ b *ℤ w t
+  free_effect used member = ap₂ (λ c d. effect_of c d (b *ℤ w t) (related lts basis w t *ℤ part t)) used member
 
-dependent_effect : (lts : System) (basis : CycleBasis) (b : ℤ) (part w : ℕ → ℤ) (t : ℕ) → has_label t lts.arcs ≡ true → is_in basis.members t ≡ false
-    → given_effect lts basis b part w t ≡ sum_below (labels lts) (λ j. (basis.relation t).coefficient j *ℤ (if has_label j lts.arcs then w j else pos 0)) *ℤ part t
-dependent_effect lts basis b part w t used member =
-    ap (λ c. if c then (if is_in basis.members t then b *ℤ w t else sum_below (labels lts) (λ j. (basis.relation t).coefficient j *ℤ (if has_label j lts.arcs then w j else pos 0)) *ℤ part t) else pos 0) used
-    ∙ ap (λ c. if c then b *ℤ w t else sum_below (labels lts) (λ j. (basis.relation t).coefficient j *ℤ (if has_label j lts.arcs then w j else pos 0)) *ℤ part t) member
+  dependent_effect : has_label t lts.arcs ≡ true → is_in basis.members t ≡ false → given_effect lts basis b part w t ≡ related lts basis w t *ℤ part t
+  dependent_effect used member = ap₂ (λ c d. effect_of c d (b *ℤ w t) (related lts basis w t *ℤ part t)) used member
 
-unused_effect : (lts : System) (basis : CycleBasis) (b : ℤ) (part w : ℕ → ℤ) (t : ℕ) → has_label t lts.arcs ≡ false → given_effect lts basis b part w t ≡ pos 0
-unused_effect lts basis b part w t unused =
-    ap (λ c. if c then (if is_in basis.members t then b *ℤ w t else sum_below (labels lts) (λ j. (basis.relation t).coefficient j *ℤ (if has_label j lts.arcs then w j else pos 0)) *ℤ part t) else pos 0) unused
+  unused_effect : has_label t lts.arcs ≡ false → given_effect lts basis b part w t ≡ pos 0
+  unused_effect unused = ap (λ c. effect_of c (is_in basis.members t) (b *ℤ w t) (related lts basis w t *ℤ part t)) unused
 
 -- in a relation, the effects are b times the free labels' values
-term_value : (lts : System) (basis : CycleBasis) (b : ℤ) (part w : ℕ → ℤ) (k : Relation) (j : ℕ) → (¬ Contains basis.members j → k.coefficient j ≡ pos 0) → k.coefficient j *ℤ given_effect lts basis b part w j ≡ b *ℤ (k.coefficient j *ℤ (if has_label j lts.arcs then w j else pos 0))
+term_value : (lts : System) (basis : CycleBasis) (b : ℤ) (part w : ℕ → ℤ) (k : Relation) (j : ℕ) → (¬ Contains basis.members j → k.coefficient j ≡ pos 0)
+    → k.coefficient j *ℤ given_effect lts basis b part w j ≡ b *ℤ (k.coefficient j *ℤ used_value lts w j)
 term_value lts basis b part w k j over =
     ⊎_elim
     (λ used.
     ⊎_elim
-    (λ member. ap (λ z. k.coefficient j *ℤ z) (free_effect lts basis b part w j used member) ∙ turn (k.coefficient j) b (w j) ∙ ap (λ c. b *ℤ (k.coefficient j *ℤ (if c then w j else pos 0))) (sym used))
-    (λ outside. none (k.coefficient j) b (given_effect lts basis b part w j) (if has_label j lts.arcs then w j else pos 0) (over (λ has. true≢false (sym (has_in basis.members j has) ∙ outside))))
+    (λ member. ap (λ z. k.coefficient j *ℤ z) (free_effect lts basis b part w j used member) ∙ mul_left_comm (k.coefficient j) b (w j) ∙ ap (λ c. b *ℤ (k.coefficient j *ℤ (if c then w j else pos 0))) (sym used))
+    (λ outside. none (k.coefficient j) b (given_effect lts basis b part w j) (used_value lts w j) (over (λ has. true≢false (sym (has_in basis.members j has) ∙ outside))))
     (cases_Bool (is_in basis.members j)))
     (λ unused. ap (λ z. k.coefficient j *ℤ z) (unused_effect lts basis b part w j unused) ∙ zeros (k.coefficient j) b ∙ ap (λ c. b *ℤ (k.coefficient j *ℤ (if c then w j else pos 0))) (sym unused))
     (cases_Bool (has_label j lts.arcs))
   where
-    turn : (k b z : ℤ) → k *ℤ (b *ℤ z) ≡ b *ℤ (k *ℤ z)
-    turn k b z = simp ring
-
-    times_zero : (k : ℤ) → k *ℤ pos 0 ≡ pos 0
-    times_zero k = omega (arith, ints)
-
     zeros : (k b : ℤ) → k *ℤ pos 0 ≡ b *ℤ (k *ℤ pos 0)
-    zeros k b = times_zero k ∙ sym (ap (λ z. b *ℤ z) (times_zero k) ∙ times_zero b)
+    zeros k b = *ℤ-zero k ∙ sym (ap (λ z. b *ℤ z) (*ℤ-zero k) ∙ *ℤ-zero b)
 
     none : (k b e z : ℤ) → k ≡ pos 0 → k *ℤ e ≡ b *ℤ (k *ℤ z)
     none k b e z p = ap (λ c. c *ℤ e) p ∙ zero b e z ∙ ap (λ c. b *ℤ (c *ℤ z)) (sym p)
       where
         zero : (b e z : ℤ) → pos 0 *ℤ e ≡ b *ℤ (pos 0 *ℤ z)
-        zero b e z = zero-*ℤ e ∙ sym (ap (λ y. b *ℤ y) (zero-*ℤ z) ∙ times_zero b)
+        zero b e z = zero-*ℤ e ∙ sym (ap (λ y. b *ℤ y) (zero-*ℤ z) ∙ *ℤ-zero b)
 
 given_follow : (lts : System) (tree : List Arc) (basis : CycleBasis) (b : ℤ) (part w : ℕ → ℤ) → IsInRange lts → IsAllReachable lts → IsTree lts tree
     → IsBasis lts tree basis → ((t : ℕ) → t < labels lts → b ≡ (basis.relation t).d *ℤ part t) → FollowsRelations (chord_system lts tree basis.kept) basis.members
@@ -162,23 +147,21 @@ given_follow lts tree basis b part w fine reached g is exact t k lt row =
     not_in : ¬ Contains basis.members t → is_in basis.members t ≡ false
     not_in outside = ⊎_elim (λ e. absurd (outside (in_has basis.members t e))) (λ e. e) (cases_Bool (is_in basis.members t))
 
-    turn : (d s p : ℤ) → d *ℤ (s *ℤ p) ≡ (d *ℤ p) *ℤ s
-    turn d s p = simp ring
-
     own : ¬ Contains basis.members t → (basis.relation t).d *ℤ given_effect lts basis b part w t ≡ sum_below (labels lts) (λ j. (basis.relation t).coefficient j *ℤ given_effect lts basis b part w j)
     own outside =
         ap (λ z. (basis.relation t).d *ℤ z) (dependent_effect lts basis b part w t (used outside) (not_in outside))
-        ∙ turn (basis.relation t).d (sum_below (labels lts) (λ j. (basis.relation t).coefficient j *ℤ (if has_label j lts.arcs then w j else pos 0))) (part t)
-        ∙ ap (λ z. z *ℤ sum_below (labels lts) (λ j. (basis.relation t).coefficient j *ℤ (if has_label j lts.arcs then w j else pos 0))) (sym (exact t lt))
-        ∙ sym (sum_below-times (labels lts) b (λ j. (basis.relation t).coefficient j *ℤ (if has_label j lts.arcs then w j else pos 0)))
+        ∙ mul_last_in (basis.relation t).d (related lts basis w t) (part t)
+        ∙ ap (λ z. z *ℤ related lts basis w t) (sym (exact t lt))
+        ∙ sym (sum_below-times (labels lts) b (λ j. (basis.relation t).coefficient j *ℤ used_value lts w j))
         ∙ sym (sum_below-same (labels lts) (λ j. (basis.relation t).coefficient j *ℤ given_effect lts basis b part w j)
-        (λ j. b *ℤ ((basis.relation t).coefficient j *ℤ (if has_label j lts.arcs then w j else pos 0)))
+        (λ j. b *ℤ ((basis.relation t).coefficient j *ℤ used_value lts w j))
         (λ j lt'. term_value lts basis b part w (basis.relation t) j ((is.relations t lt outside).over j)))
 
 -- ---- the point gives them
 
 positive_d : (lts : System) (tree : List Arc) (basis : CycleBasis) → IsBasis lts tree basis → (t : ℕ) → t < labels lts → pos 0 <ℤ (basis.relation t).d
-positive_d lts tree basis is t lt = ⊎_elim (λ has. subst (λ (k : Relation). pos 0 <ℤ k.d) (sym (is.others t (inr has))) (omega (arith, ints))) (λ outside. (is.relations t lt outside).positive) (is_member basis.members t)
+positive_d lts tree basis is t lt =
+    ⊎_elim (λ has. subst (λ (k : Relation). pos 0 <ℤ k.d) (sym (is.others t (inr has))) (omega (arith, ints))) (λ outside. (is.relations t lt outside).positive) (is_member basis.members t)
 
 pub point_gives : (it : CaseSetting) (case : CaseSystem) (v : ℕ → ℤ) → IsCaseOver it case
     → (times : ℤ) × (start : ℤ) × (effect : ℕ → ℤ) × AreGivenBy it.setting case v times start effect
@@ -204,10 +187,7 @@ point_gives it case v c =
         (is_in it.basis.members t) (has_label t it.lts.arcs) e in free_effect it.lts it.basis b part w t used member))
 
     number_times : (b : ℤ) (w : ℕ → ℤ) (xs : List ℕ) (j : ℕ) → number_at (map (λ t. b *ℤ w t) xs) j ≡ b *ℤ number_at (map w xs) j
-    number_times b w [] j = none b
-      where
-        none : (b : ℤ) → pos 0 ≡ b *ℤ pos 0
-        none b = omega (arith, ints)
+    number_times b w [] j = none_of b
     number_times b w (x ∷ xs) zero = refl
     number_times b w (x ∷ xs) (suc j) = number_times b w xs j
 
@@ -216,11 +196,17 @@ point_gives it case v c =
         → j < length ((if s then ((b *ℤ v 0) ∷ []) else []) ++ map (λ t. b *ℤ w t) (free_columns it.lts it.basis))
         → b *ℤ v j ≡ number_at ((if s then ((b *ℤ v 0) ∷ []) else []) ++ map (λ t. b *ℤ w t) (free_columns it.lts it.basis)) j
     by true b w at zero lt = refl
-    by true b w at (suc j) lt = ap (λ k. b *ℤ v k) (next j) ∙ ap (λ z. b *ℤ z) (at j (let same = length-map (free_columns it.lts it.basis) (λ t. b *ℤ w t) in omega arith)) ∙ sym (number_times b w (free_columns it.lts it.basis) j)
+    by true b w at (suc j) lt =
+        ap (λ k. b *ℤ v k) (next j)
+        ∙ ap (λ z. b *ℤ z) (at j (let same = length-map (free_columns it.lts it.basis) (λ t. b *ℤ w t) in omega arith))
+        ∙ sym (number_times b w (free_columns it.lts it.basis) j)
       where
         next : (j : ℕ) → suc j ≡ 1 + j
         next j = omega arith
-    by false b w at j lt = ap (λ k. b *ℤ v k) (sym (zero-add j)) ∙ ap (λ z. b *ℤ z) (at j (let same = length-map (free_columns it.lts it.basis) (λ t. b *ℤ w t) in omega arith)) ∙ sym (number_times b w (free_columns it.lts it.basis) j)
+    by false b w at j lt =
+        ap (λ k. b *ℤ v k) (sym (zero-add j))
+        ∙ ap (λ z. b *ℤ z) (at j (let same = length-map (free_columns it.lts it.basis) (λ t. b *ℤ w t) in omega arith))
+        ∙ sym (number_times b w (free_columns it.lts it.basis) j)
 
     columns : (b : ℤ) (part w : ℕ → ℤ)
         → ((j : ℕ) → j < length (free_columns it.lts it.basis) → v (first_column it.class + j) ≡ number_at (map w (free_columns it.lts it.basis)) j) → (j : ℕ)

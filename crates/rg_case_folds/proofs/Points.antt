@@ -22,6 +22,8 @@ use Rattle.rg_case_folds.proofs.Kept.{effects_given, meets_given}
 use Rattle.rg_case_folds.proofs.ColumnValues.{row_sum}
 use Rattle.rg_case_folds.proofs.PointEffects.{point_gives}
 use Rattle.rg_cert_meaning.specs.declared.RowName.TheVariants as row_name
+use Rattle.rg_case_folds.proofs.Products.{weak}
+use Rattle.rg_integers.proofs.Ring.{one-mul}
 use Rattle.rg_cert_meaning.specs.declared.Variable.TheVariants.{Tokens}
 
 -- a row's value at the point is its value at the columns
@@ -51,9 +53,6 @@ point_meets s case v scale times start effect c p g = (
     none : KeptRow
     none = record { name = row_name.Above 0; row = record { coeffs = []; constant = pos 0 }; factor = whole (pos 1) }
 
-    weak : (z : ℤ) → pos 0 <ℤ z → pos 0 ≤ℤ z
-    weak z h = omega (arith, ints)
-
     counted : (i : ℕ) → i < length case.kept → i < length (map (λ k. k.row) case.kept)
     counted i lt = let same = length-map case.kept (λ (k : KeptRow). k.row) in omega arith
 
@@ -63,10 +62,12 @@ point_meets s case v scale times start effect c p g = (
     value : (i : ℕ) → i < length (map (λ k. k.row) case.kept) → times *ℤ v (row_variable (rows_of case) i) ≡ dot (row_at (rows_of case) i).coeffs (column_values s.lts s.basis s.class start effect) +ℤ ((row_at (rows_of case) i).constant *ℤ (times *ℤ scale))
     value i lt = row_value_at s case v scale times start effect i c p g lt
 
-    met : (k : KeptRow) (r : LinearRow) → r ≡ k.row → pos 0 ≤ℤ (dot r.coeffs (column_values s.lts s.basis s.class start effect) +ℤ (r.constant *ℤ (times *ℤ scale))) → RowIsMet (column_values s.lts s.basis s.class start effect) (times *ℤ scale) k
+    met : (k : KeptRow) (r : LinearRow) → r ≡ k.row → pos 0 ≤ℤ (dot r.coeffs (column_values s.lts s.basis s.class start effect) +ℤ (r.constant *ℤ (times *ℤ scale)))
+        → RowIsMet (column_values s.lts s.basis s.class start effect) (times *ℤ scale) k
     met k r e h = subst (λ (r : LinearRow). pos 0 ≤ℤ (dot r.coeffs (column_values s.lts s.basis s.class start effect) +ℤ (r.constant *ℤ (times *ℤ scale)))) e h
 
-    back : (k : KeptRow) (r : LinearRow) → r ≡ k.row → RowIsMet (column_values s.lts s.basis s.class start effect) (times *ℤ scale) k → pos 0 ≤ℤ (dot r.coeffs (column_values s.lts s.basis s.class start effect) +ℤ (r.constant *ℤ (times *ℤ scale)))
+    back : (k : KeptRow) (r : LinearRow) → r ≡ k.row → RowIsMet (column_values s.lts s.basis s.class start effect) (times *ℤ scale) k
+        → pos 0 ≤ℤ (dot r.coeffs (column_values s.lts s.basis s.class start effect) +ℤ (r.constant *ℤ (times *ℤ scale)))
     back k r e h = subst (λ (r : LinearRow). pos 0 ≤ℤ (dot r.coeffs (column_values s.lts s.basis s.class start effect) +ℤ (r.constant *ℤ (times *ℤ scale)))) (sym e) h
 
 -- Start and effects are those of a point
@@ -78,12 +79,9 @@ given_point s case start effect scale c e positive = (
   record {
     positive = omega (arith, ints);
     effects = e;
-    columns = λ j lt. ap (λ z. pos 1 *ℤ z) (values_of-column (rows_of case) scale (λ j. number_at (column_values s.lts s.basis s.class start effect) j) j lt) ∙ one (number_at (column_values s.lts s.basis s.class start effect) j);
+    columns = λ j lt. ap (λ z. pos 1 *ℤ z) (values_of-column (rows_of case) scale (λ j. number_at (column_values s.lts s.basis s.class start effect) j) j lt) ∙ one-mul (number_at (column_values s.lts s.basis s.class start effect) j);
   },
 )
-  where
-    one : (z : ℤ) → pos 1 *ℤ z ≡ z
-    one z = omega (arith, ints)
 
 -- numbers that keep all rows, of Start and effects that meet the system
 solved : (s : CaseSetting) (case : CaseSystem) (start : ℤ) (effect : ℕ → ℤ) (scale : ℤ) → IsCaseOver s case → AreEffects s.lts s.tree s.basis effect → pos 0 <ℤ scale
@@ -110,10 +108,7 @@ points_exact s case c live = (
         v,
         p,
         (point_meets s case v scale (pos 1) (x (Tokens s.lts.initial)) (used_effect s.lts x) c p g).1
-            (subst (λ z. MeetsCase s.setting case (x (Tokens s.lts.initial)) (used_effect s.lts x) z) (sym (one scale))
+            (subst (λ z. MeetsCase s.setting case (x (Tokens s.lts.initial)) (used_effect s.lts x) z) (sym (one-mul scale))
             (meets_given s case x scale c live positive keeps)),
       ))),
 )
-  where
-    one : (z : ℤ) → pos 1 *ℤ z ≡ z
-    one z = omega (arith, ints)

@@ -8,7 +8,7 @@ use Rattle.rg_theory.specs.System.{System, labels, arc, Leads, IsReachable, IsIn
 use Rattle.rg_theory.proofs.Arcs.{arc_in_range}
 use Rattle.rg_theory.proofs.Lists.{Contains-cons_cases}
 use Rattle.rg_integers.specs.Sum.{sum_below, sum_over}
-use Rattle.rg_integers.proofs.Ring.{ring, add-mul}
+use Rattle.rg_integers.proofs.Ring.{ring, add-mul, one-mul}
 use Rattle.std.proofs.Math.IntN.{zero-*ℤ}
 use Rattle.rg_integers.proofs.Sums.{sum_below-same, sum_below-zero, sum_below-plus, sum_below-only}
 use Rattle.rg_theory.specs.Tree.{IsTree, way_to, count, parikh, same_arc, is_among, arcs_without, chords, chord_entry, IsKept, KeepsArcs}
@@ -23,17 +23,11 @@ AllBelow n (t ∷ ts) = (t < n) × AllBelow n ts
 one_effect : (n u : ℕ) (effect : ℕ → ℤ) → u < n → sum_below n (λ t. pos (if t == u then 1 else 0) *ℤ effect t) ≡ effect u
 one_effect n u effect lt = sum_below-only n u (λ t. pos (if t == u then 1 else 0) *ℤ effect t) lt others ∙ here
   where
-    zero_times : (z : ℤ) → pos 0 *ℤ z ≡ pos 0
-    zero_times z = omega (arith, ints)
-
-    one_times : (z : ℤ) → pos 1 *ℤ z ≡ z
-    one_times z = omega (arith, ints)
-
     others : (t : ℕ) → t < n → t ≢ u → pos (if t == u then 1 else 0) *ℤ effect t ≡ pos 0
-    others t lt' ne = ap (λ b. pos (if b then 1 else 0) *ℤ effect t) (ne_eqb t u ne) ∙ zero_times (effect t)
+    others t lt' ne = ap (λ b. pos (if b then 1 else 0) *ℤ effect t) (ne_eqb t u ne) ∙ zero-*ℤ (effect t)
 
     here : pos (if u == u then 1 else 0) *ℤ effect u ≡ effect u
-    here = ap (λ b. pos (if b then 1 else 0) *ℤ effect u) (eq-eqb u u refl) ∙ one_times (effect u)
+    here = ap (λ b. pos (if b then 1 else 0) *ℤ effect u) (eq-eqb u u refl) ∙ one-mul (effect u)
 
 more_count : (a b : ℕ) (z : ℤ) → pos (a + b) *ℤ z ≡ (pos a *ℤ z) +ℤ (pos b *ℤ z)
 more_count a b z = let e : pos (a + b) ≡ pos a +ℤ pos b = omega (arith, ints) in rw e (add-mul (pos a) (pos b) z)
@@ -59,7 +53,8 @@ moved_along lts number effect s (t ∷ ts) s' keeps (mid, step, rest) =
     omega (arith, ints)
 
 -- numbers that keep all arcs are those that their effects give
-pub own_potential : (lts : System) (tree : List Arc) (number effect : ℕ → ℤ) (s : ℕ) → IsInRange lts → IsTree lts tree → KeepsArcs lts number effect → IsReachable lts s → number s ≡ potential lts tree (number lts.initial) effect s
+pub own_potential : (lts : System) (tree : List Arc) (number effect : ℕ → ℤ) (s : ℕ) → IsInRange lts → IsTree lts tree → KeepsArcs lts number effect → IsReachable lts s
+    → number s ≡ potential lts tree (number lts.initial) effect s
 own_potential lts tree number effect s fine g keeps reached =
     let leads = way_leads lts tree s g reached in
     moved_along lts number effect lts.initial (way_to tree s) s keeps leads
@@ -68,7 +63,8 @@ own_potential lts tree number effect s fine g keeps reached =
 -- ---- one arc
 
 -- what an arc's sum is: how far the arc is from being kept
-pub arc_sum : (lts : System) (tree : List Arc) (start : ℤ) (effect : ℕ → ℤ) (a : Arc) → a.label < labels lts → (potential lts tree start effect a.from +ℤ effect a.label) -ℤ potential lts tree start effect a.to ≡ chord_sum lts tree effect a
+pub arc_sum : (lts : System) (tree : List Arc) (start : ℤ) (effect : ℕ → ℤ) (a : Arc) → a.label < labels lts
+    → (potential lts tree start effect a.from +ℤ effect a.label) -ℤ potential lts tree start effect a.to ≡ chord_sum lts tree effect a
 arc_sum lts tree start effect a lt =
     let n = labels lts in
     let from : ℕ → ℤ = λ t. pos (parikh tree a.from t) *ℤ effect t in
@@ -88,13 +84,15 @@ arc_sum lts tree start effect a lt =
     close : (start e v to from own : ℤ) → v +ℤ to ≡ from +ℤ own → own ≡ e → ((start +ℤ from) +ℤ e) -ℤ (start +ℤ to) ≡ v
     close start e v to from own p q = omega (arith, ints)
 
-pub kept_from_sum : (lts : System) (tree : List Arc) (start : ℤ) (effect : ℕ → ℤ) (a : Arc) → a.label < labels lts → chord_sum lts tree effect a ≡ pos 0 → IsKept (potential lts tree start effect) effect a
+pub kept_from_sum : (lts : System) (tree : List Arc) (start : ℤ) (effect : ℕ → ℤ) (a : Arc) → a.label < labels lts → chord_sum lts tree effect a ≡ pos 0
+    → IsKept (potential lts tree start effect) effect a
 kept_from_sum lts tree start effect a lt e = close (potential lts tree start effect a.from +ℤ effect a.label) (potential lts tree start effect a.to) (arc_sum lts tree start effect a lt ∙ e)
   where
     close : (x y : ℤ) → x -ℤ y ≡ pos 0 → x ≡ y
     close x y e = omega (arith, ints)
 
-pub sum_from_kept : (lts : System) (tree : List Arc) (start : ℤ) (effect : ℕ → ℤ) (a : Arc) → a.label < labels lts → IsKept (potential lts tree start effect) effect a → chord_sum lts tree effect a ≡ pos 0
+pub sum_from_kept : (lts : System) (tree : List Arc) (start : ℤ) (effect : ℕ → ℤ) (a : Arc) → a.label < labels lts → IsKept (potential lts tree start effect) effect a
+    → chord_sum lts tree effect a ≡ pos 0
 sum_from_kept lts tree start effect a lt e = sym (arc_sum lts tree start effect a lt) ∙ close (potential lts tree start effect a.from +ℤ effect a.label) (potential lts tree start effect a.to) e
   where
     close : (x y : ℤ) → x ≡ y → x -ℤ y ≡ pos 0
@@ -161,7 +159,8 @@ pub tree_or_chord : (tree arcs : List Arc) (a : Arc) → Contains arcs a → Con
 tree_or_chord tree [] a (k, lt, e) = absurd (omega arith)
 tree_or_chord tree (b ∷ arcs) a has = go (is_among tree b) refl (Contains-cons_cases b a arcs has) (λ there. tree_or_chord tree arcs a there)
   where
-    go : (t : Bool) → is_among tree b ≡ t → (b ≡ a) ⊎ Contains arcs a → (Contains arcs a → Contains tree a ⊎ Contains (arcs_without tree arcs) a) → Contains tree a ⊎ Contains (if t then arcs_without tree arcs else (b ∷ arcs_without tree arcs)) a
+    go : (t : Bool) → is_among tree b ≡ t → (b ≡ a) ⊎ Contains arcs a → (Contains arcs a → Contains tree a ⊎ Contains (arcs_without tree arcs) a)
+        → Contains tree a ⊎ Contains (if t then arcs_without tree arcs else (b ∷ arcs_without tree arcs)) a
     go true is (inl e) next = inl (subst (Contains tree) e (among_is tree b is))
     go true is (inr there) next = next there
     go false is (inl e) next = inr (0, omega arith, e)
@@ -179,7 +178,8 @@ chord_is_arc tree (b ∷ arcs) a has = go (is_among tree b) has (λ h. chord_is_
     go false h next = ⊎_elim (λ e. (0, omega arith, e)) (λ h'. there (next h')) (Contains-cons_cases b a (arcs_without tree arcs) h)
 
 -- all arcs are kept exactly where every chord's sum is 0
-pub chord_equations : (lts : System) (tree : List Arc) (start : ℤ) (effect : ℕ → ℤ) → IsInRange lts → IsTree lts tree → KeepsArcs lts (potential lts tree start effect) effect ↔ ((a : Arc) → Contains (chords lts tree) a → chord_sum lts tree effect a ≡ pos 0)
+pub chord_equations : (lts : System) (tree : List Arc) (start : ℤ) (effect : ℕ → ℤ) → IsInRange lts → IsTree lts tree
+    → KeepsArcs lts (potential lts tree start effect) effect ↔ ((a : Arc) → Contains (chords lts tree) a → chord_sum lts tree effect a ≡ pos 0)
 chord_equations lts tree start effect fine g = (
   (λ keeps a has. (let arc_has = chord_is_arc tree lts.arcs a has in sum_from_kept lts tree start effect a (arc_label lts a fine arc_has) (keeps a arc_has))),
   (λ zero_sums a has. kept_from_sum lts tree start effect a (arc_label lts a fine has) (⊎_elim (λ h. tree_sum lts tree effect a g h) (λ h. zero_sums a h) (tree_or_chord tree lts.arcs a has))),

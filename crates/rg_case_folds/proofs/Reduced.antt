@@ -1,5 +1,5 @@
 -- The effects that the fold of a place makes are reduced.
-use Rattle.std.proofs.Common.{◌≡◌, ⊎_elim, ℕ, ◌-◌, ◌<◌, ◌&&◌, not, Bool, true, List, [], ◌∷◌, ◌++◌, length, Contains, Result, Ok, sym, ap, subst, ◌∙◌, arith}
+use Rattle.std.proofs.Common.{◌≡◌, ⊎_elim, ℕ, ◌<◌, ◌&&◌, not, Bool, true, List, [], ◌∷◌, ◌++◌, length, Contains, Result, Ok, sym, ap, subst, ◌∙◌, arith}
 use Rattle.std.specs.Prelude.{ℤ, pos}
 use Rattle.std.proofs.lemmas.Bool.{cases_Bool, and_from}
 use Rattle.std.proofs.lemmas.List.{get_or_append_left, get_or-append_right}
@@ -15,6 +15,7 @@ use Rattle.rg_case_folds.specs.Places.{IsReduced, AreValuesOf}
 use Rattle.rg_case_folds.proofs.Wholes.{each_at}
 use Rattle.rg_case_folds.proofs.Found.{all_length, all_at}
 use Rattle.rg_case_folds.proofs.Overs.{whole_reduced}
+use Rattle.rg_case_folds.proofs.Products.{itself_taken}
 use Rattle.rg_case_folds.proofs.Items.{each_length}
 
 further_reduced : (make : ℕ → Result Ratio Wide → Type 0) (f h : Ratio) (ts : List ℕ) → IsReduced f → further add make f ts (Ok h) → IsReduced h
@@ -25,8 +26,10 @@ joined_reduced : (make : ℕ → Result Ratio Wide → Type 0) (h : Ratio) (ts :
 joined_reduced make h [] one e = subst IsReduced (sym e) (whole_reduced (pos 0))
 joined_reduced make h (t ∷ ts) one (k, made, rest) = further_reduced make k h ts (one t k made) rest
 
-one_reduced : (lts : System) (basis : CycleBasis) (value : ℕ → Ratio) (t : ℕ) (h : Ratio) → ((f : ℕ) → Contains (free_columns lts basis) f → IsReduced (value f)) → t < labels lts → effect_fold lts basis value t (Ok h) → IsReduced h
-one_reduced lts basis value t h values lt fold = ⊎_elim used (λ none. subst IsReduced (sym (subst (λ b. effect_by b (is_in basis.members t)) none fold)) (whole_reduced (pos 0))) (cases_Bool (has_label t lts.arcs))
+one_reduced : (lts : System) (basis : CycleBasis) (value : ℕ → Ratio) (t : ℕ) (h : Ratio) → ((f : ℕ) → Contains (free_columns lts basis) f → IsReduced (value f))
+    → t < labels lts → effect_fold lts basis value t (Ok h) → IsReduced h
+one_reduced lts basis value t h values lt fold =
+    ⊎_elim used (λ none. subst IsReduced (sym (subst (λ b. effect_by b (is_in basis.members t)) none fold)) (whole_reduced (pos 0))) (cases_Bool (has_label t lts.arcs))
   where
     term : ℕ → Result Ratio Wide → Type 0
     term f = and_then (quotient ((basis.relation t).coefficient f) (basis.relation t).d) (λ k. mul (value f) k)
@@ -53,7 +56,4 @@ module _ (lts : System) (basis : CycleBasis) (start : Ratio) (value : ℕ → Ra
       (each_at (effect_fold lts basis value) (all_numbers (labels lts)) effects 0 (whole (pos 0)) t made (subst (λ n. t < n) (sym (all_length (labels lts))) lt))))
 
   pub start_is_reduced : IsReduced (ratio_at (effects ++ start ∷ []) (labels lts))
-  start_is_reduced = subst IsReduced (sym (get_or-append_right effects (start ∷ []) (labels lts) (labels lts) (whole (pos 0)) count (omega arith) ∙ ap (λ k. ratio_at (start ∷ []) k) (none (labels lts)))) v.start_reduced
-    where
-      none : (n : ℕ) → n - n ≡ 0
-      none n = omega arith
+  start_is_reduced = subst IsReduced (sym (get_or-append_right effects (start ∷ []) (labels lts) (labels lts) (whole (pos 0)) count (omega arith) ∙ ap (λ k. ratio_at (start ∷ []) k) (itself_taken (labels lts)))) v.start_reduced

@@ -17,6 +17,8 @@ use Rattle.rg_linear.specs.Cycle.{CycleBasis}
 use Rattle.rg_folds.specs.Substitution.{dependent_term, coefficient_fold, dependent_labels}
 use Rattle.rg_case_folds.specs.Rewriting.{variable_start, variable_count, start_of, count_of}
 use Rattle.rg_case_folds.specs.Values.{NamesLabels, numbers_along}
+use Rattle.std.proofs.Math.IntN.{zero-*ℤ}
+use Rattle.rg_case_folds.proofs.Products.{mul_right_comm, grouped, and_nothing}
 use Rattle.rg_cert_meaning.specs.declared.Variable.TheVariants.{Tokens, Effect}
 
 -- ---- the expression over Start and all labels
@@ -29,7 +31,8 @@ variable_value lts tree start effect c (Tokens q) rest names = close start (sum_
   where
     close : (z s : ℤ) → z +ℤ s ≡ (pos 1 *ℤ z) +ℤ s
     close z s = omega (arith, ints)
-variable_value lts tree start effect c (Effect u) rest names = close start (effect u) (sum_below (labels lts) (λ t. (if t == u then pos 1 else pos 0) *ℤ effect t)) (sum_below-at (labels lts) u (pos 1) effect names.0 ∙ one-mul (effect u))
+variable_value lts tree start effect c (Effect u) rest names =
+    close start (effect u) (sum_below (labels lts) (λ t. (if t == u then pos 1 else pos 0) *ℤ effect t)) (sum_below-at (labels lts) u (pos 1) effect names.0 ∙ one-mul (effect u))
   where
     close : (z e s : ℤ) → s ≡ e → e ≡ (pos 0 *ℤ z) +ℤ s
     close z e s p = omega (arith, ints)
@@ -42,12 +45,10 @@ names_rest n t rest names = go t.variable names
     go (Effect u) h = h.1
 
 -- by M(q) = Start + the sum of parikh(q)[t] * E(t), an expression is worth its coefficient of Start and its counts
-pub rewritten : (lts : System) (tree : List Arc) (start : ℤ) (effect : ℕ → ℤ) (terms : List Term) → NamesLabels (labels lts) terms → value_in (numbers_along lts tree start effect) terms ≡ (start_of terms *ℤ start) +ℤ sum_below (labels lts) (λ t. count_of tree terms t *ℤ effect t)
-rewritten lts tree start effect [] names = close start (sum_below (labels lts) (λ t. pos 0 *ℤ effect t)) (sum_below-zero (labels lts) (λ t. pos 0 *ℤ effect t) (λ t lt. zero_times (effect t)))
+pub rewritten : (lts : System) (tree : List Arc) (start : ℤ) (effect : ℕ → ℤ) (terms : List Term) → NamesLabels (labels lts) terms
+    → value_in (numbers_along lts tree start effect) terms ≡ (start_of terms *ℤ start) +ℤ sum_below (labels lts) (λ t. count_of tree terms t *ℤ effect t)
+rewritten lts tree start effect [] names = close start (sum_below (labels lts) (λ t. pos 0 *ℤ effect t)) (sum_below-zero (labels lts) (λ t. pos 0 *ℤ effect t) (λ t lt. zero-*ℤ (effect t)))
   where
-    zero_times : (z : ℤ) → pos 0 *ℤ z ≡ pos 0
-    zero_times z = omega (arith, ints)
-
     close : (z s : ℤ) → s ≡ pos 0 → pos 0 ≡ (pos 0 *ℤ z) +ℤ s
     close z s e = omega (arith, ints)
 rewritten lts tree start effect (t ∷ terms) names =
@@ -81,11 +82,8 @@ add_over b f g h x y (_, _, r) p q = sum b f.top f.bottom g.top g.bottom h.top h
   where
     sum : (b n d m e t u x y : ℤ) → (d *ℤ e) ≢ pos 0 → t *ℤ (d *ℤ e) ≡ ((n *ℤ e) +ℤ (m *ℤ d)) *ℤ u → n *ℤ b ≡ x *ℤ d → m *ℤ b ≡ y *ℤ e → t *ℤ b ≡ (x +ℤ y) *ℤ u
     sum b n d m e t u x y ne v p q = mul-cancel (t *ℤ b) ((x +ℤ y) *ℤ u) (d *ℤ e) ne
-        (turn t b (d *ℤ e) ∙ ap (λ z. z *ℤ b) v ∙ spread_out n e m d u b ∙ ap₂ (λ a c. (a *ℤ (e *ℤ u)) +ℤ (c *ℤ (d *ℤ u))) p q ∙ shut x y d e u)
+        (mul_right_comm t b (d *ℤ e) ∙ ap (λ z. z *ℤ b) v ∙ spread_out n e m d u b ∙ ap₂ (λ a c. (a *ℤ (e *ℤ u)) +ℤ (c *ℤ (d *ℤ u))) p q ∙ shut x y d e u)
       where
-        turn : (t b k : ℤ) → (t *ℤ b) *ℤ k ≡ (t *ℤ k) *ℤ b
-        turn t b k = simp ring
-
         spread_out : (n e m d u b : ℤ) → (((n *ℤ e) +ℤ (m *ℤ d)) *ℤ u) *ℤ b ≡ ((n *ℤ b) *ℤ (e *ℤ u)) +ℤ ((m *ℤ b) *ℤ (d *ℤ u))
         spread_out n e m d u b = simp ring (omega (arith, ints))
 
@@ -96,11 +94,9 @@ pub times_over : (b c : ℤ) (k h : Ratio) (y : ℤ) → mul (whole c) k (Ok h) 
 times_over b c k h y (_, _, r) q = product b c k.top k.bottom h.top h.bottom y r.nonzero r.value q
   where
     product : (b c m e t u y : ℤ) → (pos 1 *ℤ e) ≢ pos 0 → t *ℤ (pos 1 *ℤ e) ≡ (c *ℤ m) *ℤ u → m *ℤ b ≡ y *ℤ e → t *ℤ b ≡ (c *ℤ y) *ℤ u
-    product b c m e t u y ne v q = mul-cancel (t *ℤ b) ((c *ℤ y) *ℤ u) (pos 1 *ℤ e) ne (turn t b (pos 1 *ℤ e) ∙ ap (λ z. z *ℤ b) v ∙ spread_out c m u b ∙ ap (λ z. z *ℤ (c *ℤ u)) q ∙ shut y e c u)
+    product b c m e t u y ne v q =
+        mul-cancel (t *ℤ b) ((c *ℤ y) *ℤ u) (pos 1 *ℤ e) ne (mul_right_comm t b (pos 1 *ℤ e) ∙ ap (λ z. z *ℤ b) v ∙ spread_out c m u b ∙ ap (λ z. z *ℤ (c *ℤ u)) q ∙ shut y e c u)
       where
-        turn : (t b k : ℤ) → (t *ℤ b) *ℤ k ≡ (t *ℤ k) *ℤ b
-        turn t b k = simp ring
-
         spread_out : (c m u b : ℤ) → ((c *ℤ m) *ℤ u) *ℤ b ≡ (m *ℤ b) *ℤ (c *ℤ u)
         spread_out c m u b = simp ring
 
@@ -108,22 +104,14 @@ times_over b c k h y (_, _, r) q = product b c k.top k.bottom h.top h.bottom y r
         shut y e c u = simp ring
 
 pub quotient_over : (n d q : ℤ) (k : Ratio) → quotient n d (Ok k) → IsOver (d *ℤ q) k (n *ℤ q)
-quotient_over n d q k r = turn k.top d q ∙ ap (λ z. z *ℤ q) r.value ∙ turn' n k.bottom q
-  where
-    turn : (t d q : ℤ) → t *ℤ (d *ℤ q) ≡ (t *ℤ d) *ℤ q
-    turn t d q = simp ring
-
-    turn' : (n u q : ℤ) → (n *ℤ u) *ℤ q ≡ (n *ℤ q) *ℤ u
-    turn' n u q = simp ring
+quotient_over n d q k r = grouped k.top d q ∙ ap (λ z. z *ℤ q) r.value ∙ mul_right_comm n k.bottom q
 
 pub whole_over : (b c : ℤ) → IsOver b (whole c) (c *ℤ b)
 whole_over b c = omega (arith, ints)
 
-pub further_over : (b : ℤ) (make : ℕ → Result Ratio Wide → Type 0) (y : ℕ → ℤ) (f h : Ratio) (x : ℤ) (ts : List ℕ) → further add make f ts (Ok h) → IsOver b f x → ((t : ℕ) (k : Ratio) → Contains ts t → make t (Ok k) → IsOver b k (y t)) → IsOver b h (x +ℤ sum_over y ts)
-further_over b make y f h x [] e p each_over = subst (λ (g : Ratio). IsOver b g (x +ℤ pos 0)) (sym e) (p ∙ ap (λ z. z *ℤ f.bottom) (none x))
-  where
-    none : (x : ℤ) → x ≡ x +ℤ pos 0
-    none x = omega (arith, ints)
+pub further_over : (b : ℤ) (make : ℕ → Result Ratio Wide → Type 0) (y : ℕ → ℤ) (f h : Ratio) (x : ℤ) (ts : List ℕ) → further add make f ts (Ok h) → IsOver b f x
+    → ((t : ℕ) (k : Ratio) → Contains ts t → make t (Ok k) → IsOver b k (y t)) → IsOver b h (x +ℤ sum_over y ts)
+further_over b make y f h x [] e p each_over = subst (λ (g : Ratio). IsOver b g (x +ℤ pos 0)) (sym e) (p ∙ ap (λ z. z *ℤ f.bottom) (and_nothing x))
 further_over b make y f h x (t ∷ ts) (k, made, (g, added, rest)) p each_over =
     let here = add_over b f k g x (y t) added p (each_over t k (0, omega arith, refl) made) in
     let whole_sum = further_over b make y g h (x +ℤ y t) ts rest here (λ u l has made'. each_over u l (later u has) made') in

@@ -1,6 +1,6 @@
 -- Factors are positive, so a row and its named row are met together.
 use Rattle.std.proofs.Common.{◌≡◌, ℕ, max, ◌↔◌, Bool, true, false, if◌then◌else◌, List, [], ◌∷◌, ◌++◌, map, Result, Ok, subst, sym, ◌∙◌, arith}
-use Rattle.std.specs.Prelude.{ℤ, pos, ◌+ℤ◌, ◌-ℤ◌, ◌*ℤ◌, ◌≤ℤ◌, ◌<ℤ◌, unsigned_abs, int_div}
+use Rattle.std.specs.Prelude.{ℤ, pos, ◌+ℤ◌, ◌*ℤ◌, ◌≤ℤ◌, ◌<ℤ◌, unsigned_abs, int_div}
 use Rattle.std.proofs.lemmas.Int.{ints}
 use Rattle.rg_theory.specs.System.{System, labels}
 use Rattle.rg_cert_meaning.specs.Expression.{Term, Expression, value_in}
@@ -18,6 +18,7 @@ use Rattle.rg_folds.specs.Substitution.{free_labels, dependent_labels, dependent
 use Rattle.rg_case_folds.specs.Rewriting.{has_label, start_of, count_of, has_start, pick, columns_of, Scaled, terms_fold, KeptRow, row_fold}
 use Rattle.rg_case_folds.specs.Values.{NamesLabels, numbers_along, column_values, UnusedAreZero}
 use Rattle.rg_integers.specs.Sum.{dot}
+use Rattle.rg_case_folds.proofs.Products.{natural, less_nothing}
 use Rattle.rg_case_folds.proofs.ExactRows.{row_value_is}
 
 abbrev pub AllPositive : List ℤ → Type 0
@@ -27,14 +28,8 @@ AllPositive (d ∷ ds) = (pos 0 <ℤ d) × AllPositive ds
 pub multiple_positive : (x y z : ℤ) → pos 0 <ℤ x → pos 0 <ℤ y → common_multiple x y (Ok z) → pos 0 <ℤ z
 multiple_positive x y z h k (_, is) =
     let gcd = gcd_of-is (unsigned_abs x) (unsigned_abs y) in
-    let part = quotient_positive (int_div x (int_gcd x y)) (int_gcd x y) x (not_negative (gcd_of (unsigned_abs x) (unsigned_abs y))) (exact x (int_gcd x y) gcd.0) h in
-    subst (λ w. pos 0 <ℤ w) (sym (is ∙ drop (int_div x (int_gcd x y)) y)) (mul_positive (int_div x (int_gcd x y)) y part k)
-  where
-    not_negative : (n : ℕ) → pos 0 ≤ℤ pos n
-    not_negative n = omega (arith, ints)
-
-    drop : (a y : ℤ) → (a *ℤ y) -ℤ (pos 0 *ℤ pos 0) ≡ a *ℤ y
-    drop a y = omega (arith, ints)
+    let part = quotient_positive (int_div x (int_gcd x y)) (int_gcd x y) x (natural (gcd_of (unsigned_abs x) (unsigned_abs y))) (exact x (int_gcd x y) gcd.0) h in
+    subst (λ w. pos 0 <ℤ w) (sym (is ∙ less_nothing (int_div x (int_gcd x y)) y)) (mul_positive (int_div x (int_gcd x y)) y part k)
 
 pub further_multiple : (sum m : ℤ) (ds : List ℤ) → pos 0 <ℤ sum → AllPositive ds → further common_multiple gives sum ds (Ok m) → pos 0 <ℤ m
 further_multiple sum m [] h all e = subst (λ w. pos 0 <ℤ w) (sym e) h
@@ -48,7 +43,8 @@ further_positive : (make : ℕ → Result Ratio Wide → Type 0) (f h : Ratio) (
 further_positive make f h [] p e = subst (λ (r : Ratio). pos 0 <ℤ r.bottom) (sym e) p
 further_positive make f h (t ∷ ts) p (k, made, (g, (_, _, added), rest)) = further_positive make g h ts added.positive rest
 
-picked_positive : (lts : System) (basis : CycleBasis) (counts : ℕ → ℤ) (test : ℕ → Bool) (fs : List ℕ) (rs : List Ratio) → each (coefficient_fold (labels lts) basis counts) fs (Ok rs) → AllPositive (map (λ r. r.bottom) (pick test fs rs))
+picked_positive : (lts : System) (basis : CycleBasis) (counts : ℕ → ℤ) (test : ℕ → Bool) (fs : List ℕ) (rs : List Ratio)
+    → each (coefficient_fold (labels lts) basis counts) fs (Ok rs) → AllPositive (map (λ r. r.bottom) (pick test fs rs))
 picked_positive lts basis counts test [] rs e = tt
 picked_positive lts basis counts test (f ∷ fs) rs (h, is, (rest, each_is, e)) = subst (λ (l : List Ratio). AllPositive (map (λ r. r.bottom) (pick test (f ∷ fs) l)))
     (sym e) (go (test f) (further_positive (dependent_term basis counts f) (whole (counts f)) h (dependent_labels (labels lts) basis) (omega (arith, ints)) is)
@@ -59,7 +55,8 @@ picked_positive lts basis counts test (f ∷ fs) rs (h, is, (rest, each_is, e)) 
     go false p q = q
 
 pub terms_positive : (it : Setting) (terms : List Term) (scaled : Scaled) → terms_fold it terms (Ok scaled) → pos 0 <ℤ scaled.multiple
-terms_positive it terms scaled (free, substituted, (m, multiple, (ps, products, e))) = subst (λ (s : Scaled). pos 0 <ℤ s.multiple) (sym e) (all_multiple (map (λ r. r.bottom) (columns_of it.lts it.basis it.class (start_of terms) free)) m (start (has_start it.class)) multiple)
+terms_positive it terms scaled (free, substituted, (m, multiple, (ps, products, e))) =
+    subst (λ (s : Scaled). pos 0 <ℤ s.multiple) (sym e) (all_multiple (map (λ r. r.bottom) (columns_of it.lts it.basis it.class (start_of terms) free)) m (start (has_start it.class)) multiple)
   where
     start : (s : Bool) → AllPositive (map (λ r. r.bottom) ((if s then (whole (start_of terms) ∷ []) else []) ++ pick (λ t. has_label t it.lts.arcs) (free_labels (labels it.lts) it.basis) free))
     start true = (omega (arith, ints), picked_positive it.lts it.basis (count_of it.tree terms) (λ t. has_label t it.lts.arcs) (free_labels (labels it.lts) it.basis) free substituted)

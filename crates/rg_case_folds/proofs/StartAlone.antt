@@ -30,17 +30,20 @@ term_zero : (basis : CycleBasis) (counts : ℕ → ℤ) (f t : ℕ) (k : Ratio) 
 term_zero basis counts f t k none (q, is, (top, bottom, r)) = zero_is k (counts t *ℤ q.top) (pos 1 *ℤ q.bottom) (ap (λ z. z *ℤ q.top) none ∙ zero-*ℤ q.top) r
 
 sum_zero : (f g s : Ratio) → f ≡ whole (pos 0) → g ≡ whole (pos 0) → add f g (Ok s) → s ≡ whole (pos 0)
-sum_zero f g s e h (top, bottom, r) = zero_is s ((f.top *ℤ g.bottom) +ℤ (g.top *ℤ f.bottom)) (f.bottom *ℤ g.bottom) (none f.top g.bottom g.top f.bottom (ap (λ (x : Ratio). x.top) e) (ap (λ (x : Ratio). x.top) h)) r
+sum_zero f g s e h (top, bottom, r) =
+    zero_is s ((f.top *ℤ g.bottom) +ℤ (g.top *ℤ f.bottom)) (f.bottom *ℤ g.bottom) (none f.top g.bottom g.top f.bottom (ap (λ (x : Ratio). x.top) e) (ap (λ (x : Ratio). x.top) h)) r
   where
     none : (a b c d : ℤ) → a ≡ pos 0 → c ≡ pos 0 → (a *ℤ b) +ℤ (c *ℤ d) ≡ pos 0
     none a b c d e h = let p : a *ℤ b ≡ pos 0 = ap (λ z. z *ℤ b) e ∙ zero-*ℤ b in let q : c *ℤ d ≡ pos 0 = ap (λ z. z *ℤ d) h ∙ zero-*ℤ d in omega (arith, ints)
 
-further_zero : (make : ℕ → Result Ratio Wide → Type 0) (items : List ℕ) (sum r : Ratio) → sum ≡ whole (pos 0) → ((t : ℕ) (k : Ratio) → make t (Ok k) → k ≡ whole (pos 0)) → further add make sum items (Ok r) → r ≡ whole (pos 0)
+further_zero : (make : ℕ → Result Ratio Wide → Type 0) (items : List ℕ) (sum r : Ratio) → sum ≡ whole (pos 0) → ((t : ℕ) (k : Ratio) → make t (Ok k) → k ≡ whole (pos 0))
+    → further add make sum items (Ok r) → r ≡ whole (pos 0)
 further_zero make [] sum r e none h = h ∙ e
 further_zero make (a ∷ rest) sum r e none (x, made, (more, added, h)) = further_zero make rest more r (sum_zero sum x more e (none a x made) added) none h
 
 coefficient_zero : (n : ℕ) (basis : CycleBasis) (counts : ℕ → ℤ) (f : ℕ) (r : Ratio) → ((t : ℕ) → counts t ≡ pos 0) → coefficient_fold n basis counts f (Ok r) → r ≡ whole (pos 0)
-coefficient_zero n basis counts f r none h = further_zero (dependent_term basis counts f) (dependent_labels n basis) (whole (counts f)) r (ap whole (none f)) (λ t k made. term_zero basis counts f t k (none t) made) h
+coefficient_zero n basis counts f r none h =
+    further_zero (dependent_term basis counts f) (dependent_labels n basis) (whole (counts f)) r (ap whole (none f)) (λ t k made. term_zero basis counts f t k (none t) made) h
 
 -- ---- bottoms of 1
 
@@ -48,9 +51,11 @@ abbrev AllOnes : List ℤ → Type 0
 AllOnes [] = Unit {0}
 AllOnes (z ∷ zs) = (z ≡ pos 1) × AllOnes zs
 
-each_ones : (make : ℕ → Result Ratio Wide → Type 0) (items : List ℕ) (rs : List Ratio) → ((f : ℕ) (r : Ratio) → make f (Ok r) → r ≡ whole (pos 0)) → each make items (Ok rs) → AllOnes (map (λ (r : Ratio). r.bottom) rs)
+each_ones : (make : ℕ → Result Ratio Wide → Type 0) (items : List ℕ) (rs : List Ratio) → ((f : ℕ) (r : Ratio) → make f (Ok r) → r ≡ whole (pos 0))
+    → each make items (Ok rs) → AllOnes (map (λ (r : Ratio). r.bottom) rs)
 each_ones make [] rs none e = subst (λ l. AllOnes (map (λ (r : Ratio). r.bottom) l)) (sym e) tt
-each_ones make (a ∷ items) rs none (x, is, (rest, each_is, e)) = subst (λ l. AllOnes (map (λ (r : Ratio). r.bottom) l)) (sym e) (ap (λ (r : Ratio). r.bottom) (none a x is), each_ones make items rest none each_is)
+each_ones make (a ∷ items) rs none (x, is, (rest, each_is, e)) =
+    subst (λ l. AllOnes (map (λ (r : Ratio). r.bottom) l)) (sym e) (ap (λ (r : Ratio). r.bottom) (none a x is), each_ones make items rest none each_is)
 
 pick_ones : (test : ℕ → Bool) (fs : List ℕ) (rs : List Ratio) → AllOnes (map (λ (r : Ratio). r.bottom) rs) → AllOnes (map (λ (r : Ratio). r.bottom) (pick test fs rs))
 pick_ones test [] rs ones = tt

@@ -49,7 +49,8 @@ met_long : (met : List ℕ) (tree : List Arc) → length (met_after met tree) �
 met_long met [] = omega arith
 met_long met (a ∷ tree) = omega (arith, met_long (met ++ a.to ∷ []) tree, length-append met (a.to ∷ []))
 
-met_below : (lts : System) (met : List ℕ) (tree : List Arc) → IsInRange lts → Grows lts met tree → ((s : ℕ) → Contains met s → s < states lts) → (s : ℕ) → Contains (met_after met tree) s → s < states lts
+met_below : (lts : System) (met : List ℕ) (tree : List Arc) → IsInRange lts → Grows lts met tree → ((s : ℕ) → Contains met s → s < states lts) → (s : ℕ)
+    → Contains (met_after met tree) s → s < states lts
 met_below lts met [] fine g below s has = below s has
 met_below lts met (a ∷ tree) fine (j, rest) below s has = met_below lts (met ++ a.to ∷ []) tree fine rest next s has
   where

@@ -18,6 +18,7 @@ use Rattle.rg_case_folds.specs.Rewriting.{has_start, names_of, KeptRow, IsIdle, 
 use Rattle.rg_case_folds.specs.Values.{NamesLabels, column_values, UnusedAreZero, RowIsMet, NameIsMet}
 use Rattle.rg_integers.specs.Sum.{dot}
 use Rattle.rg_linear.proofs.Firsts.{kept_is, item_stays}
+use Rattle.rg_case_folds.proofs.Products.{weak}
 use Rattle.rg_case_folds.proofs.Signs.{row_is_met}
 
 -- the items of a list and the values made of them
@@ -57,9 +58,6 @@ idle_is_met k values scale h (zeros, constant) =
     let product = mul_not_negative k.row.constant scale constant (weak scale h) in
     close (dot k.row.coeffs values) (k.row.constant *ℤ scale) (zero_dot k.row.coeffs values zeros) product
   where
-    weak : (z : ℤ) → pos 0 <ℤ z → pos 0 ≤ℤ z
-    weak z p = omega (arith, ints)
-
     close : (d p : ℤ) → d ≡ pos 0 → pos 0 ≤ℤ p → pos 0 ≤ℤ (d +ℤ p)
     close d p e h = omega (arith, ints)
 
@@ -77,7 +75,8 @@ system_is_met s start effect scale case is names positive no_start follows unuse
       (row_is_met s.setting name (row_expression s.lts s.class s.problem s.number [] name) start effect scale k is (names name has') no_start follows unused fold).1 (met name has'))),
 )
   where
-    row_met : ((k : KeptRow) → Contains case.kept k → RowIsMet (column_values s.lts s.basis s.class start effect) scale k) → (k : KeptRow) → IsIdle k ⊎ (Contains [] k.row ⊎ ((y : KeptRow) × Contains case.kept y × (y.row ≡ k.row))) → RowIsMet (column_values s.lts s.basis s.class start effect) scale k
+    row_met : ((k : KeptRow) → Contains case.kept k → RowIsMet (column_values s.lts s.basis s.class start effect) scale k) → (k : KeptRow)
+        → IsIdle k ⊎ (Contains [] k.row ⊎ ((y : KeptRow) × Contains case.kept y × (y.row ≡ k.row))) → RowIsMet (column_values s.lts s.basis s.class start effect) scale k
     row_met met k (inl idle) = idle_is_met k (column_values s.lts s.basis s.class start effect) scale positive idle
     row_met met k (inr (inl (i, lt, e))) = absurd (omega arith)
     row_met met k (inr (inr (y, has, e))) = subst (λ (r : LinearRow). pos 0 ≤ℤ (dot r.coeffs (column_values s.lts s.basis s.class start effect) +ℤ (r.constant *ℤ scale))) e (met y has)

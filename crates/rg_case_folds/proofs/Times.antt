@@ -10,16 +10,16 @@ use Rattle.rg_theory.specs.ClassWords.{HasNumbersInRange}
 use Rattle.rg_theory.specs.System.{System}
 use Rattle.rg_integers.proofs.Ring.{ring}
 use Rattle.rg_integers.proofs.Order.{mul_positive, mul_not_negative, mul_negative}
-use Rattle.rg_cert_meaning.specs.Expression.{Term, value_in, numbers_by}
+use Rattle.rg_cert_meaning.specs.Expression.{Term, value_in}
 use Rattle.rg_cert_meaning.specs.declared.Variable.{Variable}
 use Rattle.rg_cert_meaning.specs.Row.{row_expression, Says}
 use Rattle.rg_cert_meaning.specs.declared.RowName.{RowName}
 use Rattle.rg_case_folds.specs.Meaning.{value_over, KeepsRowsOver, HasSolution, HasWholeSolutionIn}
-use Rattle.rg_case_folds.proofs.CaseRows.{says, said, tokens_row_holds}
-use Rattle.rg_case_folds.proofs.CaseMeaning.{whole_means}
-use Rattle.rg_case_folds.proofs.Whole.{at_one, same_numbers, tokens_stand, absolute}
+use Rattle.rg_case_folds.proofs.CaseRows.{says, said}
+use Rattle.rg_case_folds.proofs.Whole.{at_one, solve_kept}
 use Rattle.rg_cert_meaning.specs.declared.RowName.TheVariants as row_name
-use Rattle.rg_cert_meaning.specs.declared.Variable.TheVariants.{Tokens, Effect}
+use Rattle.rg_case_folds.proofs.Products.{once}
+use Rattle.rg_cert_meaning.specs.declared.Variable.TheVariants.{Tokens}
 
 abbrev pub times : ℤ → (Variable → ℤ) → Variable → ℤ
 times n x v = n *ℤ x v
@@ -38,14 +38,16 @@ says_times : (name : RowName) (n z : ℤ) → pos 0 <ℤ n → Says name z → S
 says_times (row_name.Arc a) n z positive h = ap (λ w. n *ℤ w) h ∙ *ℤ-zero n
 says_times name n z positive h = says name (n *ℤ z) (λ none. none) (mul_not_negative n z (omega (arith, ints)) (said name z h))
 
-pub times_over : (lts : System) (class : Class) (problem : Problem) (number : ℕ) (n scale : ℤ) (x : Variable → ℤ) → pos 0 <ℤ n → KeepsRowsOver lts class problem number scale x → KeepsRowsOver lts class problem number (n *ℤ scale) (times n x)
+pub times_over : (lts : System) (class : Class) (problem : Problem) (number : ℕ) (n scale : ℤ) (x : Variable → ℤ) → pos 0 <ℤ n
+    → KeepsRowsOver lts class problem number scale x → KeepsRowsOver lts class problem number (n *ℤ scale) (times n x)
 times_over lts class problem number n scale x positive keeps name stands =
     let e = row_expression lts class problem number [] name in
     subst (Says name) (sym (ap (λ z. z +ℤ (e.constant *ℤ (n *ℤ scale))) (terms_times n x e.terms) ∙ value_times n scale e.constant (value_in x e.terms)))
     (says_times name n (value_over scale x e) positive (keeps name stands))
 
 -- in a class neither plain nor bounded whole numbers may be multiplied
-pub times_keeps : (lts : System) (class : Class) (problem : Problem) (number : ℕ) (n scale : ℤ) (x : Variable → ℤ) → class.plain ≡ false → IsNone class.bound → pos 0 <ℤ n → pos 0 <ℤ scale → KeepsRowsOver lts class problem number scale x → KeepsRowsOver lts class problem number (pos 1) (times n x)
+pub times_keeps : (lts : System) (class : Class) (problem : Problem) (number : ℕ) (n scale : ℤ) (x : Variable → ℤ) → class.plain ≡ false → IsNone class.bound → pos 0 <ℤ n
+    → pos 0 <ℤ scale → KeepsRowsOver lts class problem number scale x → KeepsRowsOver lts class problem number (pos 1) (times n x)
 times_keeps lts class problem number n scale x plain bound positive above keeps =
     at_one lts class problem number (n *ℤ scale) (times n x) plain bound (mul_positive n scale positive above) (times_over lts class problem number n scale x positive keeps)
 
@@ -68,14 +70,11 @@ allows_by class z u e = by class.marking e
 pub steps_by : (class : Class) (m : ℕ) → AllowsStart class m → (w : ℤ) × (pos m ≡ pos (unwrap_or class.marking 1) *ℤ w)
 steps_by class m allows = by class.marking allows
   where
-    one : (z : ℤ) → z ≡ pos 1 *ℤ z
-    one z = omega (arith, ints)
-
     turn : (a b : ℕ) → pos (a * b) ≡ pos b *ℤ pos a
     turn a b = omega (arith, ints)
 
     by : (o : Option ℕ) → IfSome o (λ n. IsMultiple n m) → (w : ℤ) × (pos m ≡ pos (unwrap_or o 1) *ℤ w)
-    by None h = (pos m, one (pos m))
+    by None h = (pos m, once (pos m))
     by (Some n) (t, e) = (pos t, ap pos e ∙ turn t n)
 
 pub multiple_positive : (class : Class) → HasNumbersInRange class → pos 0 <ℤ pos (unwrap_or class.marking 1)
@@ -86,23 +85,12 @@ multiple_positive class numbers = by class.marking numbers.marking
     by (Some n) (some, few) = omega (arith, ints)
 
 -- in a class neither plain nor bounded each solution gives a whole one
-pub whole_of_solution : (lts : System) (class : Class) (problem : Problem) (number : ℕ) → class.plain ≡ false → IsNone class.bound → HasNumbersInRange class → HasSolution lts class problem number → HasWholeSolutionIn lts class problem number
-whole_of_solution lts class problem number plain bound numbers (scale, x, positive, keeps) = (
-  λ q. unsigned_abs (y (Tokens q)),
-  λ t. y (Effect t),
-  allows_by class (y (Tokens lts.initial)) (x (Tokens lts.initial)) refl,
-  (whole_means lts class problem number (numbers_by (λ q. unsigned_abs (y (Tokens q))) (λ t. y (Effect t)))).0 (same_numbers lts class problem number y (numbers_by (λ q. unsigned_abs (y (Tokens q))) (λ t. y (Effect t))) same kept),
-)
-  where
-    y : Variable → ℤ
-    y = times (pos (unwrap_or class.marking 1)) x
-
-    kept : KeepsRowsOver lts class problem number (pos 1) y
-    kept = times_keeps lts class problem number (pos (unwrap_or class.marking 1)) scale x plain bound (multiple_positive class numbers) positive keeps
-
-    same : (v : Variable) → y v ≡ numbers_by (λ q. unsigned_abs (y (Tokens q))) (λ t. y (Effect t)) v
-    same (Tokens q) = absolute (y (Tokens q)) ((tokens_row_holds lts class problem number (pos 1) y q).1 (kept (row_name.Tokens q) (tokens_stand lts class problem number q)))
-    same (Effect t) = refl
+pub whole_of_solution : (lts : System) (class : Class) (problem : Problem) (number : ℕ) → class.plain ≡ false → IsNone class.bound → HasNumbersInRange class
+    → HasSolution lts class problem number → HasWholeSolutionIn lts class problem number
+whole_of_solution lts class problem number plain bound numbers (scale, x, positive, keeps) =
+    let n = pos (unwrap_or class.marking 1) in
+    solve_kept lts class problem number (times n x) (times_keeps lts class problem number n scale x plain bound (multiple_positive class numbers) positive keeps)
+    (allows_by class (n *ℤ x (Tokens lts.initial)) (x (Tokens lts.initial)) refl)
 
 -- ---- where the start is whole, no rest is left
 

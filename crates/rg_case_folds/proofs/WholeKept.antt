@@ -125,7 +125,8 @@ module _ (it : CaseSetting) (case : CaseSystem) (first : ℤ) (effect : ℕ → 
 
   module _ (y : Variable → ℤ) (parts : AreWholeParts it.lts scale x y) where
     effect_whole : (t : ℕ) → t < labels it.lts → top_at found t ≡ y (Effect t)
-    effect_whole t lt = ap (λ (r : Ratio). r.top) (whole_over scale (y (Effect t)) (ratio_at found t) v.positive (subst (IsOverAt scale (ratio_at found t)) times (label_over t lt)) (label_reduced t lt))
+    effect_whole t lt =
+        ap (λ (r : Ratio). r.top) (whole_over scale (y (Effect t)) (ratio_at found t) v.positive (subst (IsOverAt scale (ratio_at found t)) times (label_over t lt)) (label_reduced t lt))
       where
         none : (s a b : ℤ) → a ≡ pos 0 → b ≡ pos 0 → a ≡ s *ℤ b
         none s a b p q = p ∙ sym (*ℤ-zero s) ∙ ap (λ z. s *ℤ z) (sym q)
@@ -138,7 +139,8 @@ module _ (it : CaseSetting) (case : CaseSystem) (first : ℤ) (effect : ℕ → 
 
   -- ---- a bounded it.class
 
-  bounded_kept : is_some it.class.bound ≡ true → (y : Variable → ℤ) × AreMoved it.lts it.class it.problem it.number found numbers y × (is_lifted it.class it.problem ≡ false → AllowsStart it.class (unsigned_abs (y (Tokens it.lts.initial))))
+  bounded_kept : is_some it.class.bound ≡ true
+      → (y : Variable → ℤ) × AreMoved it.lts it.class it.problem it.number found numbers y × (is_lifted it.class it.problem ≡ false → AllowsStart it.class (unsigned_abs (y (Tokens it.lts.initial))))
   bounded_kept bound =
       let (y, parts, allowed_start) = bounded_parts it c.in_range c.is_tree scale v.positive first effect e keeps variable_whole start_whole bound in
       let kept = keeps_whole y parts in
@@ -179,7 +181,8 @@ module _ (it : CaseSetting) (case : CaseSystem) (first : ℤ) (effect : ℕ → 
           between : (a b n : ℕ) → a ≤ b → b < n → a < n
           between a b n h g = omega arith
 
-      cap : (p : Problem) (y : Variable → ℤ) (s : ℕ) → s < states it.lts → KeepsRowsOver it.lts it.class p it.number (pos 1) y → pos 0 ≤ℤ (((negsuc 0 *ℤ y (Tokens s)) +ℤ pos 0) +ℤ (pos (unwrap_or it.class.bound 0) *ℤ pos 1))
+      cap : (p : Problem) (y : Variable → ℤ) (s : ℕ) → s < states it.lts → KeepsRowsOver it.lts it.class p it.number (pos 1) y
+          → pos 0 ≤ℤ (((negsuc 0 *ℤ y (Tokens s)) +ℤ pos 0) +ℤ (pos (unwrap_or it.class.bound 0) *ℤ pos 1))
       cap (Event a b) y s lt kept = kept (row_name.Cap s) (lt, bound)
       cap (States a b) y s lt kept = kept (row_name.Cap s) (lt, bound)
 
@@ -194,7 +197,8 @@ module _ (it : CaseSetting) (case : CaseSystem) (first : ℤ) (effect : ℕ → 
       let (_, _, lt) = where_is (λ q. true) 0 (states it.lts) s within in
       (x (Tokens s), subst (λ q. IsOverAt scale q (x (Tokens s))) is (state_over s (omega arith)).0)
 
-  plain_kept : is_some it.class.bound ≡ false → it.class.plain ≡ true → (y : Variable → ℤ) × AreMoved it.lts it.class it.problem it.number found numbers y × (is_lifted it.class it.problem ≡ false → AllowsStart it.class (unsigned_abs (y (Tokens it.lts.initial))))
+  plain_kept : is_some it.class.bound ≡ false → it.class.plain ≡ true
+      → (y : Variable → ℤ) × AreMoved it.lts it.class it.problem it.number found numbers y × (is_lifted it.class it.problem ≡ false → AllowsStart it.class (unsigned_abs (y (Tokens it.lts.initial))))
   plain_kept bound plain =
       let (y, parts, start_steps) = plain_parts it c.in_range c.is_tree scale v.positive first effect e keeps variable_whole start_whole bound plain in
       let kept = keeps_whole y parts in
@@ -209,7 +213,7 @@ module _ (it : CaseSetting) (case : CaseSystem) (first : ℤ) (effect : ℕ → 
       let above : (s : ℕ) → s < states it.lts → pos 0 ≤ℤ (y (Tokens s) +ℤ neg_ℤ (y (Tokens l))) = λ s lt. difference (y (Tokens l)) (y (Tokens s)) (order s lt) in (
         lowered (states it.lts) (neg_ℤ (y (Tokens l))) y,
         record {
-          keeps = lowered_keeps it.lts it.class plain bound c.in_range (neg_ℤ (y (Tokens l))) le y above it.problem it.number c.asked kept;
+          keeps = lowered_keeps it.lts it.class plain c.in_range (neg_ℤ (y (Tokens l))) le y above it.problem it.number c.asked kept;
           at = (
             each_length (λ m. add m (negated (least_of list))) list numbers shifts ∙ list_length,
             λ s lt.
@@ -224,14 +228,14 @@ module _ (it : CaseSetting) (case : CaseSystem) (first : ℤ) (effect : ℕ → 
                   sum.2.positive,
                 ))
                 sum.2.reduced in
-                let same_y = lowered_at it.lts it.class plain bound c.in_range (neg_ℤ (y (Tokens l))) le y above s lt in (
+                let same_y = lowered_at it.lts it.class plain c.in_range (neg_ℤ (y (Tokens l))) le y above s lt in (
                   value_is ∙ ap whole (sym same_y),
                   subst InRange (sym same_y) (sum_in_range (out s) (negated (least_of list)) (y (Tokens s) +ℤ neg_ℤ (y (Tokens l))) (state_over s lt).0.1 opposite.1 (subst (λ r. add (out s) (negated (least_of list)) (Ok r)) value_is sum)),
                 )),
           );
           effects = effect_whole y parts;
         },
-        λ none. subst (λ z. AllowsStart it.class (unsigned_abs z)) (sym (lowered_at it.lts it.class plain bound c.in_range (neg_ℤ (y (Tokens l))) le y above it.lts.initial c.in_range.initial))
+        λ none. subst (λ z. AllowsStart it.class (unsigned_abs z)) (sym (lowered_at it.lts it.class plain c.in_range (neg_ℤ (y (Tokens l))) le y above it.lts.initial c.in_range.initial))
             (allowed_by it.problem y l bound plain c.asked kept (λ s lt. order s lt) (whole_tokens it.lts it.class it.problem it.number scale x y l parts keeps) start_steps none),
       )
     where
@@ -253,7 +257,8 @@ module _ (it : CaseSetting) (case : CaseSystem) (first : ℤ) (effect : ℕ → 
       low_empty : (a l : ℤ) → pos 0 ≤ℤ l → l ≤ℤ a → pos 0 ≤ℤ (((negsuc 0 *ℤ a) +ℤ pos 0) +ℤ (pos 0 *ℤ pos 1)) → l ≡ pos 0
       low_empty a l h k g = omega (arith, ints)
 
-      low_block : (a e l : ℤ) → pos 0 ≤ℤ l → l ≤ℤ a → pos 0 ≤ℤ (((negsuc 0 *ℤ a) +ℤ ((negsuc 0 *ℤ e) +ℤ pos 0)) +ℤ (negsuc 0 *ℤ pos 1)) → pos 0 ≤ℤ (((pos 1 *ℤ e) +ℤ pos 0) +ℤ (pos 1 *ℤ pos 1)) → l ≡ pos 0
+      low_block : (a e l : ℤ) → pos 0 ≤ℤ l → l ≤ℤ a → pos 0 ≤ℤ (((negsuc 0 *ℤ a) +ℤ ((negsuc 0 *ℤ e) +ℤ pos 0)) +ℤ (negsuc 0 *ℤ pos 1))
+          → pos 0 ≤ℤ (((pos 1 *ℤ e) +ℤ pos 0) +ℤ (pos 1 *ℤ pos 1)) → l ≡ pos 0
       low_block a e l h k g d = omega (arith, ints)
 
       less_none : (a l : ℤ) (n : ℕ) (u : ℤ) → l ≡ pos 0 → a ≡ pos n *ℤ u → a +ℤ neg_ℤ l ≡ pos n *ℤ u

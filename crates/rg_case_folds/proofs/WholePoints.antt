@@ -14,8 +14,7 @@ use Rattle.rg_theory.specs.ClassWords.{HasNumbersInRange}
 use Rattle.rg_theory.specs.System.{System, IsInRange, states, labels}
 use Rattle.rg_theory.proofs.Arcs.{arc_in_range}
 use Rattle.rg_theory.specs.Tree.{IsTree, parikh}
-use Rattle.rg_integers.specs.Sum.{sum_below}
-use Rattle.rg_integers.proofs.Ring.{ring}
+use Rattle.rg_integers.proofs.Ring.{ring, mul_left_comm}
 use Rattle.rg_integers.proofs.Order.{mul_positive}
 use Rattle.rg_cert_meaning.specs.Expression.{numbers_by}
 use Rattle.rg_cert_meaning.specs.declared.Variable.{Variable}
@@ -33,17 +32,17 @@ use Rattle.rg_case_folds.proofs.CaseMeaning.{start_means, whole_means}
 use Rattle.rg_case_folds.proofs.Kept.{arc_value, effects_given, meets_given}
 use Rattle.rg_case_folds.proofs.PointEffects.{point_gives}
 use Rattle.rg_case_folds.proofs.Points.{point_meets, given_point, points_exact}
-use Rattle.rg_case_folds.proofs.Whole.{solution_of_whole, same_numbers, tokens_stand, absolute}
+use Rattle.rg_case_folds.proofs.Whole.{solution_of_whole, solve_kept}
 use Rattle.rg_case_folds.proofs.Times.{whole_of_solution, allows_by, steps_by, start_steps}
 use Rattle.rg_case_folds.specs.Placing.{missing}
 use Rattle.rg_case_folds.proofs.Missing.{missing_is_least}
 use Rattle.rg_case_folds.proofs.Lifts.{lifted_keeps}
-use Rattle.rg_case_folds.proofs.CaseRows.{tokens_row_holds}
+use Rattle.rg_case_folds.proofs.CaseRows.{kept_tokens}
 use Rattle.rg_case_folds.proofs.Along.{number_at_first}
 use Rattle.rg_case_folds.proofs.WholeParts.{whole_rows}
 use Rattle.rg_case_folds.proofs.Forms.{variable_multiple, whole_forms, bounded_has, plain_has, start_has, form_names, form_there, form_count, start_of_bound, start_of_plain}
-use Rattle.rg_cert_meaning.specs.declared.RowName.TheVariants as row_name
 use Rattle.rg_cert_meaning.specs.declared.Form.TheVariants as split_form
+use Rattle.rg_case_folds.proofs.Products.{once, IsTimes, sum_times}
 use Rattle.rg_cert_meaning.specs.declared.Variable.TheVariants.{Tokens, Effect}
 
 -- ---- whole parts
@@ -76,25 +75,13 @@ parts_by z (pos zero) h = absurd (omega (arith, ints))
 parts_by z (pos (suc x)) h = parts_of z x
 parts_by z (negsuc x) h = absurd (omega (arith, ints))
 
-abbrev IsTimes : ℤ → ℤ → Type 0
-IsTimes k z = (u : ℤ) × (z ≡ k *ℤ u)
-
-sum_times : (k : ℤ) (n : ℕ) (f : ℕ → ℤ) → ((t : ℕ) → t < n → IsTimes k (f t)) → IsTimes k (sum_below n f)
-sum_times k zero f each = (pos 0, sym (*ℤ-zero k))
-sum_times k (suc n) f each =
-    let (u, e) = sum_times k n f (λ t lt. each t (omega arith)) in
-    let (w, g) = each n (omega arith) in
-    (u +ℤ w, join k (sum_below n f) (f n) u w e g)
-  where
-    join : (k a b u w : ℤ) → a ≡ k *ℤ u → b ≡ k *ℤ w → a +ℤ b ≡ k *ℤ (u +ℤ w)
-    join k a b u w e g = let h : k *ℤ (u +ℤ w) ≡ (k *ℤ u) +ℤ (k *ℤ w) = simp ring (omega (arith, ints)) in omega (arith, ints)
-
 -- some arc has a label that is used
 label_found : (t : ℕ) (arcs : List Arc) → has_label t arcs ≡ true → (a : Arc) × Contains arcs a × (a.label ≡ t)
 label_found t [] e = absurd (true≢false (sym e))
 label_found t (a ∷ arcs) e = go (a.label == t) refl e (label_found t arcs)
   where
-    go : (b : Bool) → (a.label == t) ≡ b → (if b then true else has_label t arcs) ≡ true → (has_label t arcs ≡ true → (x : Arc) × Contains arcs x × (x.label ≡ t)) → (x : Arc) × Contains (a ∷ arcs) x × (x.label ≡ t)
+    go : (b : Bool) → (a.label == t) ≡ b → (if b then true else has_label t arcs) ≡ true → (has_label t arcs ≡ true → (x : Arc) × Contains arcs x × (x.label ≡ t))
+        → (x : Arc) × Contains (a ∷ arcs) x × (x.label ≡ t)
     go true is e more = (a, (0, omega arith, refl), eqb-true a.label t is)
     go false is e more = (let (x, (k, lt, at), l) = more e in (x, (suc k, omega arith, at), l))
 
@@ -152,41 +139,30 @@ module _ (lts : System) (k : ℤ) (positive : pos 0 <ℤ k) (x : Variable → �
     some_parts = (chosen, chosen_parts, chosen_tokens)
 
 -- whole numbers that keep the rows are a solution where the class allows their start
-solve_kept : (lts : System) (class : Class) (problem : Problem) (number : ℕ) (y : Variable → ℤ) → AllowsStart class (unsigned_abs (y (Tokens lts.initial))) → KeepsRowsOver lts class problem number (pos 1) y → HasWholeSolutionIn lts class problem number
-solve_kept lts class problem number y allows keeps = (
-  λ q. unsigned_abs (y (Tokens q)),
-  λ t. y (Effect t),
-  allows,
-  (whole_means lts class problem number (numbers_by (λ q. unsigned_abs (y (Tokens q))) (λ t. y (Effect t)))).0
-      (same_numbers lts class problem number y (numbers_by (λ q. unsigned_abs (y (Tokens q))) (λ t. y (Effect t))) same keeps),
-)
-  where
-    same : (v : Variable) → y v ≡ numbers_by (λ q. unsigned_abs (y (Tokens q))) (λ t. y (Effect t)) v
-    same (Tokens q) = absolute (y (Tokens q)) ((tokens_row_holds lts class problem number (pos 1) y q).1 (keeps (row_name.Tokens q) (tokens_stand lts class problem number q)))
-    same (Effect t) = refl
-
 -- whole parts do
 solve_parts : (lts : System) (class : Class) (problem : Problem) (number : ℕ) (k : ℤ) (x y : Variable → ℤ) → IsInRange lts → IsSeparationProblem lts problem
     → IsLive lts problem → AllowsStart class (unsigned_abs (y (Tokens lts.initial))) → AreWholeParts lts k x y → KeepsRowsOver lts class problem number k x
     → HasWholeSolutionIn lts class problem number
-solve_parts lts class problem number k x y fine asked live allows parts keeps = solve_kept lts class problem number y allows (whole_rows lts class problem number k x y fine asked live parts keeps)
+solve_parts lts class problem number k x y fine asked live allows parts keeps = solve_kept lts class problem number y (whole_rows lts class problem number k x y fine asked live parts keeps) allows
 
 -- in a problem of two states and a class without bound the class allows their start after a lift
-solve_lifted : (lts : System) (class : Class) (s s' number : ℕ) (y : Variable → ℤ) → is_some class.bound ≡ false → HasNumbersInRange class → KeepsRowsOver lts class (States s s') number (pos 1) y → HasWholeSolutionIn lts class (States s s') number
+solve_lifted : (lts : System) (class : Class) (s s' number : ℕ) (y : Variable → ℤ) → is_some class.bound ≡ false → HasNumbersInRange class
+    → KeepsRowsOver lts class (States s s') number (pos 1) y → HasWholeSolutionIn lts class (States s s') number
 solve_lifted lts class s s' number y bound numbers keeps =
-    solve_kept lts class (States s s') number (shifted (pos more) y) (subst (λ m. AllowsStart class m) (sum_is (y (Tokens lts.initial)) more above) (lifted class.marking numbers.marking))
-    (lifted_keeps lts class bound (pos more) (omega (arith, ints)) y s s' number keeps)
+    solve_kept lts class (States s s') number (shifted (pos more) y) (lifted_keeps lts class bound (pos more) (omega (arith, ints)) y s s' number keeps)
+    (subst (λ m. AllowsStart class m) (sum_is (y (Tokens lts.initial)) more above) (lifted class.marking numbers.marking))
   where
     more : ℕ
     more = missing (unwrap_or class.marking 1) (unsigned_abs (y (Tokens lts.initial)))
 
     above : pos 0 ≤ℤ y (Tokens lts.initial)
-    above = (tokens_row_holds lts class (States s s') number (pos 1) y lts.initial).1 (keeps (row_name.Tokens lts.initial) tt)
+    above = kept_tokens lts class (States s s') number (pos 1) y keeps lts.initial
 
     sum_is : (z : ℤ) (m : ℕ) → pos 0 ≤ℤ z → unsigned_abs z + m ≡ unsigned_abs (z +ℤ pos m)
     sum_is z m h = omega (arith, ints)
 
-    lifted : (o : Option ℕ) → IfSome o (λ n. (0 < n) × (n ≤ 255)) → IfSome o (λ n. IsMultiple n (unsigned_abs (y (Tokens lts.initial)) + missing (unwrap_or o 1) (unsigned_abs (y (Tokens lts.initial)))))
+    lifted : (o : Option ℕ) → IfSome o (λ n. (0 < n) × (n ≤ 255))
+        → IfSome o (λ n. IsMultiple n (unsigned_abs (y (Tokens lts.initial)) + missing (unwrap_or o 1) (unsigned_abs (y (Tokens lts.initial)))))
     lifted None h = tt
     lifted (Some n) (some, few) = (missing_is_least n (unsigned_abs (y (Tokens lts.initial))) some).0
 
@@ -229,7 +205,8 @@ module _ (it : CaseSetting) (fine : IsInRange it.lts) (g : IsTree it.lts it.tree
     (starts : splits_start it.class it.problem ≡ true → (u : ℤ) × (numbers_along it.lts it.tree start effect (Tokens it.lts.initial) ≡ k *ℤ (pos (unwrap_or it.class.marking 1) *ℤ u)))
   where
     -- where all tokens are whole
-    pub bounded_parts : is_some it.class.bound ≡ true → (y : Variable → ℤ) × AreWholeParts it.lts k (numbers_along it.lts it.tree start effect) y × AllowsStart it.class (unsigned_abs (y (Tokens it.lts.initial)))
+    pub bounded_parts : is_some it.class.bound ≡ true
+        → (y : Variable → ℤ) × AreWholeParts it.lts k (numbers_along it.lts it.tree start effect) y × AllowsStart it.class (unsigned_abs (y (Tokens it.lts.initial)))
     bounded_parts bound =
         let tokens : (q : ℕ) → q < states it.lts → (u : ℤ) × (numbers_along it.lts it.tree start effect (Tokens q) ≡ (k *ℤ u) +ℤ pos 0) = λ q lt. (let (u, h) = whole (split_form.Tokens q) (bounded_has it.lts it.class it.problem q bound lt) in (u, more _ _ h)) in
         let effects : (t : ℕ) → has_label t it.lts.arcs ≡ true → IsTimes k (effect t) = λ t h. of_arc t (label_found t it.lts.arcs h) in
@@ -272,10 +249,7 @@ module _ (it : CaseSetting) (fine : IsInRange it.lts) (g : IsTree it.lts it.tree
         (y, are, λ splits. (let (u, h) = starts splits in (u, start_steps (unwrap_or it.class.marking 1) k (numbers_along it.lts it.tree start effect (Tokens it.lts.initial)) (y (Tokens it.lts.initial)) parts.rest u parts.not_negative parts.below (exact it.lts.initial fine.initial) h)))
       where
         scaled : (k n z : ℤ) → IsTimes k z → IsTimes k (n *ℤ z)
-        scaled k n z (u, e) = (n *ℤ u, ap (λ y. n *ℤ y) e ∙ turn n k u)
-          where
-            turn : (n k u : ℤ) → n *ℤ (k *ℤ u) ≡ k *ℤ (n *ℤ u)
-            turn n k u = simp ring
+        scaled k n z (u, e) = (n *ℤ u, ap (λ y. n *ℤ y) e ∙ mul_left_comm n k u)
 
         joined : (k s m a r u : ℤ) → s ≡ (k *ℤ a) +ℤ r → m ≡ k *ℤ u → s +ℤ m ≡ (k *ℤ (a +ℤ u)) +ℤ r
         joined k s m a r u e h = let d : k *ℤ (a +ℤ u) ≡ (k *ℤ a) +ℤ (k *ℤ u) = simp ring (omega (arith, ints)) in omega (arith, ints)
@@ -339,13 +313,13 @@ module _ (it : CaseSetting) (case : CaseSystem) (c : IsCaseOver it case) (live :
             (used_effect it.lts x) f var w starts g names made is),
       )
     where
-      one : (z : ℤ) → z ≡ pos 1 *ℤ z
-      one z = omega (arith, ints)
-
-      steps_of : (tokens : ℕ → ℕ) → AllowsStart it.class (tokens it.lts.initial) → (effect : ℕ → ℤ) (split : Form) → (w : ℤ) × (numbers_along it.lts it.tree (pos (tokens it.lts.initial)) effect (form_variable it.lts.initial split) ≡ pos (step_of it.class split) *ℤ w)
-      steps_of tokens allows effect (split_form.Tokens q) = (numbers_along it.lts it.tree (pos (tokens it.lts.initial)) effect (Tokens q), one (numbers_along it.lts it.tree (pos (tokens it.lts.initial)) effect (Tokens q)))
-      steps_of tokens allows effect (split_form.Effect t) = (effect t, one (effect t))
-      steps_of tokens allows effect split_form.Start = let (w, is) = steps_by it.class (tokens it.lts.initial) allows in (w, number_at_first it.lts it.tree (pos (tokens it.lts.initial)) effect c.is_tree ∙ is)
+      steps_of : (tokens : ℕ → ℕ) → AllowsStart it.class (tokens it.lts.initial) → (effect : ℕ → ℤ) (split : Form)
+          → (w : ℤ) × (numbers_along it.lts it.tree (pos (tokens it.lts.initial)) effect (form_variable it.lts.initial split) ≡ pos (step_of it.class split) *ℤ w)
+      steps_of tokens allows effect (split_form.Tokens q) =
+          (numbers_along it.lts it.tree (pos (tokens it.lts.initial)) effect (Tokens q), once (numbers_along it.lts it.tree (pos (tokens it.lts.initial)) effect (Tokens q)))
+      steps_of tokens allows effect (split_form.Effect t) = (effect t, once (effect t))
+      steps_of tokens allows effect split_form.Start =
+          let (w, is) = steps_by it.class (tokens it.lts.initial) allows in (w, number_at_first it.lts it.tree (pos (tokens it.lts.initial)) effect c.is_tree ∙ is)
 
   -- a it.class without forms
   no_bound : is_some it.class.bound ≡ false → IsNone it.class.bound

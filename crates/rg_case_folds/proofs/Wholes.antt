@@ -65,11 +65,14 @@ product_fits r p m q positive is product = (
 -- ---- lists
 
 -- what is made at each place
-pub each_at : {A X : Type 0} (make : A → Result X Wide → Type 0) (items : List A) (xs : List X) (a : A) (x : X) (i : ℕ) → each make items (Ok xs) → i < length items → make (slice_index_or items i a) (Ok (slice_index_or xs i x))
+pub each_at : {A X : Type 0} (make : A → Result X Wide → Type 0) (items : List A) (xs : List X) (a : A) (x : X) (i : ℕ) → each make items (Ok xs) → i < length items
+    → make (slice_index_or items i a) (Ok (slice_index_or xs i x))
 each_at make [] xs a x i made lt = absurd (omega arith)
-each_at make (b ∷ items) xs a x i (y, is, (rest, others, e)) lt = subst (λ l. make (slice_index_or (b ∷ items) i a) (Ok (slice_index_or l i x))) (sym e) (go i lt (λ j lt'. each_at make items rest a x j others lt'))
+each_at make (b ∷ items) xs a x i (y, is, (rest, others, e)) lt =
+    subst (λ l. make (slice_index_or (b ∷ items) i a) (Ok (slice_index_or l i x))) (sym e) (go i lt (λ j lt'. each_at make items rest a x j others lt'))
   where
-    go : (i : ℕ) → i < length (b ∷ items) → ((j : ℕ) → j < length items → make (slice_index_or items j a) (Ok (slice_index_or rest j x))) → make (slice_index_or (b ∷ items) i a) (Ok (slice_index_or (y ∷ rest) i x))
+    go : (i : ℕ) → i < length (b ∷ items) → ((j : ℕ) → j < length items → make (slice_index_or items j a) (Ok (slice_index_or rest j x)))
+        → make (slice_index_or (b ∷ items) i a) (Ok (slice_index_or (y ∷ rest) i x))
     go zero lt next = is
     go (suc i) lt next = next i (omega arith)
 

@@ -23,7 +23,7 @@ use Rattle.rg_case_folds.specs.Potentials.{chord_sum}
 use Rattle.rg_case_folds.specs.Chords.{chord_vector, chord_vectors, chord_at, KeepsChords, chord_system, IsBasis}
 use Rattle.rg_folds.specs.Substitution.{is_in, numbers_where, free_labels, dependent_labels}
 use Rattle.rg_case_folds.specs.Spreading.{used_chords}
-use Rattle.rg_case_folds.proofs.ExactRows.{not_in, where_contains}
+use Rattle.rg_case_folds.proofs.Lists.{not_in, where_contains}
 use Rattle.rg_case_folds.proofs.PointEffects.{in_has}
 use Rattle.rg_folds.proofs.Sums.{both_sums}
 

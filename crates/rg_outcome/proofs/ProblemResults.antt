@@ -36,7 +36,7 @@ use Rattle.rg_case_folds.specs.Placing.{ratio_at, place_fold}
 use Rattle.rg_case_folds.specs.Meaning.{first_column, IsCaseOver}
 use Rattle.rg_case_folds.specs.Shown.{Stage, Shown, IsValueAt, PointOf, named_sides}
 use Rattle.rg_case_folds.proofs.ColumnValues.{columns_of_case}
-use Rattle.rg_case_folds.proofs.ExactRows.{not_in}
+use Rattle.rg_case_folds.proofs.Lists.{not_in}
 use Rattle.rg_case_folds.proofs.Lists.{where_is}
 use Rattle.rg_case_folds.proofs.PointEffects.{in_has}
 use Rattle.rg_case_folds.proofs.FormBounds.{forms_bounded}

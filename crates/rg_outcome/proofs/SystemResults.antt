@@ -32,7 +32,7 @@ use Rattle.rg_case_folds.specs.Rewriting.{has_label, has_start, pick}
 use Rattle.rg_case_folds.specs.Rewriting.{columns_of, column_count, Scaled, scaled_fold, terms_fold, KeptRow, divided, row_fold, names_of, IsIdle, split_forms}
 use Rattle.rg_case_folds.specs.Rewriting.{form_low, form_high, form_fold, kept_of, system_fold, count_of, start_of}
 use Rattle.rg_case_folds.proofs.Lists.{first, behind, where_is}
-use Rattle.rg_case_folds.proofs.ExactRows.{not_in}
+use Rattle.rg_case_folds.proofs.Lists.{not_in}
 use Rattle.rg_outcome.proofs.Steps.{HasSome, Makes, Each, each_none, each_cons, some_given, some_then, makes_then, some_each, makes_each, some_further, makes_further, IsOver, whole_over, some_ratio, some_quotient, some_product, sums_join, product_over, some_multiple}
 
 -- each label that isn't free has a relation
