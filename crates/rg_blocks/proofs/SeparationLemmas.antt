@@ -1,5 +1,5 @@
 -- One block after the other, and the end.
-use Rattle.std.proofs.Common.{◌≡◌, List, [], ◌∷◌, ◌++◌, Option, None, Some, refl, sym, subst}
+use Rattle.std.proofs.Common.{◌≡◌, ◌⊎◌, inl, inr, List, [], ◌∷◌, ◌++◌, All, Option, None, Some, Result, Ok, Err, IfOk, refl, sym, subst}
 use Rattle.rg_theory.specs.System.{System, IsAllReachable}
 use Rattle.rg_theory.specs.Net.{Place}
 use Rattle.rg_theory.specs.declared.Problem.{Problem}
@@ -8,10 +8,12 @@ use Rattle.rg_cert_meaning.specs.Refutes.{Tree}
 use Rattle.rg_outcome.specs.Solving.{Solved, Solved.refuted}
 use Rattle.rg_outcome.specs.Coming.{Separation.places, Separation.unsolvable, Separation.too_wide, IsFirstProblem, IsLeft, IsNext, IsDone, IsSound, ComesFrom, ComesFrom.keeps, ComesFrom.goes_on, ComesFrom.ends, ComesFrom.all_separated, ComesFrom.one_is_left}
 use Rattle.rg_outcome.specs.Blocks.{IsBlock, last_of, AfterBlock.kept_places, AfterBlock.refuted_one, TakenOver}
+use Rattle.rg_theory.specs.Region.{IsRegion}
+use Rattle.rg_outcome.proofs.Decided.{find_problem, left_is_decided}
 use Rattle.rg_outcome.proofs.BlockLemmas.{taken_over, sound_after}
 use Rattle.rg_outcome.proofs.Existing.{all_separated_at, shows_its_term}
 use Rattle.rg_blocks.specs.declared.separation.SeparationOutcome.TheVariants as outcome
-use Rattle.rg_blocks.specs.Separating.{LeadsTo, EndsAll, EachPlaceSeparates, IsSeparationOutcome}
+use Rattle.rg_blocks.specs.Separating.{LeadsTo, EndsAll, FindsRefuted, EachPlaceSeparates, IsSeparationOutcome}
 
 pub block_leads : (lts : System) (comes : Problem → Solved → Type 0) (before now after : List Place) (last end : Option Problem) (problems : List Problem) → LeadsTo lts comes before now last → IsBlock lts now last problems → last_of last problems ≡ end
     → TakenOver lts comes now problems (kept_places after) → LeadsTo lts comes before after end
@@ -35,6 +37,31 @@ refuted_has lts comes last kept q trees (ends problem all is has) = (is.0.0.0, h
 
 pub ends_refuted : (lts : System) (comes : Problem → Solved → Type 0) (before after : List Place) (q : Problem) → before ≡ [] → EndsAll lts comes before after (Some q) → IsSeparationOutcome lts comes after (outcome.Unsolvable q)
 ends_refuted lts comes before after q none (trees, d) = record { o = unsolvable q trees; comes_to = subst (λ xs. ComesFrom lts comes None xs (unsolvable q trees)) none d; shows = (refl, (refuted_has lts comes None before q trees d).0, (refuted_has lts comes None before q trees d).1) }
+
+-- no problem is refuted: the places separate all, or some one is left and shows its term
+pub ends_otherwise : (lts : System) (comes : Problem → Solved → Type 0) (before after : List Place) → IsAllReachable lts → EndsAll lts comes before after None → FindsRefuted lts comes before None
+ends_otherwise lts comes before after reachable (last, done, leads, sound) =
+    go (find_problem lts (IsLeft lts after) (left_is_decided lts reachable after sound.regions) (λ q left. left.0))
+  where
+    go : ((problem : Problem) × IsFirstProblem (IsLeft lts after) problem) ⊎ ((problem : Problem) → ¬ IsLeft lts after problem) → FindsRefuted lts comes before None
+    go (inl (problem, first)) =
+        let (w, has) = shows_its_term lts comes reachable last after problem sound done first.0 in
+        (too_wide w, leads.leads (too_wide w) (one_is_left problem w done first has), λ refusal. refusal)
+    go (inr none) = (places after, leads.leads (places after) (all_separated (all_separated_at lts comes reachable after sound.regions none)), λ refusal. refusal)
+
+-- what the end of a search says of refuted problems
+pub ends_find : (lts : System) (comes : Problem → Solved → Type 0) (before after : List Place) (end : Option Problem) → IsAllReachable lts → EndsAll lts comes before after end → FindsRefuted lts comes before end
+ends_find lts comes before after (Some q) reachable h = h
+ends_find lts comes before after None reachable h = ends_otherwise lts comes before after reachable h
+
+pub ends_ok_find : {E : Type 0} (lts : System) (comes : Problem → Solved → Type 0) (before after : List Place) (result : Result (Option Problem) E) → IsAllReachable lts
+    → IfOk result (EndsAll lts comes before after) → IfOk result (FindsRefuted lts comes before)
+ends_ok_find lts comes before after (Ok end) reachable h = ends_find lts comes before after end reachable h
+ends_ok_find lts comes before after (Err e) reachable h = tt
+
+-- the search may begin with regions
+pub sound_from : (lts : System) (comes : Problem → Solved → Type 0) (kept : List Place) → All (IsRegion lts) kept → IsSound lts comes None kept
+sound_from lts comes kept regions = record { over = λ problem is not_behind. absurd (not_behind tt); regions = regions }
 
 pub ends_left : (lts : System) (comes : Problem → Solved → Type 0) (before after : List Place) (q : Problem) → before ≡ [] → IsAllReachable lts → EndsAll lts comes before after None → IsNext lts after None q → IsSeparationOutcome lts comes after (outcome.TooWide q)
 ends_left lts comes before after q none reachable (last, done, leads, sound) next =

@@ -6,7 +6,7 @@ use Rattle.rg_theory.specs.declared.Problem.{Problem}
 use Rattle.rg_theory.specs.Problem.{IsProblem, SeparateAll}
 use Rattle.rg_cert_meaning.specs.Refutes.{Tree}
 use Rattle.rg_outcome.specs.Solving.{Solved, Solved.refuted, Solved.passed}
-use Rattle.rg_outcome.specs.Coming.{Separation, Separation.places, Separation.unsolvable, Separation.too_wide, IsFirstProblem, IsLeft, IsDone, ComesFrom, AllComeTo, PlacesSeparate, IsSound}
+use Rattle.rg_outcome.specs.Coming.{Separation, Separation.places, Separation.unsolvable, Separation.too_wide, IsRefusal, IsFirstProblem, IsLeft, IsDone, ComesFrom, AllComeTo, PlacesSeparate, IsSound}
 use Rattle.rg_blocks.specs.declared.separation.SeparationOutcome.{SeparationOutcome}
 use Rattle.rg_blocks.specs.declared.separation.SeparationOutcome.TheVariants as outcome
 
@@ -18,6 +18,11 @@ pub record LeadsTo (lts : System) (comes : Problem → Solved → Type 0) (befor
 abbrev pub EndsAll : System → (Problem → Solved → Type 0) → List Place → List Place → Option Problem → Type 0
 EndsAll lts comes before after None = (last : Option Problem) × IsDone lts after last × LeadsTo lts comes before after last × IsSound lts comes last after
 EndsAll lts comes before after (Some q) = (trees : List Tree) × ComesFrom lts comes None before (unsolvable q trees)
+
+-- what all problems come to, from places on that are kept: this one is refuted, or none is
+abbrev pub FindsRefuted : System → (Problem → Solved → Type 0) → List Place → Option Problem → Type 0
+FindsRefuted lts comes before (Some q) = (trees : List Tree) × ComesFrom lts comes None before (unsolvable q trees)
+FindsRefuted lts comes before None = (o : Separation) × ComesFrom lts comes None before o × ¬ IsRefusal o
 
 -- each place that is made separates its problem
 pub record EachPlaceSeparates (lts : System) (comes : Problem → Solved → Type 0) : Type 0 where

@@ -21,6 +21,6 @@ pub use keeping::Keeping;
 pub use left::next_problem;
 pub use rg_memory::NoMemory;
 pub use search::{Progress, Search};
-pub use separation::{SeparationOutcome, separate_all};
+pub use separation::{SeparationOutcome, find_refuted, separate_all};
 pub use solving::{ProblemOutcome, SolvedProblem, Solving};
 pub use taking::{Begun, begin_in_turn, solve_in_turn, take_over};

@@ -1,10 +1,11 @@
 //! All problems.
 ghost use Rattle.std.specs.Prelude.{◌≡◌, ◌≤◌, [], All, IfOk, IfSome, OnOk, None, length};
 ghost use Rattle.rg_theory.specs.Problem.{IsProblem};
+ghost use Rattle.rg_theory.specs.Region.{IsRegion};
 ghost use Rattle.rg_outcome.specs.Coming.{IsSound};
 ghost use Rattle.rg_blocks.specs.Blocks.{most_in_block};
 ghost use Rattle.rg_blocks.specs.Taking.{IsTakenOver};
-ghost use Rattle.rg_blocks.specs.Separating.{EndsAll, IsSeparationOutcome};
+ghost use Rattle.rg_blocks.specs.Separating.{EndsAll, FindsRefuted, IsSeparationOutcome};
 ghost use Rattle.rg_blocks.specs.Searching.{CanSearch, IsSearching};
 
 use crate::block::{FIRST_BLOCK, most_after, next_block, solve_block};
@@ -95,6 +96,27 @@ where
         last = Some(end);
         most = most_after(most);
     }
+}
+
+/// Solves the problems of the system that no kept place separates, block by block, and keeps the places that they come
+/// to, until one is refuted. It may begin with any regions. Returns the problem that is refuted, and None if no
+/// problem is. Returns `NoMemory` if memory runs out; nothing is known of the progress then.
+pub fn find_refuted<R: Threads + Sync, K: Keeping + Sync, S: Solving + Sync, G: Gate + Sync>(
+    rt: &R,
+    search: &Search<'_, S, G>,
+    progress: &mut Progress<K, S::Workspace, S::Proof>,
+) -> Result<Option<Problem>, NoMemory>
+where
+    S::Workspace: Send + Sync + Drop,
+    S::Proof: Send + Sync + Drop,
+    requires can { CanSearch search.now S.asks S.comes S.makes K.may_keep }
+    requires searching { IsSearching search.now K.keeps_for S.serves S.proves progress.old }
+    requires regions { All (IsRegion search.now.lts.now) (K.places progress.old.kept) }
+    ensures searching { OnOk result (IsSearching search.now K.keeps_for S.serves S.proves progress.new) }
+    ensures proves { IfSome progress.new.proof (λ p. S.proves search.now.solving.now p.0 p.1) }
+    ensures finds { IfOk result (FindsRefuted search.now.lts.now (S.comes search.now.solving.now) (K.places progress.old.kept)) }
+{
+    solve_all(rt, search, progress)
 }
 
 /// Separates all problems of the system, all of whose states are reachable, beginning without a place. The outcome

@@ -5,3 +5,4 @@ pub mod Separating
 pub mod Stopping
 pub mod FirstProblems
 pub mod Compacting
+pub mod Filling

@@ -12,8 +12,10 @@ mod firsts;
 mod region_place;
 mod separated;
 mod stops;
+mod tokens;
 
 pub use compact_place::CompactPlace;
 pub use firsts::Firsts;
 pub use region_place::RegionPlace;
 pub use separated::Separated;
+pub use tokens::{fill_tokens, no_tokens};

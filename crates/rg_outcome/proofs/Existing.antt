@@ -124,5 +124,9 @@ module _ (lts : System) (comes : Problem → Solved → Type 0) (reachable : IsA
   after_each : (problem : Problem) → Has lts comes (Some problem)
   after_each = from_last lts (λ q. Has lts comes (Some q)) (λ problem later. take (Some problem) later)
 
+  -- from regions on that are kept from the start
+  pub some_from_kept : (kept : List Place) → All (IsRegion lts) kept → (o : Separation) × ComesFrom lts comes None kept o
+  some_from_kept kept regions = take None (λ later is behind. after_each later) kept (record { over = λ problem is not_behind. absurd (not_behind tt); regions = regions })
+
   pub some_separation : (o : Separation) × AllComeTo lts comes o
-  some_separation = take None (λ later is behind. after_each later) [] (record { over = λ problem is not_behind. absurd (not_behind tt); regions = All-nil (IsRegion lts) })
+  some_separation = some_from_kept [] (All-nil (IsRegion lts))

@@ -20,6 +20,11 @@ pub data Separation : Type 0 where
   unsolvable : Problem → List Tree → Separation
   too_wide : Shown → Separation
 
+-- a problem is refuted
+abbrev pub IsRefusal : Separation → Type 0
+IsRefusal (unsolvable problem trees) = Unit {0}
+IsRefusal _ = ⊥
+
 -- one of the places separates the problem
 abbrev pub IsSeparated : System → List Place → Problem → Type 0
 IsSeparated lts kept problem = Any (IsSeparatedBy lts problem) kept

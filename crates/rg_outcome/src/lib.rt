@@ -6,18 +6,19 @@
 //! systems, by branching where numbers have to be whole (Schrijver, *Theory of Linear and Integer Programming*).
 #![tactic(auto)]
 
-ghost use Rattle.std.specs.Prelude.{◌≡◌, ℕ, List, Option};
+ghost use Rattle.std.specs.Prelude.{◌≡◌, ◌↔◌, ℕ, List, Option, None, All};
 ghost use Rattle.rg_theory.specs.System.{System, IsInRange, IsAllReachable};
 ghost use Rattle.rg_theory.specs.ClassWords.{HasNumbersInRange};
 ghost use Rattle.rg_theory.specs.Net.{Place};
 ghost use Rattle.rg_theory.specs.Problem.{IsProblem, IsInseparable};
+ghost use Rattle.rg_theory.specs.Region.{IsRegionIn};
 ghost use Rattle.rg_theory.specs.Tree.{IsTree};
 ghost use Rattle.rg_cert_meaning.specs.Refutes.{Tree};
 ghost use Rattle.rg_case_folds.specs.Setting.{Setting, CaseSetting};
 ghost use Rattle.rg_case_folds.specs.Chords.{IsBasis};
 ghost use Rattle.rg_outcome.specs.Casing.{CaseResult, CaseComes};
 ghost use Rattle.rg_outcome.specs.Solving.{Solved, ProblemComes};
-ghost use Rattle.rg_outcome.specs.Coming.{Separation, ComesFrom, AllComeTo, IsSeparatedIn, Says};
+ghost use Rattle.rg_outcome.specs.Coming.{Separation, Separation.unsolvable, ComesFrom, AllComeTo, IsSeparatedIn, Says};
 ghost use Rattle.rg_outcome.specs.Blocks.{ComesByBlocks};
 ghost use Rattle.rg_outcome.specs.Outcome.{Answer, Searched, Out, IsSearchRight, IsRight};
 
@@ -52,6 +53,14 @@ pub fn blocks_come_to_the_same()
 pub fn separation_says()
     ensures { (s : Setting) (o : Separation) → IsInRange s.lts → HasNumbersInRange s.class → IsAllReachable s.lts → IsTree s.lts s.tree → IsBasis s.lts s.tree s.basis
         → AllComeTo s.lts (ProblemComes s) o → Says s.lts (ProblemComes s) o }
+{}
+
+/// Law: the refuted problem that ends the work is the same one, with the same trees, if the work begins with regions of the class that
+/// are kept already: no region separates it (`refuted_is_inseparable`), and no earlier problem is refuted.
+pub fn refusal_is_one()
+    ensures { (s : Setting) (kept : List Place) (problem : Problem) (trees : List Tree) → IsInRange s.lts → HasNumbersInRange s.class → IsAllReachable s.lts
+        → IsTree s.lts s.tree → IsBasis s.lts s.tree s.basis → All (IsRegionIn s.lts s.class) kept
+        → ComesFrom s.lts (ProblemComes s) None kept (unsolvable problem trees) ↔ AllComeTo s.lts (ProblemComes s) (unsolvable problem trees) }
 {}
 
 /// Law: no region of the class separates a problem all of whose cases are refuted: a region would give some case a

@@ -6,9 +6,8 @@ ghost use Rattle.rg_net.specs.Shown.{shown_place};
 ghost use Rattle.rg_marks.specs.Tokens.{IsNarrow};
 ghost use Rattle.rg_marks.specs.Firsts.{AreAllFirsts};
 
-use crate::tokens::{fill, no_tokens};
 use rg_lts::Lts;
-use rg_marks::{Firsts, Separated};
+use rg_marks::{Firsts, Separated, fill_tokens, no_tokens};
 use rg_net::Place;
 use rg_theory::Arc;
 use std::alloc::{AllocError, Global};
@@ -29,7 +28,7 @@ pub(crate) fn all_firsts(
     let mut tokens = no_tokens(alloc, lts)?;
     let mut all = Vec::new(alloc);
     for place in places {
-        fill(lts, tree, place, &mut tokens);
+        fill_tokens(lts, tree, place, &mut tokens);
         let firsts = separated.add(alloc, lts, place, &tokens)?;
         all.push(firsts)?;
     }

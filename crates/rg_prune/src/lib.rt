@@ -8,7 +8,6 @@ mod differing;
 mod firsts;
 mod pruning;
 mod stops;
-mod tokens;
 
 pub use pruning::{compact_all, prune, prune_with_firsts};
 pub use rg_memory::NoMemory;

@@ -14,9 +14,8 @@ ghost use Rattle.rg_prune.specs.Pending.{IsPending};
 use crate::differing::all_differ;
 use crate::firsts::all_firsts;
 use crate::stops::are_marked;
-use crate::tokens::{fill, no_tokens};
 use rg_lts::Lts;
-use rg_marks::{CompactPlace, Firsts, Separated};
+use rg_marks::{CompactPlace, Firsts, Separated, fill_tokens, no_tokens};
 use rg_memory::NoMemory;
 use rg_net::Place;
 use rg_spanning::TreeArcs;
@@ -80,7 +79,7 @@ fn drop_unneeded(
         };
         if is_needed(alloc, lts, &separated, &firsts)? {
             let place = place.place(alloc)?;
-            fill(lts, tree, &place, &mut tokens);
+            fill_tokens(lts, tree, &place, &mut tokens);
             separated.add(alloc, lts, &place, &tokens)?;
             left.push(place)?;
         }

@@ -1,5 +1,5 @@
 -- How the search for places ends.
-use Rattle.std.proofs.Common.{◌≡◌, ◌⊎◌, inl, inr, List, refl, sym, ap, subst, ◌∙◌}
+use Rattle.std.proofs.Common.{◌≡◌, List, refl, sym, ap, subst}
 use Rattle.rg_theory.specs.System.{System}
 use Rattle.rg_lts.specs.WellFormed.{IsWellFormed}
 use Rattle.rg_theory.specs.Net.{Place}
@@ -31,7 +31,7 @@ use Rattle.rg_separate.specs.View.{shown_of}
 use Rattle.rg_separate.specs.Answer.{AreSeparating, IsSearched, Ending.unsolvable as an_unsolvable, Ending.too_wide as a_too_wide}
 use Rattle.rg_separate.specs.Keeping.{IsSetting, AreKept}
 use Rattle.rg_case_parts.specs.SettingViews.{shown_setting}
-use Rattle.rg_separate.specs.Deciding.{ProblemComesTo, EndsWith}
+use Rattle.rg_separate.specs.Deciding.{ProblemComesTo, EndsRefuted, EndsWide}
 use Rattle.rg_separate.proofs.Few.{few_places}
 use Rattle.rg_separate.proofs.Separating.{separating}
 
@@ -43,7 +43,7 @@ module _ (s : Setting) (is : IsSetting s) where
   pub places_separate : EachPlaceSeparates s.lts.now (comes_of s)
   places_separate = record { separate = λ problem p has come. (let (m, region, separates) = placed_separates (shown_setting s) is.in_range is.bound is.reachable is.tree.tree is.basis problem p has come in (m, region.region, separates)) }
 
-  searched_of : (o : outcome.Separation) → AllComeTo s.lts.now (comes_of s) o → Searched s.lts.now s.class o
+  pub searched_of : (o : outcome.Separation) → AllComeTo s.lts.now (comes_of s) o → Searched s.lts.now s.class o
   searched_of o come = all_problems s.tree.now.arcs (cycle_of s.basis.now) o is.tree.tree is.basis come
 
   -- the places that are kept are those with which the problems end
@@ -63,20 +63,21 @@ module _ (s : Setting) (is : IsSetting s) where
     separated_tells = separating s.lts.now s.class kept firsts separated is.in_range is.bound are (few_places s.lts.now (comes_of s) kept fine all_come) separated_searched
 
   -- the problem that ends the search
-  refuted_last : (kept : List Place) (q : Problem) (o : outcome.Separation) → AllComeTo s.lts.now (comes_of s) o → ShowsSeparation s.lts.now (comes_of s) kept (ended.Unsolvable q) o → EndsWith s q
+  refuted_last : (kept : List Place) (q : Problem) (o : outcome.Separation) → AllComeTo s.lts.now (comes_of s) o → ShowsSeparation s.lts.now (comes_of s) kept (ended.Unsolvable q) o → EndsRefuted s q
   refuted_last kept q (places after) come shows = absurd shows
-  refuted_last kept q (unsolvable problem trees) come (same, has, refuted) = record { has = has; o = unsolvable problem trees; searched = searched_of (unsolvable problem trees) come; ends = inl (trees, ap (λ x. unsolvable x trees) same, refuted) }
+  refuted_last kept q (unsolvable problem trees) come (same, has, refuted) =
+      record { has = has; trees = trees; searched = subst (λ x. Searched s.lts.now s.class (unsolvable x trees)) same (searched_of (unsolvable problem trees) come); comes = refuted }
   refuted_last kept q (too_wide w) come shows = absurd shows
 
-  left_last : (kept : List Place) (q : Problem) (o : outcome.Separation) → AllComeTo s.lts.now (comes_of s) o → ShowsSeparation s.lts.now (comes_of s) kept (ended.TooWide q) o → EndsWith s q
+  left_last : (kept : List Place) (q : Problem) (o : outcome.Separation) → AllComeTo s.lts.now (comes_of s) o → ShowsSeparation s.lts.now (comes_of s) kept (ended.TooWide q) o → EndsWide s q
   left_last kept q (places after) come shows = absurd shows
   left_last kept q (unsolvable problem trees) come shows = absurd shows
-  left_last kept q (too_wide w) come (first, passes) = record { has = first.0.0; o = too_wide w; searched = searched_of (too_wide w) come; ends = inr (w, refl, passes) }
+  left_last kept q (too_wide w) come (first, passes) = record { has = first.0.0; w = w; searched = searched_of (too_wide w) come; comes = passes }
 
-  pub ends_refuted : (kept : List Place) (q : Problem) → IsSeparationOutcome s.lts.now (comes_of s) kept (ended.Unsolvable q) → EndsWith s q
+  pub ends_refuted : (kept : List Place) (q : Problem) → IsSeparationOutcome s.lts.now (comes_of s) kept (ended.Unsolvable q) → EndsRefuted s q
   ends_refuted kept q end = refuted_last kept q end.o end.comes_to end.shows
 
-  pub ends_wide : (kept : List Place) (q : Problem) → IsSeparationOutcome s.lts.now (comes_of s) kept (ended.TooWide q) → EndsWith s q
+  pub ends_wide : (kept : List Place) (q : Problem) → IsSeparationOutcome s.lts.now (comes_of s) kept (ended.TooWide q) → EndsWide s q
   ends_wide kept q end = left_last kept q end.o end.comes_to end.shows
 
 -- the term of the walk over the chords ends it before any problem
@@ -85,45 +86,43 @@ cycle_searched lts class at w same shown = record { o = too_wide (cycle_passed w
 
 -- ---- the problem solved once more
 
-module _ (s : Setting) (q : Problem) (ends : EndsWith s q) where
+module _ (s : Setting) (q : Problem) where
   one : (r r' : Solved) → comes_of s q r → comes_of s q r' → r ≡ r'
   one r r' a b = same_solved (shown_setting s) q r r' a b
 
-  pub shown_refuted : (reason : Reason) → ProblemComesTo s q (problem_answer.Refuted reason) → IsSearched s.lts.now s.class (an_unsolvable (record { class = s.class; reason = reason }))
-  shown_refuted reason (trees, is, come) = go ends.ends
-    where
-      same : (a b : List Tree) → solved.Solved.refuted a ≡ solved.Solved.refuted b → a ≡ b
-      same a b e = cc
+  same_trees : (a b : List Tree) → solved.Solved.refuted a ≡ solved.Solved.refuted b → a ≡ b
+  same_trees a b e = cc
 
-      clash : (w : Shown) (a : List Tree) → passed w ≡ solved.Solved.refuted a → ⊥
-      clash w a e = absurd cc
+  same_term : (a b : Shown) → passed a ≡ passed b → a ≡ b
+  same_term a b e = cc
 
-      go : ((a : List Tree) × (ends.o ≡ unsolvable q a) × comes_of s q (solved.Solved.refuted a)) ⊎ ((w : Shown) × (ends.o ≡ too_wide w) × comes_of s q (passed w)) → IsSearched s.lts.now s.class (an_unsolvable (record { class = s.class; reason = reason }))
-      go (inl (a, o_is, other)) = record { o = ends.o; searched = ends.searched; shows = (q, trees, is, o_is ∙ ap (unsolvable q) (same a trees (one (solved.Solved.refuted a) (solved.Solved.refuted trees) other come))) }
-      go (inr (w, o_is, other)) = absurd (clash w trees (one (passed w) (solved.Solved.refuted trees) other come))
+  refuted_or_passed : (a : List Tree) (w : Shown) → solved.Solved.refuted a ≡ passed w → ⊥
+  refuted_or_passed a w e = absurd cc
 
-  pub shown_wide : (at : WideAt) → ProblemComesTo s q (problem_answer.Wide at) → IsSearched s.lts.now s.class (a_too_wide at)
-  shown_wide at come = go ends.ends
-    where
-      same : (a b : Shown) → passed a ≡ passed b → a ≡ b
-      same a b e = cc
+  refuted_or_placed : (a : List Tree) (p : Place) → solved.Solved.refuted a ≡ placed p → ⊥
+  refuted_or_placed a p e = absurd cc
 
-      clash : (w : Shown) (a : List Tree) → solved.Solved.refuted a ≡ passed w → ⊥
-      clash w a e = absurd cc
+  passed_or_placed : (w : Shown) (p : Place) → passed w ≡ placed p → ⊥
+  passed_or_placed w p e = absurd cc
 
-      go : ((a : List Tree) × (ends.o ≡ unsolvable q a) × comes_of s q (solved.Solved.refuted a)) ⊎ ((w : Shown) × (ends.o ≡ too_wide w) × comes_of s q (passed w)) → IsSearched s.lts.now s.class (a_too_wide at)
-      go (inl (a, o_is, other)) = absurd (clash (shown_of at) a (one (solved.Solved.refuted a) (passed (shown_of at)) other come))
-      go (inr (w, o_is, other)) = record { o = ends.o; searched = ends.searched; shows = o_is ∙ ap too_wide (same w (shown_of at) (one (passed w) (passed (shown_of at)) other come)) }
+  -- a refuted problem has the reason of its trees, and comes to nothing else
+  pub shown_refuted : EndsRefuted s q → (reason : Reason) → ProblemComesTo s q (problem_answer.Refuted reason) → IsSearched s.lts.now s.class (an_unsolvable (record { class = s.class; reason = reason }))
+  shown_refuted ends reason (trees, is, come) =
+      let same = same_trees ends.trees trees (one (solved.Solved.refuted ends.trees) (solved.Solved.refuted trees) ends.comes come) in
+      record { o = unsolvable q ends.trees; searched = ends.searched; shows = (q, trees, is, ap (unsolvable q) same) }
 
-  pub shown_never : (r : RegionPlace) → ProblemComesTo s q (problem_answer.Place r) → ⊥
-  shown_never r come = go ends.ends
-    where
-      clash : (p : Place) (a : List Tree) → solved.Solved.refuted a ≡ placed p → ⊥
-      clash p a e = absurd cc
+  pub refuted_not_placed : EndsRefuted s q → (r : RegionPlace) → ProblemComesTo s q (problem_answer.Place r) → ⊥
+  refuted_not_placed ends r come = refuted_or_placed ends.trees (shown_place r.place) (one (solved.Solved.refuted ends.trees) (placed (shown_place r.place)) ends.comes come)
 
-      clash' : (p : Place) (w : Shown) → passed w ≡ placed p → ⊥
-      clash' p w e = absurd cc
+  pub refuted_not_wide : EndsRefuted s q → (at : WideAt) → ProblemComesTo s q (problem_answer.Wide at) → ⊥
+  refuted_not_wide ends at come = refuted_or_passed ends.trees (shown_of at) (one (solved.Solved.refuted ends.trees) (passed (shown_of at)) ends.comes come)
 
-      go : ((a : List Tree) × (ends.o ≡ unsolvable q a) × comes_of s q (solved.Solved.refuted a)) ⊎ ((w : Shown) × (ends.o ≡ too_wide w) × comes_of s q (passed w)) → ⊥
-      go (inl (a, o_is, other)) = clash (shown_place r.place) a (one (solved.Solved.refuted a) (placed (shown_place r.place)) other come)
-      go (inr (w, o_is, other)) = clash' (shown_place r.place) w (one (passed w) (placed (shown_place r.place)) other come)
+  -- one in which a number passes has its term, and comes to nothing else
+  pub shown_wide : EndsWide s q → (at : WideAt) → ProblemComesTo s q (problem_answer.Wide at) → IsSearched s.lts.now s.class (a_too_wide at)
+  shown_wide ends at come = record { o = too_wide ends.w; searched = ends.searched; shows = ap too_wide (same_term ends.w (shown_of at) (one (passed ends.w) (passed (shown_of at)) ends.comes come)) }
+
+  pub wide_not_placed : EndsWide s q → (r : RegionPlace) → ProblemComesTo s q (problem_answer.Place r) → ⊥
+  wide_not_placed ends r come = passed_or_placed ends.w (shown_place r.place) (one (passed ends.w) (placed (shown_place r.place)) ends.comes come)
+
+  pub wide_not_refuted : EndsWide s q → (reason : Reason) → ProblemComesTo s q (problem_answer.Refuted reason) → ⊥
+  wide_not_refuted ends reason (trees, is, come) = refuted_or_passed trees ends.w (one (solved.Solved.refuted trees) (passed ends.w) come ends.comes)

@@ -16,3 +16,4 @@ pub mod Coming
 pub mod Separating
 pub mod Ending
 mod Serving
+pub mod Refusing

@@ -5,3 +5,4 @@ pub mod Keeping
 pub mod Casing
 pub mod Deciding
 pub mod Points
+pub mod Refusals

@@ -7,6 +7,7 @@ mod kept;
 mod place;
 mod placing;
 mod problem;
+mod refusal;
 mod refuting;
 mod separation;
 mod shares;
@@ -15,6 +16,7 @@ mod solving;
 mod workspace;
 
 pub use place::make_place;
+pub use refusal::{Refusal, find_refusal};
 pub use rg_cert_data::{Stage, WideAt};
 pub use rg_memory::NoMemory;
 pub use separation::{Separation, SeparationWithFirsts, separate, separate_with_firsts};

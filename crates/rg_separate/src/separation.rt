@@ -10,8 +10,8 @@ ghost use Rattle.rg_separate.specs.Passing.{cycle_passed};
 ghost use Rattle.rg_separate.specs.Keeping.{IsSetting, CanSolve, Works};
 ghost use Rattle.rg_rows.specs.Sharing.{IsCommonOf};
 ghost use Rattle.rg_case_parts.specs.SettingViews.{shown_setting};
-ghost use Rattle.rg_separate.specs.Deciding.{EndsWith, ProvesRefuted};
-ghost use Rattle.rg_separate.specs.Answer.{AreSeparating, IsGoodCertificate, ending_of, ending_with_firsts, IfPlaces, IfFirsts, IfUnsolvable, IfTooWide, SeparationTells, IsSearched};
+ghost use Rattle.rg_separate.specs.Deciding.{EndsRefuted, EndsWide, ProvesRefuted};
+ghost use Rattle.rg_separate.specs.Answer.{AreSeparating, IsGoodCertificate, Ending, Ending.unsolvable, Ending.too_wide, ending_of, ending_with_firsts, IfPlaces, IfFirsts, IfUnsolvable, IfTooWide, SeparationTells, IsSearched};
 
 use crate::kept::Kept;
 use crate::problem::{ProblemAnswer, solve_problem};
@@ -200,55 +200,78 @@ fn separate_setting<R: Threads + Sync, G: Gate + Sync>(
     } = progress;
     match outcome {
         SeparationOutcome::Separated => Ok(SeparationWithFirsts::Places(kept.places, kept.firsts)),
-        SeparationOutcome::Unsolvable(refuted) => certify(problems, &mut workspace, refuted, proof),
-        SeparationOutcome::TooWide(left) => solve_again(problems, &mut workspace, left),
+        SeparationOutcome::Unsolvable(refuted) => {
+            let certificate = certify(problems, &mut workspace, refuted, proof)?;
+            Ok(SeparationWithFirsts::Unsolvable(certificate))
+        }
+        SeparationOutcome::TooWide(left) => {
+            let at = show_again(problems, &mut workspace, left)?;
+            Ok(SeparationWithFirsts::TooWide(at))
+        }
     }
 }
 
 // The certificate of a refuted problem: with the reason that was kept, where it is that of the problem.
-fn certify(
+pub(crate) fn certify(
     problems: Problems<'_>,
     workspace: &mut Workspace,
     problem: Problem,
     proof: Option<(Problem, Reason)>,
-) -> Result<SeparationWithFirsts, NoMemory>
+) -> Result<Certificate, NoMemory>
     requires can { CanSolve problems }
     requires serves { Works problems workspace.old }
-    requires shows { EndsWith problems.setting problem }
+    requires refuted { EndsRefuted problems.setting problem }
     requires proves { IfSome proof (λ p. ProvesRefuted problems.setting p.0 p.1) }
-    ensures tells { IfOk result (SeparationTells problems.entry.setting.lts.now problems.entry.setting.class) }
-    ensures searched { IfOk result (λ s. IsSearched problems.entry.setting.lts.now problems.entry.setting.class (ending_with_firsts s)) }
+    ensures good { IfOk result (IsGoodCertificate problems.entry.setting.lts.now problems.entry.setting.class) }
+    ensures searched { IfOk result (λ c. IsSearched problems.entry.setting.lts.now problems.entry.setting.class (Ending.unsolvable c)) }
 {
     if let Some((proved, reason)) = proof {
         if proved == problem {
-            return Ok(SeparationWithFirsts::Unsolvable(Certificate {
-                class: problems.setting.class,
-                reason,
-            }));
+            let class = problems.setting.class;
+            return Ok(Certificate { class, reason });
         }
     }
-    solve_again(problems, workspace, problem)
+    prove_again(problems, workspace, problem)
 }
 
-// The certificate of a refuted problem, or the term that a problem shows: it is solved once more, and comes to the same.
-fn solve_again(
+// The certificate of a refuted problem, which is solved once more and comes to the same.
+fn prove_again(
     problems: Problems<'_>,
     workspace: &mut Workspace,
     problem: Problem,
-) -> Result<SeparationWithFirsts, NoMemory>
+) -> Result<Certificate, NoMemory>
     requires can { CanSolve problems }
     requires serves { Works problems workspace.old }
-    requires shows { EndsWith problems.setting problem }
-    ensures tells { IfOk result (SeparationTells problems.entry.setting.lts.now problems.entry.setting.class) }
-    ensures searched { IfOk result (λ s. IsSearched problems.entry.setting.lts.now problems.entry.setting.class (ending_with_firsts s)) }
+    requires refuted { EndsRefuted problems.setting problem }
+    ensures good { IfOk result (IsGoodCertificate problems.entry.setting.lts.now problems.entry.setting.class) }
+    ensures searched { IfOk result (λ c. IsSearched problems.entry.setting.lts.now problems.entry.setting.class (Ending.unsolvable c)) }
 {
     match solve_problem(problems.alloc, workspace, problems.setting, problem)? {
-        ProblemAnswer::Refuted(reason) => Ok(SeparationWithFirsts::Unsolvable(Certificate {
-            class: problems.setting.class,
-            reason,
-        })),
-        ProblemAnswer::Wide(at) => Ok(SeparationWithFirsts::TooWide(at)),
+        ProblemAnswer::Refuted(reason) => {
+            let class = problems.setting.class;
+            Ok(Certificate { class, reason })
+        }
         ProblemAnswer::Place(_) => unreachable!(),
+        ProblemAnswer::Wide(_) => unreachable!(),
+    }
+}
+
+// The term that a problem shows, which is solved once more and comes to the same.
+fn show_again(
+    problems: Problems<'_>,
+    workspace: &mut Workspace,
+    problem: Problem,
+) -> Result<WideAt, NoMemory>
+    requires can { CanSolve problems }
+    requires serves { Works problems workspace.old }
+    requires wide { EndsWide problems.setting problem }
+    ensures shown { IfOk result (λ at. ShownWide problems.entry.setting.lts.now problems.entry.setting.class (shown_of at)) }
+    ensures searched { IfOk result (λ at. IsSearched problems.entry.setting.lts.now problems.entry.setting.class (Ending.too_wide at)) }
+{
+    match solve_problem(problems.alloc, workspace, problems.setting, problem)? {
+        ProblemAnswer::Wide(at) => Ok(at),
+        ProblemAnswer::Place(_) => unreachable!(),
+        ProblemAnswer::Refuted(_) => unreachable!(),
     }
 }
 

@@ -39,7 +39,7 @@ use Rattle.rg_farkas.proofs.Multipliers.{node_names_stand, node_names_in_range, 
 use Rattle.rg_farkas.proofs.Refutes.{leaf_refutes}
 use Rattle.rg_farkas.proofs.Small.{each_made, has_variable}
 use Rattle.rg_outcome.proofs.Steps.{Each, IsOver, makes_each, product_over}
-use Rattle.rg_split.proofs.AllNets.{no_numbers}
+use Rattle.rg_synth.proofs.Answers.{no_numbers}
 use Rattle.rg_split.proofs.Counting.{RefutesFirst}
 use Rattle.rg_cert_meaning.specs.declared.RowName.TheVariants as row_name
 use Rattle.rg_cert_meaning.specs.declared.Variable.TheVariants.{Tokens, Effect}

@@ -29,7 +29,7 @@ use Rattle.rg_outcome.proofs.Inseparable.{asked}
 use Rattle.rg_outcome.proofs.Placed.{refuted_stay}
 use Rattle.rg_outcome.proofs.Saying.{says}
 use Rattle.rg_outcome.proofs.Solvings.{same_solved}
-use Rattle.rg_split.proofs.AllNets.{no_numbers}
+use Rattle.rg_synth.proofs.Answers.{no_numbers}
 use Rattle.rg_split.proofs.Counting.{RefutesFirst}
 use Rattle.rg_split.proofs.Held.{of_all, leaf_holds}
 

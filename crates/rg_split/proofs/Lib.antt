@@ -2,7 +2,6 @@ pub mod OneArc
 pub mod ArcSums
 pub mod Signs
 pub mod Counting
-pub mod AllNets
 pub mod Held
 pub mod Leaf
 pub mod Parted
@@ -19,3 +18,4 @@ pub mod Renamed
 pub mod ArcNumbers
 pub mod LeafParts
 pub mod RoundSteps
+pub mod LiftedPlaces

@@ -11,7 +11,7 @@ use Rattle.rg_case_folds.specs.Shown.{Shown}
 use Rattle.rg_outcome.specs.Coming.{Separation, Separation.places as of_places, Separation.unsolvable as of_problem, Separation.too_wide as of_wide}
 use Rattle.rg_outcome.specs.Outcome.{Answer, Answer.net as of_net, Answer.unsolvable as of_reason, Answer.too_wide as of_term, Gives, Out, Out.a_state, Out.a_fork, Out.a_search}
 use Rattle.rg_outcome.proofs.Right.{answer_right}
-use Rattle.rg_split.proofs.AllNets.{no_numbers}
+use Rattle.rg_synth.proofs.Answers.{no_numbers}
 use Rattle.rg_split.specs.Round.{IsToldApart}
 use Rattle.rg_split.specs.Right.{IsRight}
 use Rattle.rg_split.specs.Rounds.{Labelling, itself, IsNext, HasLabel, Splitting, Splitting.done, Splitting.unreachable, Splitting.too_wide, RoundsCome, RoundsCome.solved, RoundsCome.not_reached, RoundsCome.passed, RoundsCome.no_room, RoundsCome.goes_on}

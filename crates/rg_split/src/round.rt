@@ -1,5 +1,5 @@
 //! One round: the system with one label more.
-ghost use Rattle.std.specs.Prelude.{◌≡◌, ◌<◌, ◌≤◌, ◌++◌, ◌∷◌, [], ℕ, List, map, length, IfOk};
+ghost use Rattle.std.specs.Prelude.{◌≡◌, ◌<◌, ◌≤◌, ◌++◌, ◌∷◌, [], ℕ, List, map, length, All, IfOk};
 ghost use Rattle.std.specs.List.{range_with_len};
 ghost use Rattle.rg_theory.specs.declared.Arc.{Arc};
 ghost use Rattle.rg_theory.specs.System.{labels};
@@ -8,29 +8,33 @@ ghost use Rattle.rg_theory.specs.ClassWords.{no_condition};
 ghost use Rattle.rg_lts.specs.WellFormed.{IsWellFormed};
 ghost use Rattle.rg_cert_data.specs.Certificates.{reason_of, HasWholeCases};
 ghost use Rattle.rg_outcome.specs.Outcome.{Out, Answer.unsolvable as of_reason};
-ghost use Rattle.rg_synth.specs.Answer.{IsRightCertificate};
+ghost use Rattle.rg_separate.specs.Keeping.{IsKept};
+ghost use Rattle.rg_synth.specs.Answer.{IsRightCertificate, IsUnrefused};
 ghost use Rattle.rg_split.specs.Round.{IsToldApart};
 ghost use Rattle.rg_split.specs.Rounds.{itself, IsNext, HasLabel, SplitsTo};
-ghost use Rattle.rg_split.specs.Answer.{labelling_of, IfEnds, IfGoesOn, EndsRound, LeadsTo};
+ghost use Rattle.rg_split.specs.Answer.{labelling_of, IfEnds, IfGoesOn, EndsRound, LeadsTo, LeadsOn};
 
 use crate::building::{label_names, with_labels};
+use crate::lifting::lift;
 use crate::name::new_name;
 use crate::relabelling::relabelling_of;
 use crate::splitting::Splitting;
 use rg_cert_data::{Certificate, Reason};
 use rg_lts::{Lts, MOST_LABELS};
+use rg_marks::CompactPlace;
 use rg_memory::NoMemory;
 use rg_ports::Gate;
-use rg_synth::{Answer, synthesize};
+use rg_synth::{Answer, refuse, synthesize};
 use rg_theory::{ALL_NETS, Arc};
 use std::alloc::Global;
 use std::thread::Threads;
 
-// A system, and for each of its labels the label of the file's system that it comes from.
+// A system, for each of its labels the label of the file's system that it comes from, and regions of the system that are known.
 #[derive(Drop)]
 pub(crate) struct Labelling {
     pub(crate) system: Lts,
     pub(crate) old: Vec<u32>,
+    pub(crate) known: Vec<CompactPlace>,
 }
 
 // What a round comes to.
@@ -42,14 +46,16 @@ pub(crate) enum Round {
 
 // The file's system, each label of which comes from itself.
 pub(crate) fn first_labelling(alloc: Global, lts: &Lts) -> Result<Labelling, NoMemory>
-    ensures { IfOk result (λ n. labelling_of n ≡ itself lts.now) }
+    ensures itself { IfOk result (λ n. labelling_of n ≡ itself lts.now) }
+    ensures known { IfOk result (λ n. All (IsKept n.system) n.known.items) }
 {
     lts.is_well_formed();
     let names = label_names(alloc, lts)?;
     let labels = labels_of(alloc, lts.arcs())?;
     let system = with_labels(alloc, lts, &names, &labels)?;
     let old = numbers_below(alloc, lts.labels())?;
-    Ok(Labelling { system, old })
+    let known = Vec::new(alloc);
+    Ok(Labelling { system, old, known })
 }
 
 // The labels of the arcs.
@@ -85,8 +91,38 @@ pub(crate) fn take_round<R: Threads + Sync, G: Gate + Sync>(
 ) -> Result<Round, NoMemory>
     requires some { 1 ≤ jobs }
     requires apart { IsToldApart lts.now (labelling_of now) }
+    requires known { All (IsKept now.system) now.known.items }
     ensures ends { IfOk result (λ r. IfEnds r (EndsRound lts.now (labelling_of now))) }
     ensures goes_on { IfOk result (λ r. IfGoesOn r (λ n. LeadsTo lts.now (labelling_of now) (labelling_of n))) }
+    ensures known { IfOk result (λ r. IfGoesOn r (λ n. All (IsKept n.system) n.known.items)) }
+{
+    match refuse(rt, alloc, &now.system, jobs, gate, &now.known)? {
+        Some(refusal) => {
+            let now = Labelling {
+                system: now.system,
+                old: now.old,
+                known: refusal.places,
+            };
+            after_refusal(alloc, lts, now, refusal.certificate)
+        }
+        None => last_round(rt, alloc, lts, now, jobs, gate),
+    }
+}
+
+// The round in which the answer is no reason.
+fn last_round<R: Threads + Sync, G: Gate + Sync>(
+    rt: &R,
+    alloc: Global,
+    lts: &Lts,
+    now: Labelling,
+    jobs: u8,
+    gate: &G,
+) -> Result<Round, NoMemory>
+    requires some { 1 ≤ jobs }
+    requires apart { IsToldApart lts.now (labelling_of now) }
+    requires unrefused { IsUnrefused now.system }
+    ensures ends { IfOk result (λ r. IfEnds r (EndsRound lts.now (labelling_of now))) }
+    ensures ended { IfOk result (λ r. IfGoesOn r (λ n. ⊥)) }
 {
     match synthesize(rt, alloc, &now.system, ALL_NETS, jobs, gate)? {
         Answer::Net(net) => Ok(Round::Ends(Splitting::Done {
@@ -99,7 +135,7 @@ pub(crate) fn take_round<R: Threads + Sync, G: Gate + Sync>(
             old: now.old,
             at,
         })),
-        Answer::Unsolvable(certificate) => after_refusal(alloc, lts, now, certificate),
+        Answer::Unsolvable(_) => unreachable!(),
     }
 }
 
@@ -111,10 +147,12 @@ fn after_refusal(
     certificate: Certificate,
 ) -> Result<Round, NoMemory>
     requires apart { IsToldApart lts.now (labelling_of now) }
+    requires known { All (IsKept now.system) now.known.items }
     requires answer { Out now.system no_condition (of_reason (reason_of certificate.reason)) }
     requires right { IsRightCertificate now.system no_condition certificate }
     ensures ends { IfOk result (λ r. IfEnds r (EndsRound lts.now (labelling_of now))) }
     ensures goes_on { IfOk result (λ r. IfGoesOn r (λ n. LeadsTo lts.now (labelling_of now) (labelling_of n))) }
+    ensures known { IfOk result (λ r. IfGoesOn r (λ n. All (IsKept n.system) n.known.items)) }
 {
     lts.is_well_formed();
     if let Reason::Unreachable(s) = &certificate.reason {
@@ -137,7 +175,8 @@ fn next(alloc: Global, lts: &Lts, now: &Labelling, reason: &Reason) -> Result<La
     requires whole { HasWholeCases reason.now }
     requires has_label { HasLabel (reason_of reason.now) }
     requires room { labels now.now.system < most_labels }
-    ensures { IfOk result (λ n. IsNext lts.now (reason_of reason.now) (labelling_of now.now) (labelling_of n)) }
+    requires known { All (IsKept now.now.system) now.now.known.items }
+    ensures { IfOk result (LeadsOn lts.now (reason_of reason.now) now.now) }
 {
     lts.is_well_formed();
     now.system.is_well_formed();
@@ -150,5 +189,6 @@ fn next(alloc: Global, lts: &Lts, now: &Labelling, reason: &Reason) -> Result<La
     let mut old = Vec::new(alloc);
     old.extend_from_slice(&now.old)?;
     old.push(first)?;
-    Ok(Labelling { system, old })
+    let known = lift(alloc, &now.known, relabelling.label)?;
+    Ok(Labelling { system, old, known })
 }

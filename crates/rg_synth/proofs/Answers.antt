@@ -1,11 +1,13 @@
 -- What the search ends with is the answer, and a reason that is the answer is right.
-use Rattle.std.proofs.Common.{◌≡◌, ℕ, List, refl, sym, subst}
+use Rattle.std.proofs.Common.{◌≡◌, ℕ, List, [], All, Vec, refl, sym, subst, arith}
+use Rattle.std.proofs.lemmas.List.Elements.{All-nil}
+use Rattle.std.specs.declared.alloc.Global.{Global}
 use Rattle.rg_theory.specs.System.{System, IsInRange, IsAllReachable, IsLeastUnreachable, IsLeastFork}
 use Rattle.rg_checks.specs.declared.flaw.Flaw.TheVariants as flaw
 use Rattle.rg_checks.specs.Flaws.{IsFlawless, IsShown}
 use Rattle.rg_theory.specs.Net.{Place}
 use Rattle.rg_theory.specs.declared.Class.{Class}
-use Rattle.rg_theory.specs.ClassWords.{HasNumbersInRange}
+use Rattle.rg_theory.specs.ClassWords.{no_condition, HasNumbersInRange}
 use Rattle.rg_theory.proofs.Arcs.{arc_in_range}
 use Rattle.rg_cert_meaning.specs.Refutes.{Reason, Accepts}
 use Rattle.rg_cert_meaning.proofs.Accepted.{accepted}
@@ -13,12 +15,15 @@ use Rattle.rg_theory.specs.Pruned.{IsPruned}
 use Rattle.rg_cert_data.specs.declared.certificate.Certificate.{Certificate}
 use Rattle.rg_cert_data.specs.declared.certificate.Reason.TheVariants.{Unreachable, Fork}
 use Rattle.rg_cert_data.specs.Certificates.{reason_of, IsCertificateOf}
-use Rattle.rg_outcome.specs.Coming.{Separation, Separation.places as places_of, Separation.unsolvable as problem_of, Separation.too_wide as term_of}
+use Rattle.rg_outcome.specs.Coming.{Separation, Separation.places as places_of, Separation.unsolvable as problem_of, Separation.too_wide as term_of, IsRefusal}
 use Rattle.rg_outcome.specs.Outcome.{Gives, Searched, Out, Out.a_state, Out.a_fork, Out.a_search, Answer.net as of_net, Answer.unsolvable as of_reason, Answer.too_wide as of_term}
 use Rattle.rg_separate.specs.View.{shown_of}
 use Rattle.rg_cert_data.specs.declared.wide_at.WideAt.{WideAt}
 use Rattle.rg_separate.specs.Answer.{IsSearched, Ending}
-use Rattle.rg_synth.specs.Answer.{IsReason, IsRightCertificate}
+use Rattle.rg_separate.specs.Keeping.{IsKept}
+use Rattle.rg_separate.specs.Refusals.{IsRefusedBy, IsNotRefused}
+use Rattle.rg_separate.specs.declared.refusal.Refusal.{Refusal}
+use Rattle.rg_synth.specs.Answer.{IsReason, IsRightCertificate, IsRightRefusal, IsUnrefused}
 
 -- ---- what the search ends with
 
@@ -81,3 +86,37 @@ fork_right lts class s t s₁ s₂ fine bound reachable least =
     let other = arc_in_range lts fine s t s₂ least.fork.1 in
     right lts class (record { class = class; reason = Fork s t s₁ s₂ }) fine refl (a_fork s t s₁ s₂ reachable least) least.fork
     (record { whole = tt; claim = record { reason = (first.0, first.1, first.2, other.2); numbers = bound } })
+
+-- ---- a search from known regions on
+
+-- the class of all nets asks no number of a place
+pub no_numbers : HasNumbersInRange no_condition
+no_numbers = record { bound = tt; marking = tt }
+
+pub refused_right : (lts : System) (r : Refusal) → IsInRange lts → IsFlawless lts → IsRefusedBy lts r → IsRightRefusal lts r
+refused_right lts r fine flawless is =
+    let out = reason_out lts no_condition r.certificate flawless is.searched in
+    record {
+      out = out;
+      right = right lts no_condition r.certificate fine is.good.of_class out is.good.holds is.good.in_range;
+      places = is.places;
+    }
+
+-- no refusal gives a reason
+gives_none : (lts : System) (o : Separation) (reason : Reason) → Gives lts o (of_reason reason) → IsRefusal o
+gives_none lts (places_of kept) reason is = absurd is
+gives_none lts (problem_of problem trees) reason is = tt
+gives_none lts (term_of w) reason is = absurd is
+
+pub unrefused : (lts : System) → IsFlawless lts → IsNotRefused lts → IsUnrefused lts
+unrefused lts flawless none _ (a_state s least) = least.unreachable (flawless.reachable.each s least.state)
+unrefused lts flawless none _ (a_fork s t s₁ s₂ reachable least) =
+    let same = flawless.fork_free.one_target s t s₁ s₂ least.fork.0 least.fork.1 in
+    let less = least.in_order in
+    absurd (omega arith)
+unrefused lts flawless none reason (a_search o _ reachable fork_free searched gives) = none o searched (gives_none lts o reason gives)
+
+-- an answer that is a reason
+pub flaw_refusal : (lts : System) (certificate : Certificate) (found : Vec Place Global) → Out lts no_condition (of_reason (reason_of certificate.reason)) → IsRightCertificate lts no_condition certificate → found.items ≡ []
+    → IsRightRefusal lts (record { certificate = certificate; places = found })
+flaw_refusal lts certificate found out is none = record { out = out; right = is; places = subst (All (IsKept lts)) (sym none) (All-nil (IsKept lts)) }

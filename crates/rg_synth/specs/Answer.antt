@@ -1,5 +1,5 @@
 -- What the answer for a system and a class is, and what each kind of answer says.
-use Rattle.std.specs.Prelude.{◌≡◌, ℕ, ◌<◌, length}
+use Rattle.std.specs.Prelude.{◌≡◌, ℕ, ◌<◌, length, All}
 use Rattle.rg_theory.specs.System.{System, IsAllReachable, IsLeastUnreachable, IsLeastFork}
 use Rattle.rg_checks.specs.Flaws.{IsFlawless}
 pub use Rattle.rg_checks.specs.Flaws.{IsFlawless as IsOpen}
@@ -13,7 +13,11 @@ use Rattle.rg_theory.specs.Pruned.{net_without}
 use Rattle.rg_cert_meaning.specs.Refutes.{Reason, Reason.unreachable, Reason.fork, Reason.refuted, Accepts}
 use Rattle.rg_cert_data.specs.declared.certificate.Certificate.{Certificate}
 use Rattle.rg_cert_data.specs.Certificates.{reason_of, IsCertificateOf}
+use Rattle.rg_theory.specs.ClassWords.{no_condition}
 use Rattle.rg_outcome.specs.Outcome as outcome
+use Rattle.rg_outcome.specs.Outcome.{Out}
+use Rattle.rg_separate.specs.Keeping.{IsKept}
+use Rattle.rg_separate.specs.declared.refusal.Refusal.{Refusal}
 use Rattle.rg_separate.specs.View.{shown_of}
 use Rattle.rg_cert_data.specs.declared.wide_at.WideAt.{WideAt}
 use Rattle.rg_synth.specs.declared.answer.Answer.{Answer}
@@ -61,3 +65,13 @@ pub record IsRightCertificate (lts : System) (class : Class) (cert : Certificate
   pub holds : Accepts lts class (reason_of cert.reason)
   pub none : NoNet lts class
   pub in_range : IsCertificateOf lts cert
+
+-- the answer for all nets is this certificate's reason, the certificate is right, and the places are regions
+pub record IsRightRefusal (lts : System) (r : Refusal) : Type 0 where
+  pub out : Out lts no_condition (outcome.Answer.unsolvable (reason_of r.certificate.reason))
+  pub right : IsRightCertificate lts no_condition r.certificate
+  pub places : All (IsKept lts) r.places.items
+
+-- the answer for all nets is no reason
+abbrev pub IsUnrefused : System → Type 0
+IsUnrefused lts = (reason : Reason) → ¬ Out lts no_condition (outcome.Answer.unsolvable reason)

@@ -61,7 +61,7 @@ pub fn synthesize<R: Threads + Sync, G: Gate + Sync>(
 }
 
 // The certificate that no net has the system with this flaw, the first.
-fn flaw_certificate(lts: &Lts, class: Class, flaw: Flaw) -> Certificate
+pub(crate) fn flaw_certificate(lts: &Lts, class: Class, flaw: Flaw) -> Certificate
     requires first { IsFirstFlaw lts.now flaw }
     requires shown { IsShown lts.now flaw }
     requires bound { HasNumbersInRange class }

@@ -2,7 +2,7 @@ use Rattle.std.proofs.Common.{◌≡◌, ◌∙◌, List, sym, subst, [], append
 use Rattle.std.proofs.lemmas.List.{nil_from_length}
 use Rattle.rg_theory.specs.System.{states}
 use Rattle.rg_marks.specs.Tokens.{IsNarrow}
-use Rattle.rg_prune.proofs.Dropping.{written_length}
+use Rattle.rg_marks.proofs.Filling.{written_length}
 use Rattle.rg_prune.proofs.Asking.{asked_start, asked_end, narrow_last, pending, asked_drops, asked_keeps, some_firsts}
 use Rattle.rg_marks.specs.Separated.{AddsOne, SeparateSoMuch}
 use Rattle.rg_theory.specs.Net.{Place as PlaceOfTheory}
@@ -20,11 +20,11 @@ is_needed-requires c =
     pending c.args.lts.now c.args.places.items c.loop-place.places.items c.loop-place.all_firsts.items c.loop-place.left.items c.loop-place.separated c.loop-place.invariant.asked
     c.pop.new.self.items c.in-Some.place c.in-Some.ensures.items c.pop-in-Some.new.self.items c.in-Some-pop.firsts c.in-Some-pop.ensures.items
 
-pub fill-requires-clause-in_range : goal.fill-requires-clause-in_range
-fill-requires-clause-in_range c = c.in_ok-tokens.ensures.well_formed.in_range
+pub fill_tokens-requires-clause-in_range : goal.fill_tokens-requires-clause-in_range
+fill_tokens-requires-clause-in_range c = c.in_ok-tokens.ensures.well_formed.in_range
 
-pub fill-requires-clause-narrow : goal.fill-requires-clause-narrow
-fill-requires-clause-narrow c = subst (IsNarrow c.args.lts.now) (sym c.in_ok-place.ensures) (
+pub fill_tokens-requires-clause-narrow : goal.fill_tokens-requires-clause-narrow
+fill_tokens-requires-clause-narrow c = subst (IsNarrow c.args.lts.now) (sym c.in_ok-place.ensures) (
     narrow_last c.args.lts.now c.args.places.items c.loop-place.places.items c.loop-place.all_firsts.items c.loop-place.left.items c.loop-place.separated c.loop-place.invariant.asked
     c.pop.new.self.items c.in-Some.place c.in-Some.ensures.items)
 
@@ -43,7 +43,7 @@ loop-place-preserved c =
             w.in_ok-place.place w.add.new.self w.in_ok-place.ensures (c.in_ok-is_needed.ensures.yes w.if-branch.true)
             (subst (λ (p : PlaceOfTheory). (places more : List PlaceOfTheory) → AddsOne p places more → SeparateSoMuch c.args.lts.now places c.loop-place.separated → SeparateSoMuch c.args.lts.now more w.add.new.self)
             w.in_ok-place.ensures w.in_ok-add.ensures.separated);
-        one_each = written_length c.loop-place.tokens w.fill.new.tokens w.deref_mut.result.now (states c.args.lts.now) w.fill.auto.tokens w.deref_mut.ensures.value c.loop-place.invariant.one_each;
+        one_each = written_length c.loop-place.tokens w.fill_tokens.new.tokens w.deref_mut.result.now (states c.args.lts.now) w.fill_tokens.auto.tokens w.deref_mut.ensures.value c.loop-place.invariant.one_each;
       })
       | else-branch w ↦ rw (w.separated-is, w.tokens-is, w.left-is) (record {
         asked = asked_drops c.args.lts.now c.args.places.items c.loop-place.places.items c.loop-place.all_firsts.items c.loop-place.left.items c.loop-place.separated asked

@@ -9,4 +9,4 @@ pub returns-then-eq-clause-searched : goal.returns-then-eq-clause-searched
 returns-then-eq-clause-searched c =
     let proves = subst (λ o. IfSome o (λ p. ProvesRefuted c.args.problems.setting p.0 p.1)) c.in-Some.is c.requires.proves in
     let same : c.in-Some.proved ≡ c.args.problem = search rules in
-    shown_refuted c.args.problems.setting c.args.problem c.requires.shows c.in-Some.reason (subst (λ q. ProblemComesTo c.args.problems.setting q (Refuted c.in-Some.reason)) same proves.1)
+    shown_refuted c.args.problems.setting c.args.problem c.requires.refuted c.in-Some.reason (subst (λ q. ProblemComesTo c.args.problems.setting q (Refuted c.in-Some.reason)) same proves.1)

@@ -16,13 +16,13 @@ separate_all-requires-clause-can o c = λ lives within. record {
   notable = notable c.args.setting.lts.now c.args.setting.class c.requires.setting.reachable;
 }
 
-pub certify-requires-clause-shows : goal.certify-requires-clause-shows
-certify-requires-clause-shows o c =
+pub certify-requires-clause-refuted : goal.certify-requires-clause-refuted
+certify-requires-clause-refuted o c =
     let kept = c.separate_all.new.progress.kept.places.items in
     ends_refuted c.args.setting c.requires.setting kept c.in-Unsolvable.refuted (subst (IsSeparationOutcome c.args.setting.lts.now (comes_of c.args.setting) kept) c.in-Unsolvable.is c.in_ok-outcome.ensures.comes)
 
-pub solve_again-requires-clause-shows : goal.solve_again-requires-clause-shows
-solve_again-requires-clause-shows o c =
+pub show_again-requires-clause-wide : goal.show_again-requires-clause-wide
+show_again-requires-clause-wide o c =
     let kept = c.separate_all.new.progress.kept.places.items in
     ends_wide c.args.setting c.requires.setting kept c.in-TooWide.left (subst (IsSeparationOutcome c.args.setting.lts.now (comes_of c.args.setting) kept) c.in-TooWide.is c.in_ok-outcome.ensures.comes)
 
@@ -49,5 +49,5 @@ returns-in-Separated-clause-searched o c =
 pub certify-requires-clause-can : goal.certify-requires-clause-can
 certify-requires-clause-can o c = record { setting = c.requires.setting; columns = c.column_count-columns.ensures (shown_setting c.args.setting) c.requires.common refl }
 
-pub solve_again-requires-clause-can : goal.solve_again-requires-clause-can
-solve_again-requires-clause-can o c = record { setting = c.requires.setting; columns = c.column_count-columns.ensures (shown_setting c.args.setting) c.requires.common refl }
+pub show_again-requires-clause-can : goal.show_again-requires-clause-can
+show_again-requires-clause-can o c = record { setting = c.requires.setting; columns = c.column_count-columns.ensures (shown_setting c.args.setting) c.requires.common refl }

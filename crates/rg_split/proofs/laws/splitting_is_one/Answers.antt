@@ -1,6 +1,6 @@
 use Rattle.rg_theory.specs.ClassWords.{no_condition}
 use Rattle.rg_split.specs.Rounds.{itself}
-use Rattle.rg_split.proofs.AllNets.{no_numbers}
+use Rattle.rg_synth.proofs.Answers.{no_numbers}
 use Rattle.rg_split.proofs.Once.{one_splitting}
 use Rattle.rg_split.proofs.Always.{always}
 use Rattle.rg_split.proofs.laws.splitting_is_one.Goals as goal

@@ -1,6 +1,8 @@
 -- The tokens of a place, tree arc by tree arc.
-use Rattle.std.proofs.Common.{◌≡◌, ℕ, ◌+◌, ◌-◌, ◌<◌, ◌≤◌, List, [], ◌∷◌, ◌++◌, length, get_or, set, drop, drop-cons, add-one, Contains, ⊎_elim, refl, sym, ap, ◌∙◌, subst, arith}
-use Rattle.std.proofs.lemmas.List.{length-set, get_or-set_other}
+use Rattle.std.proofs.Common.{◌≡◌, ℕ, ◌+◌, ◌-◌, ◌<◌, ◌≤◌, List, [], ◌∷◌, ◌++◌, length, get_or, set, drop, drop-cons, add-one, Contains, Vec, ⊎_elim, refl, sym, ap, ◌∙◌, subst, arith}
+use Rattle.std.proofs.lemmas.List.{length-set, get_or-set_other, with_items_is}
+use Rattle.std.specs.Vec.{with_items}
+use Rattle.std.specs.declared.alloc.Global.{Global}
 use Rattle.std.proofs.lemmas.Grind.{get_or-set_at}
 use Rattle.std.proofs.lemmas.List.Elements.{Contains-append_left, Contains-push_cases}
 use Rattle.rg_theory.specs.declared.Arc.{Arc}
@@ -101,3 +103,8 @@ filled_end lts p tokens reach so_far =
   where
     met_all : (s : ℕ) → IsReachable lts s → Contains so_far.met s
     met_all s (ts, leads) = led_is_met lts so_far.met [] lts.initial ts s so_far.grows so_far.initial leads
+
+-- a list that was written over keeps its length
+pub written_length : (v : Vec ℕ Global) (ws : List ℕ) (before : List ℕ) (n : ℕ) → length ws ≡ length before → before ≡ v.items → length v.items ≡ n → length (with_items v ws).items ≡ n
+written_length v ws before n same is all =
+    ap (λ (l : List ℕ). length l) (with_items_is v ws (same ∙ ap (λ (l : List ℕ). length l) is ∙ sym v.ok.0)) ∙ same ∙ ap (λ (l : List ℕ). length l) is ∙ all

@@ -11,16 +11,16 @@ use rg_net::Place;
 use rg_theory::Arc;
 use std::alloc::{AllocError, Global};
 
-// A number for each state, for `fill` to write.
-pub(crate) fn no_tokens(alloc: Global, lts: &Lts) -> Result<Vec<u128>, AllocError>
+/// Returns a number for each state of the system, for `fill_tokens` to write. Returns `AllocError` if memory runs out.
+pub fn no_tokens(alloc: Global, lts: &Lts) -> Result<Vec<u128>, AllocError>
     ensures one_each { IfOk result (λ v. length v.items ≡ states lts.now) }
     ensures well_formed { IfOk result (λ _. IsWellFormed lts.now) }
 {
     vec![in alloc; 0; lts.states() as usize]
 }
 
-// Writes the tokens of a place at each state, arc by arc of the tree.
-pub(crate) fn fill(lts: &Lts, tree: &[Arc], place: &Place, tokens: &mut [u128])
+/// Writes the tokens of a place that is a region at each state of the system, arc by arc of a spanning tree of it.
+pub fn fill_tokens(lts: &Lts, tree: &[Arc], place: &Place, tokens: &mut [u128])
     requires in_range { IsInRange lts.now }
     requires tree { IsTree lts.now tree.now }
     requires reachable { IsAllReachable lts.now }
