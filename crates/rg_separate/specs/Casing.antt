@@ -2,6 +2,8 @@
 use Rattle.std.specs.Prelude.{◌≡◌, ℕ, ◌^◌, ◌<◌, List, [], ◌∷◌, ◌++◌, map, length, slice_index_or, ℤ, ◌≤ℤ◌, Result, Ok, Err}
 use Rattle.rg_theory.specs.Problem.{IsProblem}
 use Rattle.rg_cert_meaning.specs.Row.{RowStands, row_expression, cases_of, Side}
+use Rattle.rg_cert_meaning.specs.Expression.{Expression}
+use Rattle.rg_cert_meaning.specs.declared.RowName.{RowName}
 use Rattle.rg_cert_meaning.specs.declared.Form.{Form as SplitForm}
 use Rattle.rg_cert_meaning.specs.Refutes.{NamedRow, LeafRefutes}
 use Rattle.rg_integers.specs.declared.term.Wide.{Wide}
@@ -79,10 +81,20 @@ pub record VisitStands (system : LinearSystem) (forms : List Form) (v : Visit) :
 abbrev pub sides_among : List SplitForm → List SplitSide → List Side
 sides_among forms sides = map (λ side. record { form = slice_index_or forms side.form (split_form.Tokens 0); at = side.at; high = side.high }) sides
 
+-- of the case: the sides by name; what a row below them is allowed to be, and what it says
+abbrev pub sides_by_name : CaseSetting → List SplitSide → List Side
+sides_by_name c above = named_sides c.setting.lts.now c.setting.class c.problem above
+
+abbrev pub RowStandsIn : CaseSetting → List SplitSide → RowName → Type 0
+RowStandsIn c above = RowStands c.setting.lts.now c.setting.class c.problem c.number (sides_by_name c above)
+
+abbrev pub said_in : CaseSetting → List SplitSide → RowName → Expression
+said_in c above = row_expression c.setting.lts.now c.setting.class c.problem c.number (sides_by_name c above)
+
 -- the rows refute the case below the sides, and are the leaf of the weights
 pub record IsLeafMade (c : CaseSetting) (named : NamedSystem) (above : List SplitSide) (weights : List Weight) (rows : List NamedRow) : Type 0 where
-  pub refutes : LeafRefutes (RowStands c.setting.lts.now c.setting.class c.problem c.number (named_sides c.setting.lts.now c.setting.class c.problem above)) (row_expression c.setting.lts.now c.setting.class c.problem c.number (named_sides c.setting.lts.now c.setting.class c.problem above)) rows
-  pub spreads : (case : CaseSystem) → ShowsCase named case → spread_fold (shown_case c) case above (named_sides c.setting.lts.now c.setting.class c.problem above) weights (Ok rows)
+  pub refutes : LeafRefutes (RowStandsIn c above) (said_in c above) rows
+  pub spreads : (case : CaseSystem) → ShowsCase named case → spread_fold (shown_case c) case above (sides_by_name c above) weights (Ok rows)
 
 -- the leaf is made; the split has its form's name
 abbrev pub IsMadeOf : CaseSetting → NamedSystem → List SplitSide → TreeNode → reasons.TreeNode → Type 0
@@ -97,5 +109,5 @@ SharesFold named above weights result = (case : CaseSystem) → ShowsCase named 
 
 -- the first step of a leaf out of range
 abbrev pub LeafPasses : CaseSetting → NamedSystem → List SplitSide → TreeNode → Wide → Type 0
-LeafPasses c named above (leaf_node weights) w = (case : CaseSystem) → ShowsCase named case → spread_fold (shown_case c) case above (named_sides c.setting.lts.now c.setting.class c.problem above) weights (Err w)
+LeafPasses c named above (leaf_node weights) w = (case : CaseSystem) → ShowsCase named case → spread_fold (shown_case c) case above (sides_by_name c above) weights (Err w)
 LeafPasses c named above (split_node f u) w = ⊥

@@ -1,5 +1,6 @@
 -- How far a word list is read. Contracts of the crate's private functions cite it.
-use Rattle.std.specs.Prelude.{◌≡◌, ◌↔◌, ◌⊎◌, ℕ, ◌+◌, ◌<◌, ◌≤◌, slice_get, List, [], ◌∷◌, ◌++◌, length, map, Some, Contains}
+use Rattle.rg_words.specs.declared.reading.Tree.{Tree}
+use Rattle.std.specs.Prelude.{None, ◌≡◌, ◌↔◌, ◌⊎◌, ℕ, ◌+◌, ◌<◌, ◌≤◌, slice_get, List, [], ◌∷◌, ◌++◌, length, map, Some, Contains}
 use Rattle.std.specs.List.{enumerate_from, flat_map}
 use Rattle.rg_text.specs.Faults.{faults_after, IsFirst, AreNone}
 use Rattle.rg_theory.specs.Limits.{most_states, most_labels}
@@ -55,6 +56,16 @@ pub record IsAt (all : List Use) (word : Word) (names : List (List ℕ)) (steps 
   pub tree : AreSteps all steps
   pub index : slice_get (prefixes all) state ≡ Some word
 
+-- whatever uses came before, and whatever word has the state: the tree has one use more after it, of this label in the line, which leads to
+-- the state `to` and has no fault
+abbrev pub Leads : Tree → ℕ → List ℕ → ℕ → Tree → ℕ → Type 0
+Leads old state label line new to = (all : List Use) (word : Word) → IsAt all word old.builder.label_names old.steps.keys state
+    → IsAt (all ++ use_of line word label ∷ []) (word ++ label ∷ []) new.builder.label_names new.steps.keys to × (use_fault all (use_of line word label) ≡ None)
+
+-- the use of this label after the word of the state has the fault
+abbrev pub Refuses : Tree → ℕ → List ℕ → ℕ → WordFault → Type 0
+Refuses old state label line f = (all : List Use) (word : Word) → IsAt all word old.builder.label_names old.steps.keys state → use_fault all (use_of line word label) ≡ Some f
+
 -- a state is added, and the arc, which leads to it
 pub record IsGrown (old new : Draft) (a : Arc) : Type 0 where
   pub rest : new ≡ record old { state_names = state_names (a.to + 1); arcs = new.arcs }
@@ -75,6 +86,14 @@ pub record Stands (all rest : List Use) (word : Word) (names : List (List ℕ)) 
   pub before : List Use
   pub goes : GoesTo all before rest
   pub at : IsAt before word names steps state
+
+-- these uses are next: the tree has them after it, and the rest follows
+abbrev pub TakesUses : Tree → List Use → Tree → Type 0
+TakesUses old now new = (all more : List Use) → Stands all (now ++ more) [] old.builder.label_names old.steps.keys 0 → Stands all more [] new.builder.label_names new.steps.keys 0
+
+-- the fault is the first one of all, where these uses are next
+abbrev pub HasFirstFault : Tree → List Use → WordFault → Type 0
+HasFirstFault old now f = (all more : List Use) → Stands all (now ++ more) [] old.builder.label_names old.steps.keys 0 → IsFirst (faults_after use_fault [] all) f
 
 -- the uses of the lines of a text, the first of which has this number
 abbrev pub uses_in : ℕ → List (List ℕ) → List Use

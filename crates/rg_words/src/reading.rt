@@ -10,7 +10,7 @@ ghost use Rattle.rg_lts.specs.WellFormed.{IsWellFormed};
 ghost use Rattle.rg_lts.specs.Draft.{finished};
 ghost use Rattle.rg_line_formats.specs.Words.{words};
 ghost use Rattle.rg_words.specs.Contents.{Word, Use, uses, uses_from, word_of, begins_with_hash, state_names, use_fault};
-ghost use Rattle.rg_words.specs.Reading.{use_of, IsDraftOf, IsAt, IsGrown, Stands, uses_of};
+ghost use Rattle.rg_words.specs.Reading.{IsDraftOf, IsAt, IsGrown, Stands, Leads, Refuses, TakesUses, HasFirstFault, uses_of};
 ghost use Rattle.rg_words.specs.Spells.{IsTreeOf, Spells, FirstFault};
 ghost use Rattle.rg_words.specs.declared.fault.WordFault.TheVariants as fault;
 ghost use Rattle.rg_words.specs.declared.fault.WordFault.TheVariants.{NoMemory};
@@ -74,11 +74,8 @@ fn take_label(
     requires state { state ≤ length tree.old.steps.keys }
     ensures draft { OnOk result (IsDraftOf tree.new.builder tree.new.steps.keys) }
     ensures state { IfOk result (λ to. to ≤ length tree.new.steps.keys) }
-    ensures ok { IfOk result (λ to. (all : List Use) (before : Word) → IsAt all before tree.old.builder.label_names tree.old.steps.keys state
-        → IsAt (all ++ use_of number before label.now ∷ []) (before ++ label.now ∷ []) tree.new.builder.label_names tree.new.steps.keys to
-        × (use_fault all (use_of number before label.now) ≡ None)) }
-    ensures fault { IfErr result (λ f. f ≢ NoMemory → (all : List Use) (before : Word) → IsAt all before tree.old.builder.label_names tree.old.steps.keys state
-        → use_fault all (use_of number before label.now) ≡ Some f) }
+    ensures ok { IfOk result (Leads tree.old state label.now number tree.new) }
+    ensures fault { IfErr result (λ f. f ≢ NoMemory → Refuses tree.old state label.now number f) }
 {
     check(label, number)?;
     let name = as_name(label);
@@ -98,10 +95,8 @@ fn take_label(
 fn take_word(alloc: Global, tree: &mut Tree, word: &[u8], number: u32) -> Result<(), WordFault>
     requires { IsDraftOf tree.old.builder tree.old.steps.keys }
     ensures draft { OnOk result (IsDraftOf tree.new.builder tree.new.steps.keys) }
-    ensures ok { OnOk result ((all more : List Use) → Stands all (uses_from number [] (words word.now) ++ more) [] tree.old.builder.label_names tree.old.steps.keys 0
-        → Stands all more [] tree.new.builder.label_names tree.new.steps.keys 0) }
-    ensures fault { IfErr result (λ f. f ≢ NoMemory → (all more : List Use)
-        → Stands all (uses_from number [] (words word.now) ++ more) [] tree.old.builder.label_names tree.old.steps.keys 0 → IsFirst (faults_after use_fault [] all) f) }
+    ensures ok { OnOk result (TakesUses tree.old (uses_from number [] (words word.now)) tree.new) }
+    ensures fault { IfErr result (λ f. f ≢ NoMemory → HasFirstFault tree.old (uses_from number [] (words word.now)) f) }
 {
     let mut state = 0;
     let mut rest = word;
@@ -134,10 +129,8 @@ fn begins_with_hash(word: &[u8]) -> bool
 fn take_line(alloc: Global, tree: &mut Tree, line: &[u8], number: u32) -> Result<(), WordFault>
     requires { IsDraftOf tree.old.builder tree.old.steps.keys }
     ensures draft { OnOk result (IsDraftOf tree.new.builder tree.new.steps.keys) }
-    ensures ok { OnOk result ((all more : List Use) → Stands all (uses_of (number, line.now) ++ more) [] tree.old.builder.label_names tree.old.steps.keys 0
-        → Stands all more [] tree.new.builder.label_names tree.new.steps.keys 0) }
-    ensures fault { IfErr result (λ f. f ≢ NoMemory → (all more : List Use)
-        → Stands all (uses_of (number, line.now) ++ more) [] tree.old.builder.label_names tree.old.steps.keys 0 → IsFirst (faults_after use_fault [] all) f) }
+    ensures ok { OnOk result (TakesUses tree.old (uses_of (number, line.now)) tree.new) }
+    ensures fault { IfErr result (λ f. f ≢ NoMemory → HasFirstFault tree.old (uses_of (number, line.now)) f) }
 {
     if is_remark(line) {
         return Ok(());
