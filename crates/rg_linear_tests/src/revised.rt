@@ -191,7 +191,8 @@ fn is_large(alloc: Global, columns: u32, told: &[Told]) -> bool {
 // x - (2^63 - 1): the row's norm passes 2^63 - 1
 const LONG: [Told; 1] = [(&[1], 1 - 9223372036854775808)];
 
-// The row 100*b - 99*a - 1 for each two neighbours of ten columns: the denominator is multiplied by 99 at each exchange
+// The row 100*b - 99*a - 1 for each two neighbours of ten columns: the denominator is multiplied by 99 at each exchange. The
+// last one needs sums of 128 bits.
 const GROWING: [Told; 9] = [
     (&[-99, 100, 0, 0, 0, 0, 0, 0, 0, 0], -1),
     (&[0, -99, 100, 0, 0, 0, 0, 0, 0, 0], -1),
@@ -204,13 +205,49 @@ const GROWING: [Told; 9] = [
     (&[0, 0, 0, 0, 0, 0, 0, 0, -99, 100], -1),
 ];
 
+// The same for twelve columns, where numbers pass 64 bits.
+const GROWN: [Told; 11] = [
+    (&[-99, 100, 0, 0, 0, 0, 0, 0, 0, 0, 0, 0], -1),
+    (&[0, -99, 100, 0, 0, 0, 0, 0, 0, 0, 0, 0], -1),
+    (&[0, 0, -99, 100, 0, 0, 0, 0, 0, 0, 0, 0], -1),
+    (&[0, 0, 0, -99, 100, 0, 0, 0, 0, 0, 0, 0], -1),
+    (&[0, 0, 0, 0, -99, 100, 0, 0, 0, 0, 0, 0], -1),
+    (&[0, 0, 0, 0, 0, -99, 100, 0, 0, 0, 0, 0], -1),
+    (&[0, 0, 0, 0, 0, 0, -99, 100, 0, 0, 0, 0], -1),
+    (&[0, 0, 0, 0, 0, 0, 0, -99, 100, 0, 0, 0], -1),
+    (&[0, 0, 0, 0, 0, 0, 0, 0, -99, 100, 0, 0], -1),
+    (&[0, 0, 0, 0, 0, 0, 0, 0, 0, -99, 100, 0], -1),
+    (&[0, 0, 0, 0, 0, 0, 0, 0, 0, 0, -99, 100], -1),
+];
+
+// The rows 80*b - 79*a - 1 of ten columns, of which the first one isn't negative, and the last one isn't positive.
+const OPPOSED: [Told; 11] = [
+    (&[-79, 80, 0, 0, 0, 0, 0, 0, 0, 0], -1),
+    (&[0, -79, 80, 0, 0, 0, 0, 0, 0, 0], -1),
+    (&[0, 0, -79, 80, 0, 0, 0, 0, 0, 0], -1),
+    (&[0, 0, 0, -79, 80, 0, 0, 0, 0, 0], -1),
+    (&[0, 0, 0, 0, -79, 80, 0, 0, 0, 0], -1),
+    (&[0, 0, 0, 0, 0, -79, 80, 0, 0, 0], -1),
+    (&[0, 0, 0, 0, 0, 0, -79, 80, 0, 0], -1),
+    (&[0, 0, 0, 0, 0, 0, 0, -79, 80, 0], -1),
+    (&[0, 0, 0, 0, 0, 0, 0, 0, -79, 80], -1),
+    (&[1, 0, 0, 0, 0, 0, 0, 0, 0, 0], 0),
+    (&[0, 0, 0, 0, 0, 0, 0, 0, 0, -1], 0),
+];
+
 #[test]
 fn large_numbers_are_told(rt: HostRuntime) {
     assert!(rt; is_large(rt.alloc(), 1, &LONG), "a long row");
-    assert!(rt; is_large(rt.alloc(), 10, &GROWING), "growing numbers");
+    assert!(rt; is_large(rt.alloc(), 12, &GROWN), "growing numbers");
 }
 
-// Without its last row no number grows too large.
+#[test]
+fn long_descents_agree(rt: HostRuntime) {
+    assert!(rt; agrees(rt.alloc(), 10, &GROWING), "a point");
+    assert!(rt; agrees(rt.alloc(), 10, &OPPOSED), "a refutation");
+}
+
+// Without its last row no number grows too large for sums of 64 bits.
 #[test]
 fn smaller_numbers_agree(rt: HostRuntime) {
     assert!(rt; agrees(rt.alloc(), 10, &GROWING[..8]));

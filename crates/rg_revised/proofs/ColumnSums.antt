@@ -1,16 +1,18 @@
 -- The numbers of a row's relation, column by column.
-use Rattle.std.proofs.Common.{◌≡◌, ◌≢◌, ⊎_elim, ℕ, suc, ◌+◌, ◌*◌, ◌-◌, ◌^◌, ◌<◌, ◌≤◌, List, length, ap, subst, sym, ◌∙◌, arith, add-one, get_or-set_other, get_or-set_same}
+use Rattle.std.proofs.Common.{◌≡◌, ◌≢◌, ⊎_elim, ℕ, suc, ◌+◌, ◌*◌, ◌-◌, ◌^◌, ◌<◌, ◌≤◌, List, length, ap, subst, sym, ◌∙◌, arith, add-one, le_refl, get_or-set_other, get_or-set_same}
 use Rattle.std.proofs.Math.ListN.{set, length-set}
 use Rattle.std.proofs.lemmas.Int.{ints}
 use Rattle.std.specs.Prelude.{ℤ, pos, ◌+ℤ◌, ◌*ℤ◌, unsigned_abs}
 use Rattle.std.proofs.Math.IntN.{zero-*ℤ}
+use Rattle.rg_integers.specs.Range.{InRange}
 use Rattle.rg_integers.specs.Sum.{number_at}
 use Rattle.rg_linear.proofs.Members.{equal_or_not}
 use Rattle.rg_linear.proofs.TableRows.{length-row}
 use Rattle.rg_linear.specs.Table.{row_at}
 use Rattle.rg_revised.specs.Rows.{RowWithin, TableWithin}
+use Rattle.rg_revised.specs.Long.{IsSummable}
 use Rattle.rg_revised.specs.Reading.{column_sum, IsSmallRow, IsAdded, IsRead}
-use Rattle.rg_revised.proofs.Sizes.{sum_small, whole_small}
+use Rattle.rg_revised.proofs.Sizes.{sum_small, whole_small, part_in_range, whole_in_range}
 
 pub numbers_within : (width columns most : ℕ) (table : List ℤ) → length table ≡ columns * width → TableWithin width columns most table → (t s : ℕ) → t < columns → s < width
     → unsigned_abs (number_at (row_at width table t) s) ≤ most
@@ -60,3 +62,15 @@ read_small width columns norm most coeffs constant table d numbers read small ea
 
     all : (t : ℕ) → t < length coeffs → unsigned_abs (number_at (row_at width table t) s) ≤ most
     all t below = numbers_within width columns most table size within t s (omega arith) inside
+
+-- the numbers of a row's relation in sums of 128 bits
+pub read_in_range : (width norm most : ℕ) (coeffs : List ℤ) (constant : ℤ) (table : List ℤ) (d : ℤ) (numbers : List ℤ) → IsRead width coeffs constant table d numbers
+    → IsSummable norm most coeffs constant → length table ≡ length coeffs * width → TableWithin width (length coeffs) most table → unsigned_abs d ≤ most → (s : ℕ) → s < width
+    → InRange (number_at numbers s)
+read_in_range width norm most coeffs constant table d numbers read small size within dw s lt = ⊎_elim
+    (λ (e : suc s ≡ width). subst InRange (sym (read.constant_is s e)) (whole_in_range norm most coeffs constant small (λ t. number_at (row_at width table t) s) d all dw))
+    (λ ne. subst InRange (sym (read.coefficients s (omega arith))) (part_in_range norm most coeffs constant small (λ t. number_at (row_at width table t) s) (length coeffs) (le_refl (length coeffs)) all))
+    (equal_or_not (suc s) width)
+  where
+    all : (t : ℕ) → t < length coeffs → unsigned_abs (number_at (row_at width table t) s) ≤ most
+    all t below = numbers_within width (length coeffs) most table size within t s below lt

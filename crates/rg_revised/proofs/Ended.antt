@@ -1,7 +1,7 @@
 -- How a descent over a system's rows and further ones ends.
-use Rattle.std.proofs.Common.{◌≡◌, ◌⊎◌, inl, inr, ℕ, ◌+◌, ◌-◌, ◌*◌, ◌^◌, ◌<◌, ◌≤◌, max, List, [], ◌++◌, length, length-append, map, Some, ap, ap₂, refl, subst, sym, ◌∙◌, arith, le_refl}
+use Rattle.std.proofs.Common.{◌≡◌, ◌⊎◌, inl, inr, ℕ, ◌+◌, ◌-◌, ◌*◌, ◌^◌, ◌<◌, ◌≤◌, max, Bool, true, false, List, [], ◌++◌, length, length-append, map, Some, ap, ap₂, refl, subst, sym, ◌∙◌, arith, le_refl}
 use Rattle.std.specs.Prelude.{pos}
-use Rattle.std.proofs.lemmas.Bool.{cases_lt}
+use Rattle.std.proofs.lemmas.Bool.{cases_lt, false≢true}
 use Rattle.std.proofs.lemmas.Bool.Decides.{nat_tests}
 use Rattle.std.proofs.lemmas.List.{map-append, get_or_append_left, get_or-append_right}
 use Rattle.std.proofs.Math.Nat.{mul-le-mul}
@@ -11,6 +11,7 @@ use Rattle.rg_linear.specs.View.{linear_row, linear_system}
 use Rattle.rg_linear.specs.declared.row.Row.{Row}
 use Rattle.rg_linear.proofs.Norms.{at_most}
 use Rattle.rg_revised.specs.Basis.{HasNorms}
+use Rattle.rg_revised.specs.State.{HasRoomIn}
 use Rattle.rg_revised.specs.Ending.{EndTells}
 use Rattle.rg_revised.specs.View.{RevisedState}
 use Rattle.rg_revised.specs.Settling.{IsCommonFactor, IsDescent}
@@ -60,10 +61,30 @@ has_norms system columns own further same are a b n most first second greater so
     small : (n most : ℕ) → 1 ≤ most → (n + 1) * most < 2 ^ 63 → n < 2 ^ 63
     small n most some room = let m = mul-le-mul (le_refl (n + 1)) some in omega arith
 
+-- ---- room
+
+-- numbers up to most in a short descent
+pub short_room_in : (system : LinearSystem) (norm most : ℕ) → HasNorms system norm → 1 ≤ most → (norm + 1) * most < 2 ^ 63 → HasRoomIn system norm most false
+short_room_in system norm most norms some room = record {
+  norms = norms;
+  norm_fits = (let m = mul-le-mul (le_refl (norm + 1)) some in omega arith);
+  some = some;
+  most_fits = (let m = mul-le-mul (one norm) (le_refl most) in omega arith);
+  short = λ e. room;
+}
+  where
+    one : (n : ℕ) → 1 ≤ n + 1
+    one n = omega arith
+
+-- the room of a long descent, at the start
+pub long_room_in : (system : LinearSystem) (norm most : ℕ) (long : Bool) → HasRoomIn system norm most long → HasRoomIn system norm 1 true
+long_room_in system norm most long room =
+    record { norms = room.norms; norm_fits = room.norm_fits; some = le_refl 1; most_fits = omega arith; short = λ no. absurd (false≢true (sym no)) }
+
 -- ---- the ends
 
 pub refuted_at : (system : LinearSystem) (r : RevisedState) (i : ℕ) → EndTells system r.tableau (Refuted i) → r.failing ≡ Some i
-    → IsCommonFactor r.tableau.basis.d r.tableau.numbers r.factor → IsDescent system r (Refuted i)
+    → IsCommonFactor r.tableau.over r.tableau.numbers r.factor → IsDescent system r (Refuted i)
 refuted_at system r i (members, told) failing common =
     (members, record { held = told.held; outcome = told.outcome; relation = told.relation; failing = failing; common = common })
 

@@ -1,13 +1,14 @@
 -- What the slots and the table hold stays held, and the relation of a row is read off them.
-use Rattle.std.proofs.Common.{◌≡◌, ◌≢◌, ◌⊎◌, ⊎_elim, ℕ, ◌+◌, ◌*◌, ◌<◌, ◌≤◌, ◌==◌, suc, Bool, true, false, if◌then◌else◌, List, [], ◌∷◌, length, get_or, Contains, ap, refl, subst, sym, ◌∙◌, inl, inr, arith}
+use Rattle.std.proofs.Common.{◌≡◌, ◌≢◌, ◌⊎◌, ⊎_elim, ℕ, ◌+◌, ◌*◌, ◌<◌, ◌≤◌, ◌==◌, suc, Bool, true, false, if◌then◌else◌, List, [], ◌∷◌, length, get_or, Contains, ap, subst, sym, ◌∙◌, inl, inr, arith}
 use Rattle.std.proofs.Math.ListN.{set, length-set}
 use Rattle.std.proofs.Math.IntN.{*ℤ-zero, zero-*ℤ}
 use Rattle.std.proofs.lemmas.Int.{ints}
 use Rattle.std.proofs.lemmas.List.{get_or_default}
-use Rattle.std.specs.Prelude.{ℤ, pos, ◌+ℤ◌, ◌*ℤ◌, unsigned_abs}
+use Rattle.std.specs.Prelude.{ℤ, pos, ◌+ℤ◌, ◌*ℤ◌, ◌<ℤ◌, unsigned_abs}
 use Rattle.rg_integers.specs.Sum.{number_at, sum_below, only}
 use Rattle.rg_integers.specs.Sign.{size}
 use Rattle.rg_integers.proofs.Ring.{mul_left_comm}
+use Rattle.rg_integers.proofs.Signs.{sign-times}
 use Rattle.rg_integers.proofs.Order.{mul-cancel_left, positive_differs}
 use Rattle.rg_integers.proofs.Sums.{sum_below-same, sum_below-zero}
 use Rattle.rg_linear.specs.System.{LinearSystem, variables, row_variable, entry}
@@ -19,35 +20,44 @@ use Rattle.rg_linear.proofs.Unique.{sum_at, sum_one}
 use Rattle.rg_linear.proofs.MemberIndices.{member_at}
 use Rattle.rg_linear.proofs.TableRows.{length-row}
 use Rattle.rg_revised.specs.Basis.{IsRelationOf, row_over, IsMultiple, IsWithin}
-use Rattle.rg_revised.specs.Rows.{RowWithin, TableRenewed}
+use Rattle.rg_revised.specs.Rows.{RowWithin}
 use Rattle.rg_revised.specs.View.{BasisState}
 use Rattle.rg_revised.specs.Held.{relation_of, column_relation, IsHeld, IsPivot, AreRowNumbers}
 use Rattle.rg_revised.proofs.Relations.{member_has_no_constant}
 use Rattle.rg_revised.proofs.Rows.{row_follows}
-use Rattle.rg_revised.proofs.Renewing.{basis_exchanged}
+use Rattle.rg_revised.proofs.Renewing.{basis_renewed}
 use Rattle.rg_linear.proofs.TableLemmas.{beside_none}
 use Rattle.rg_revised.proofs.Slots.{beside_at, set_Contains, Contains-set_new, Contains-set_old, distinct-set}
-use Rattle.rg_revised.proofs.Held.{row_is_multiple}
+use Rattle.rg_revised.proofs.Held.{RowMultiplied, row_is_multiple}
 
-pub held_exchanged : (system : LinearSystem) (members : List ℕ) (b : BasisState) (table' numbers pivot : List ℤ) (p i : ℕ) (negative : Bool) (most : ℕ)
-    → IsHeld system members b → i < variables system → ¬ Contains members i → IsRelationOf system members i (relation_of b.slots b.d numbers) → length numbers ≡ length b.slots + 1
-    → p < length b.slots → number_at numbers p ≢ pos 0
-    → IsPivot numbers pivot p negative → TableRenewed (length b.slots + 1) pivot b.table table' p negative b.d most system.columns
-    → IsHeld system (exchanged members i (get_or b.slots p 0)) (record { slots = set b.slots p i; d = size (number_at numbers p); table = table' })
-held_exchanged system members b table' numbers pivot p i negative most held variable outside is width inside named signed r =
-    subst (λ z. IsHeld system (exchanged members i (get_or b.slots p 0)) (record { slots = set b.slots p i; d = z; table = table' })) (ap size kj_is) (record {
-      basis = basis_exchanged system members b.d (column_relation b) i (get_or b.slots p 0) (relation_of b.slots b.d numbers) held.basis variable outside is refl member
-          (λ e. named (sym kj_is ∙ e)) (column_relation (record { slots = set b.slots p i; d = size (number_beside b.slots numbers (get_or b.slots p 0)); table = table' })) (λ t lt. multiple t lt);
-      count = count' ∙ held.count;
-      distinct = distinct-set b.slots p i held.distinct inside lacks;
-      same = λ m. (
-        (λ has. ⊎_elim (λ e. subst (Contains (set b.slots p i)) e (Contains-set_new b.slots p i inside)) (λ old. Contains-set_old b.slots p i m ((held.same m).0 old.0) old.1)
-            (exchanged-Contains i (get_or b.slots p 0) m members has)),
-        (λ has. ⊎_elim (λ e. subst (Contains (exchanged members i (get_or b.slots p 0))) e (Contains-exchanged_new i (get_or b.slots p 0) members))
-            (λ old. Contains-exchanged_old i (get_or b.slots p 0) m members ((held.same m).1 old.0) old.1) (set_Contains b.slots p i m held.distinct inside has)),
-      );
-      size = r.same_length ∙ held.size ∙ ap (λ n. system.columns * (n + 1)) (sym count');
-    })
+-- a table whose rows are those after an exchange, times a factor
+pub record TableMultiplied (b : BasisState) (table' pivot : List ℤ) (p : ℕ) (negative : Bool) (over factor d' : ℤ) (columns : ℕ) : Type 0 where
+  pub positive : pos 0 <ℤ factor
+  pub denominator : b.d *ℤ number_at pivot p ≡ factor *ℤ d'
+  pub same_length : length table' ≡ length b.table
+  pub rows : (t : ℕ) → t < columns → RowMultiplied pivot (row_at (length b.slots + 1) b.table t) (row_at (length b.slots + 1) table' t) p negative over factor
+
+pub pivot_size : (numbers pivot : List ℤ) (p : ℕ) (negative : Bool) → IsPivot numbers pivot p negative → p < length numbers → number_at pivot p ≡ size (number_at numbers p)
+pivot_size numbers pivot p negative signed lt = signed.numbers_are p lt ∙ sign-times (number_at numbers p)
+
+pub held_exchanged : (system : LinearSystem) (members : List ℕ) (b : BasisState) (table' numbers pivot : List ℤ) (p i : ℕ) (negative : Bool) (over f d' : ℤ)
+    → IsHeld system members b → i < variables system → ¬ Contains members i → IsRelationOf system members i (relation_of b.slots over numbers) → length numbers ≡ length b.slots + 1
+    → p < length b.slots → number_at numbers p ≢ pos 0 → IsPivot numbers pivot p negative → TableMultiplied b table' pivot p negative over f d' system.columns
+    → IsHeld system (exchanged members i (get_or b.slots p 0)) (record { slots = set b.slots p i; d = d'; table = table' })
+held_exchanged system members b table' numbers pivot p i negative over f d' held variable outside is width inside named signed r = record {
+  basis = basis_renewed system members b.d (column_relation b) i (get_or b.slots p 0) (relation_of b.slots over numbers) held.basis variable outside is member (λ e. named (sym kj_is ∙ e)) f d' r.positive
+      (ap (λ z. b.d *ℤ size z) kj_is ∙ ap (λ z. b.d *ℤ z) (sym (pivot_size numbers pivot p negative signed (omega arith))) ∙ r.denominator)
+      (column_relation (record { slots = set b.slots p i; d = d'; table = table' })) multiple;
+  count = count' ∙ held.count;
+  distinct = distinct-set b.slots p i held.distinct inside lacks;
+  same = λ m. (
+    (λ has. ⊎_elim (λ e. subst (Contains (set b.slots p i)) e (Contains-set_new b.slots p i inside)) (λ old. Contains-set_old b.slots p i m ((held.same m).0 old.0) old.1)
+        (exchanged-Contains i (get_or b.slots p 0) m members has)),
+    (λ has. ⊎_elim (λ e. subst (Contains (exchanged members i (get_or b.slots p 0))) e (Contains-exchanged_new i (get_or b.slots p 0) members))
+        (λ old. Contains-exchanged_old i (get_or b.slots p 0) m members ((held.same m).1 old.0) old.1) (set_Contains b.slots p i m held.distinct inside has)),
+  );
+  size = r.same_length ∙ held.size ∙ ap (λ n. system.columns * (n + 1)) (sym count');
+}
   where
     count' : length (set b.slots p i) ≡ length b.slots
     count' = length-set b.slots p i
@@ -61,13 +71,12 @@ held_exchanged system members b table' numbers pivot p i negative most held vari
     kj_is : number_beside b.slots numbers (get_or b.slots p 0) ≡ number_at numbers p
     kj_is = beside_at b.slots numbers p held.distinct inside (omega arith)
 
-    multiple : (t : ℕ) → t < system.columns → IsMultiple b.d (renewed (relation_of b.slots b.d numbers) i (get_or b.slots p 0) (column_relation b t))
-        (column_relation (record { slots = set b.slots p i; d = size (number_beside b.slots numbers (get_or b.slots p 0)); table = table' }) t)
+    multiple : (t : ℕ) → t < system.columns → IsMultiple f (renewed (relation_of b.slots over numbers) i (get_or b.slots p 0) (column_relation b t))
+        (column_relation (record { slots = set b.slots p i; d = d'; table = table' }) t)
     multiple t lt = subst
-        (λ n. IsMultiple b.d (renewed (relation_of b.slots b.d numbers) i (get_or b.slots p 0) (column_relation b t))
-        (relation_of (set b.slots p i) (size (number_beside b.slots numbers (get_or b.slots p 0))) (row_at (n + 1) table' t))) (sym count')
-        (row_is_multiple b.slots b.d numbers pivot p i negative most held.distinct inside lacks width signed (row_at (length b.slots + 1) b.table t) (row_at (length b.slots + 1) table' t)
-        (length-row (length b.slots + 1) b.table system.columns t held.size lt) (r.rows t lt))
+        (λ n. IsMultiple f (renewed (relation_of b.slots over numbers) i (get_or b.slots p 0) (column_relation b t)) (relation_of (set b.slots p i) d' (row_at (n + 1) table' t))) (sym count')
+        (row_is_multiple b.slots b.d over f numbers pivot p i negative held.distinct inside lacks width signed (row_at (length b.slots + 1) b.table t) (row_at (length b.slots + 1) table' t)
+        (length-row (length b.slots + 1) b.table system.columns t held.size lt) (r.rows t lt) d' r.denominator)
 
 -- ---- small numbers
 

@@ -1,6 +1,7 @@
 pub mod Relations
 pub mod Rows
 pub mod Renewing
+pub mod Fitting
 pub mod Small
 pub mod Written
 pub mod Tables
@@ -28,3 +29,6 @@ pub mod WalkStates
 pub mod FewIndices
 pub mod FewRenewed
 pub mod Telling
+pub mod LongRows
+pub mod Crossed
+pub mod Advancing

@@ -102,8 +102,8 @@ module _ (slots : List ℕ) (d : ℤ) (numbers : List ℤ) (k : Relation) (disti
 -- ---- the multipliers after a refutation
 
 module _ (system : LinearSystem) (members : List ℕ) (i : ℕ) (r : RevisedState) (is : IsRefutedAt system members i r) where
-  pub divides_d : unsigned_abs r.factor ∣ unsigned_abs r.tableau.basis.d
-  divides_d = is.common.greatest.divides 0 (omega arith)
+  pub divides_over : unsigned_abs r.factor ∣ unsigned_abs r.tableau.over
+  divides_over = is.common.greatest.divides 0 (omega arith)
 
   pub divides_number : (s : ℕ) → s < length r.tableau.basis.slots → unsigned_abs r.factor ∣ unsigned_abs (number_at r.tableau.numbers s)
   divides_number s lt = is.common.greatest.divides (suc s) (let w = is.held.width in omega arith)
@@ -112,21 +112,21 @@ module _ (system : LinearSystem) (members : List ℕ) (i : ℕ) (r : RevisedStat
   columns_are = sym is.held.held.held.count
 
   module _ (k : Relation) (row : DictionaryRow system members (row_variable system i) k) where
-    reduced : IsReduced (relation_of r.tableau.basis.slots r.tableau.basis.d r.tableau.numbers) k
-    reduced = reduced_from system members (row_variable system i) (relation_of r.tableau.basis.slots r.tableau.basis.d r.tableau.numbers) k is.relation row
+    reduced : IsReduced (relation_of r.tableau.basis.slots r.tableau.over r.tableau.numbers) k
+    reduced = reduced_from system members (row_variable system i) (relation_of r.tableau.basis.slots r.tableau.over r.tableau.numbers) k is.relation row
 
-    pub failing_row : (n : ℕ) (z : ℤ) → n ≡ i → r.factor *ℤ z ≡ r.tableau.basis.d → z ≡ multiplier_of system k i n
-    failing_row n z e is_d = own_multiplier r.tableau.basis.slots r.tableau.basis.d r.tableau.numbers k is.held.held.held.distinct is.held.width reduced r.factor is.common z is_d
+    pub failing_row : (n : ℕ) (z : ℤ) → n ≡ i → r.factor *ℤ z ≡ r.tableau.over → z ≡ multiplier_of system k i n
+    failing_row n z e is_d = own_multiplier r.tableau.basis.slots r.tableau.over r.tableau.numbers k is.held.held.held.distinct is.held.width reduced r.factor is.common z is_d
         ∙ sym (ap (λ b. if b then k.d else neg_ℤ (k.coefficient (row_variable system n))) (ap (λ m. n == m) (sym e) ∙ same n))
 
     pub slot_row : (n s : ℕ) (z : ℤ) → n ≢ i → s < length r.tableau.basis.slots → get_or r.tableau.basis.slots s 0 ≡ length r.tableau.basis.slots + n → r.factor *ℤ z ≡ number_at r.tableau.numbers s → neg_ℤ z ≡ multiplier_of system k i n
     slot_row n s z ne lt at is_number =
-        ap neg_ℤ (slot_multiplier r.tableau.basis.slots r.tableau.basis.d r.tableau.numbers k is.held.held.held.distinct is.held.width reduced r.factor is.common s (row_variable system n) z lt (at ∙ ap (λ m. m + n) (sym columns_are)) is_number)
+        ap neg_ℤ (slot_multiplier r.tableau.basis.slots r.tableau.over r.tableau.numbers k is.held.held.held.distinct is.held.width reduced r.factor is.common s (row_variable system n) z lt (at ∙ ap (λ m. m + n) (sym columns_are)) is_number)
         ∙ sym (ap (λ b. if b then k.d else neg_ℤ (k.coefficient (row_variable system n))) (differs n i ne))
 
     pub other_row : (n : ℕ) → n ≢ i → ¬ Contains r.tableau.basis.slots (length r.tableau.basis.slots + n) → pos 0 ≡ multiplier_of system k i n
     other_row n ne lacks =
-        sym (ap neg_ℤ (none_multiplier r.tableau.basis.slots r.tableau.basis.d r.tableau.numbers k is.held.held.held.distinct is.held.width reduced r.factor is.common (row_variable system n)
+        sym (ap neg_ℤ (none_multiplier r.tableau.basis.slots r.tableau.over r.tableau.numbers k is.held.held.held.distinct is.held.width reduced r.factor is.common (row_variable system n)
         (λ has. lacks (subst (Contains r.tableau.basis.slots) (ap (λ m. m + n) columns_are) has))))
         ∙ sym (ap (λ b. if b then k.d else neg_ℤ (k.coefficient (row_variable system n))) (differs n i ne))
 

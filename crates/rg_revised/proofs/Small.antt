@@ -12,10 +12,10 @@ use Rattle.rg_linear.specs.Exchange.{AllFit, IsReduced}
 use Rattle.rg_linear.specs.Room.{total}
 use Rattle.rg_linear.specs.Norm.{norm_at}
 use Rattle.rg_integers.proofs.Signs.{abs-plus, abs-times, abs-factor}
-use Rattle.rg_linear.proofs.Widths.{Bounded, SetBounded, squared, fits_where_small}
 use Rattle.rg_revised.specs.Basis.{IsRelationOf, IsBasis, row_over, IsWithin, AreWithin, HasNorms, IsSmall}
 use Rattle.rg_revised.proofs.Relations.{reduced_from}
 use Rattle.rg_revised.proofs.Rows.{row_follows}
+use Rattle.rg_revised.proofs.Fitting.{AllWithin, fits_where_small}
 
 -- ---- sums
 
@@ -73,8 +73,8 @@ module _ (system : LinearSystem) (d : ℤ) (relation : ℕ → Relation) (b n : 
 
 -- ---- primitive relations have no larger numbers
 
-bounded_from : (b : ℕ) (raw l : Relation) → IsReduced raw l → IsWithin b raw → Bounded b l
-bounded_from b raw l r g = record {
+reduced-within : (b : ℕ) (raw l : Relation) → IsReduced raw l → IsWithin b raw → IsWithin b l
+reduced-within b raw l r g = record {
   d = abs-factor r.factor _ _ b r.positive r.d g.d;
   constant = abs-factor r.factor _ _ b r.positive r.constant g.constant;
   coefficients = λ m. abs-factor
@@ -87,28 +87,36 @@ within_more b n k g = record { d = raise _ g.d; constant = raise _ g.constant; c
     raise : (x : ℕ) → x ≤ b → x ≤ (n + 1) * b
     raise x h = omega arith
 
-pub set_bounded : (system : LinearSystem) (members : List ℕ) (d : ℤ) (relation : ℕ → Relation) → IsBasis system members d relation → (s : IsSmall system members d relation)
-    → SetBounded system ((s.norm + 1) * s.most) members
-set_bounded system members d relation basis s w k row = at (cases_lt w system.columns)
+set_within : (system : LinearSystem) (members : List ℕ) (d : ℤ) (relation : ℕ → Relation) (n b : ℕ) → IsBasis system members d relation → HasNorms system n → AreWithin system b relation
+    → unsigned_abs d ≤ b → AllWithin system ((n + 1) * b) members
+set_within system members d relation n b basis norms within d_within w k row = at (cases_lt w system.columns)
   where
-    at : (w < system.columns) ⊎ (system.columns ≤ w) → Bounded ((s.norm + 1) * s.most) k
-    at (inl below) = bounded_from _ (relation w) k (reduced_from system members w (relation w) k (basis.columns w below) row) (within_more s.most s.norm (relation w) (s.within w below))
+    at : (w < system.columns) ⊎ (system.columns ≤ w) → IsWithin ((n + 1) * b) k
+    at (inl below) = reduced-within _ (relation w) k (reduced_from system members w (relation w) k (basis.columns w below) row) (within_more b n (relation w) (within w below))
     at (inr past) =
         let i : ℕ = w - system.columns in
         let e : system.columns + i ≡ w = omega arith in
         let less = row.variable in
         let lt : i < length system.rows = omega arith in
-        bounded_from _ (row_over system d relation i) k
+        reduced-within _ (row_over system d relation i) k
         (reduced_from system members w (row_over system d relation i) k
         (subst (λ x. IsRelationOf system members x (row_over system d relation i)) e (row_follows system members d relation basis i lt)) row)
-        (row_within system d relation s.most s.norm s.within s.d_within s.norms i lt)
+        (row_within system d relation b n within d_within norms i lt)
 
-square_fits : (b : ℕ) → b < 2 ^ 63 → squared b < 2 ^ 127
-square_fits b h =
-    let le : b ≤ 2 ^ 63 - 1 = omega arith in
-    let m = mul-le-mul le le in
-    omega arith
+-- where numbers of the columns' relations and of the pivot's are small, no term of the exchange is out of range
+pub pivot_fits : (system : LinearSystem) (members : List ℕ) (d : ℤ) (relation : ℕ → Relation) (n b largest i j : ℕ) (k : Relation) → IsBasis system members d relation → HasNorms system n
+    → AreWithin system b relation → unsigned_abs d ≤ b → IsRelationOf system members i k → IsWithin largest k → ((n + 1) * b) * largest < 2 ^ 126 → AllFit system members i j
+pivot_fits system members d relation n b largest i j k basis norms within d_within is small fits = fits_where_small system members i j ((n + 1) * b) largest
+    (set_within system members d relation n b basis norms within d_within) (λ l row. reduced-within largest k l (reduced_from system members i k l is row) small) fits
 
 pub small_is_not_wide : (system : LinearSystem) (members : List ℕ) (d : ℤ) (relation : ℕ → Relation) (i j : ℕ) → IsBasis system members d relation → IsSmall system members d relation
     → AllFit system members i j
-small_is_not_wide system members d relation i j basis s = fits_where_small system members i j ((s.norm + 1) * s.most) (set_bounded system members d relation basis s) (square_fits _ s.room)
+small_is_not_wide system members d relation i j basis s =
+    let all = set_within system members d relation s.norm s.most basis s.norms s.within s.d_within in
+    fits_where_small system members i j ((s.norm + 1) * s.most) ((s.norm + 1) * s.most) all (λ k row. all i k row) (square_fits _ s.room)
+  where
+    square_fits : (b : ℕ) → b < 2 ^ 63 → b * b < 2 ^ 126
+    square_fits b h =
+        let le : b ≤ 2 ^ 63 - 1 = omega arith in
+        let m = mul-le-mul le le in
+        omega arith

@@ -1,30 +1,29 @@
 -- An exchange of the relations of the columns.
-use Rattle.std.proofs.Common.{◌≡◌, ◌≢◌, ℕ, ◌+◌, ◌<◌, ◌≤◌, Bool, List, ◌++◌, take, length, get_or, subst, sym, ◌∙◌, arith}
+use Rattle.std.proofs.Common.{◌≡◌, ◌≢◌, ℕ, ◌+◌, ◌<◌, ◌≤◌, Bool, List, ◌++◌, take, length, ap, subst, sym, ◌∙◌, arith}
 use Rattle.std.proofs.Math.ListN.{set, length-set}
 use Rattle.std.proofs.Math.Seq.{take-append_seam}
-use Rattle.std.specs.Prelude.{ℤ, pos, ◌≤ℤ◌, unsigned_abs}
+use Rattle.std.specs.Prelude.{ℤ, pos, ◌*ℤ◌, ◌≤ℤ◌, unsigned_abs}
 use Rattle.std.proofs.lemmas.Int.{ints}
 use Rattle.rg_integers.specs.Sum.{number_at}
 use Rattle.rg_integers.specs.Sign.{size}
-use Rattle.rg_integers.proofs.Signs.{sign-times}
-use Rattle.rg_linear.specs.Exchange.{exchanged}
 use Rattle.rg_revised.specs.Rows.{TableWithin, TableRenewed}
-use Rattle.rg_revised.specs.Held.{IsHeld, IsPivot}
+use Rattle.rg_revised.specs.Held.{IsPivot}
 use Rattle.rg_revised.specs.View.{BasisState}
 use Rattle.rg_revised.specs.State.{IsExchangeOf}
-use Rattle.rg_revised.proofs.Keeping.{held_exchanged}
-
-pub pivot_size : (numbers pivot : List ℤ) (p : ℕ) (negative : Bool) → IsPivot numbers pivot p negative → p < length numbers → number_at pivot p ≡ size (number_at numbers p)
-pivot_size numbers pivot p negative signed lt = signed.numbers_are p lt ∙ sign-times (number_at numbers p)
+use Rattle.rg_revised.proofs.Keeping.{pivot_size, held_exchanged}
+use Rattle.rg_revised.proofs.Held.{multiplied_from}
 
 pub exchange_of : (b : BasisState) (table' numbers pivot : List ℤ) (p variable : ℕ) (negative : Bool) (most : ℕ) (z : ℤ) → p < length b.slots → length numbers ≡ length b.slots + 1
     → number_at numbers p ≢ pos 0 → IsPivot numbers pivot p negative
     → TableRenewed (length b.slots + 1) pivot b.table table' p negative b.d most (length b.slots) → z ≡ number_at pivot p → unsigned_abs z ≤ most
     → IsExchangeOf b numbers p variable most (record { slots = set b.slots p variable; d = z; table = table' })
 exchange_of b table' numbers pivot p variable negative most z inside width named signed r is small system members old lt outside relation = record {
-  held = subst (λ x. IsHeld system (exchanged members variable (get_or b.slots p 0)) (record { slots = set b.slots p variable; d = x; table = table' })) (sym (is ∙ pivot_size numbers pivot p negative signed (omega arith)))
-      (held_exchanged system members b table' numbers pivot p variable negative most old.held lt outside relation width inside named signed
-      (subst (TableRenewed (length b.slots + 1) pivot b.table table' p negative b.d most) old.held.count r));
+  held = held_exchanged system members b table' numbers pivot p variable negative b.d b.d z old.held lt outside relation width inside named signed (record {
+    positive = old.held.basis.positive;
+    denominator = ap (λ x. b.d *ℤ x) (sym is);
+    same_length = r.same_length;
+    rows = λ t below. multiplied_from pivot _ _ p negative b.d most (r.rows t (subst (λ n. t < n) (sym old.held.count) below));
+  });
   within = subst (λ n. TableWithin (n + 1) n most table') (sym (length-set b.slots p variable)) (λ t below. (r.rows t below).within);
   d_within = small;
 }

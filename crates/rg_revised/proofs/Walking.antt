@@ -77,7 +77,7 @@ module _ (system : LinearSystem) (members : List ℕ) (b : BasisState) (most : �
 
   module _ (numbers : List ℤ) (read : IsRead (length b.slots + 1) coeffs (pos 0) b.table b.d numbers) where
     is_relation : IsRelationOf system members (row_variable system i) (relation_of b.slots b.d numbers)
-    is_relation = relation system members b most small room i coeffs (pos 0) row numbers read
+    is_relation = relation system members b most small i coeffs (pos 0) row numbers read
 
     -- a column that the numbers name stands at a slot
     column_slot : (t : ℕ) → t < length b.slots → number_beside b.slots numbers t ≢ pos 0 → (q : ℕ) × NamesColumn (length b.slots) b.slots numbers q × (get_or b.slots q 0 ≡ t)

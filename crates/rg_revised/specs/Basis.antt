@@ -37,9 +37,9 @@ pub record IsMultiple (factor : ℤ) (raw l : Relation) : Type 0 where
   pub constant : raw.constant ≡ factor *ℤ l.constant
   pub coefficients : (m : ℕ) → raw.coefficient m ≡ factor *ℤ l.coefficient m
 
--- the relations after the exchange of i, which has relation k, with j: the renewed ones, divided by the former denominator
+-- the relations after the exchange of i, which has relation k, with j: the renewed ones, divided by a factor
 abbrev pub AreRenewed : LinearSystem → ℤ → Relation → ℕ → ℕ → (ℕ → Relation) → (ℕ → Relation) → Type 0
-AreRenewed system d k i j relation relation' = (t : ℕ) → t < system.columns → IsMultiple d (renewed k i j (relation t)) (relation' t)
+AreRenewed system factor k i j relation relation' = (t : ℕ) → t < system.columns → IsMultiple factor (renewed k i j (relation t)) (relation' t)
 
 -- no number of the relation passes b
 pub record IsWithin (b : ℕ) (k : Relation) : Type 0 where

@@ -18,7 +18,7 @@ pub record IsPointAt (system : LinearSystem) (members : List ℕ) (t : TableauSt
 pub record IsRefutedHeld (system : LinearSystem) (members : List ℕ) (i : ℕ) (t : TableauState) : Type 0 where
   pub held : IsTableauOf system members t
   pub outcome : (fixed : List ℕ) × DescentFromStart system (refuted members i fixed)
-  pub relation : IsRelationOf system members (row_variable system i) (relation_of t.basis.slots t.basis.d t.numbers)
+  pub relation : IsRelationOf system members (row_variable system i) (relation_of t.basis.slots t.over t.numbers)
 
 -- what an end says; nothing where a number is too large
 abbrev pub EndTells : LinearSystem → TableauState → Descent → Type 0

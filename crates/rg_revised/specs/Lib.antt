@@ -1,6 +1,7 @@
 pub mod Basis
 pub mod Rows
 pub mod Few
+pub mod Long
 pub mod Held
 pub mod Reading
 pub mod State

@@ -24,9 +24,9 @@ pub record IsCommonFactor (d : ℤ) (numbers : List ℤ) (factor : ℤ) : Type 0
 pub record IsRefutedAt (system : LinearSystem) (members : List ℕ) (i : ℕ) (r : RevisedState) : Type 0 where
   pub held : IsHeldOf system members r
   pub outcome : (fixed : List ℕ) × DescentFromStart system (refuted members i fixed)
-  pub relation : IsRelationOf system members (row_variable system i) (relation_of r.tableau.basis.slots r.tableau.basis.d r.tableau.numbers)
+  pub relation : IsRelationOf system members (row_variable system i) (relation_of r.tableau.basis.slots r.tableau.over r.tableau.numbers)
   pub failing : r.failing ≡ Some i
-  pub common : IsCommonFactor r.tableau.basis.d r.tableau.numbers r.factor
+  pub common : IsCommonFactor r.tableau.over r.tableau.numbers r.factor
 
 -- what a descent comes to; nothing is said where a number is too large
 abbrev pub IsDescent : LinearSystem → RevisedState → Descent → Type 0

@@ -1,5 +1,5 @@
 -- What a revised dictionary shows.
-use Rattle.std.specs.Prelude.{◌≡◌, ℕ, ◌+◌, ◌*◌, ◌^◌, ◌<◌, ◌≤◌, List, length, Option, ℤ, pos, ◌≤ℤ◌}
+use Rattle.std.specs.Prelude.{◌≡◌, ℕ, ◌+◌, ◌*◌, ◌^◌, ◌<◌, ◌≤◌, Bool, List, length, Option, ℤ, pos, ◌≤ℤ◌}
 use Rattle.rg_integers.specs.Range.{InRange}
 
 -- the variable of each slot, and the relations of the columns over d
@@ -13,21 +13,27 @@ pub record HasShape (b : BasisState) : Type 0 where
   pub few : length b.slots < 2 ^ 32
   pub size : length b.table ≡ length b.slots * (length b.slots + 1)
 
--- a basis with the constants of its relations, the columns where they aren't 0, and the numbers of one row's relation; no number of the
--- table passes most
+-- a basis with the constants of its relations, the columns where they aren't 0, and the numbers of one row's relation over a denominator; no
+-- row's norm passes norm, and no number of the table most; whether the descent is a long one
 pub record TableauState : Type 0 where
   pub basis : BasisState
   pub constants : List ℤ
   pub named : List ℕ
   pub numbers : List ℤ
+  pub over : ℤ
+  pub norm : ℕ
   pub most : ℕ
+  pub long : Bool
 
--- a constant for each column, room to name all columns, and a number for each slot and the constant
-pub record HasSizes (t : TableauState) (named_room : ℕ) (most : ℤ) : Type 0 where
+-- a constant for each column, room to name all columns, a number for each slot and the constant, and room for so many long numbers of one
+-- row and of all, each with a denominator
+pub record HasSizes (t : TableauState) (named_room : ℕ) (most : ℤ) (sum_count product_count : ℕ) : Type 0 where
   pub few : length t.basis.slots < 2 ^ 32
   pub constants : length t.constants ≡ length t.basis.slots
   pub named_fits : length t.basis.slots ≤ named_room
   pub numbers : length t.numbers ≡ length t.basis.slots + 1
+  pub sums : sum_count ≡ length t.basis.slots + 2
+  pub products : product_count ≡ length t.basis.slots * (length t.basis.slots + 1) + 1
   pub not_negative : pos 0 ≤ℤ most
 
 -- the tableau; after a refutation the row that fails, counted among the rows, and the common factor of its numbers

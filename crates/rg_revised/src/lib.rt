@@ -5,16 +5,21 @@
 
 mod basis;
 mod choosing;
+mod crossing;
 mod descent;
 mod divisor;
 mod factor;
 mod few;
+mod long_reading;
 mod members;
+mod modes;
 mod naming;
+mod narrowing;
 mod pivot;
 mod primitive;
 mod reading;
 mod revised;
+mod room;
 mod row;
 mod starting;
 mod step;

@@ -9,11 +9,12 @@ ghost use Rattle.rg_linear.specs.Descent.{multiplier_of, IsBasicPoint};
 ghost use Rattle.rg_linear.specs.View.{linear_row, linear_system, IsWellFormed};
 ghost use Rattle.rg_revised.specs.Basis.{HasNorms};
 ghost use Rattle.rg_revised.specs.Ending.{EndTells};
-ghost use Rattle.rg_revised.specs.State.{HasRoom};
+ghost use Rattle.rg_revised.specs.State.{HasRoomIn};
 ghost use Rattle.rg_revised.specs.Settling.{IsHeldOf, IsRefutedAt, IsDescent};
 
 use crate::descent::{Descent, descend};
 use crate::factor::divide_by_factor;
+use crate::room::Room;
 use crate::tableau::Tableau;
 use crate::value::{column_value, row_value};
 use rg_fraction::Fraction;
@@ -59,27 +60,59 @@ pub(crate) fn most_for(norm: u64) -> Option<i64>
     Some(most as i64)
 }
 
-// Makes the descent of the system of these rows, the further ones last, from the start, with numbers up to `most`.
+// Makes the descent of the system of these rows, the further ones last, from the start, with this room.
 fn descend_from_start(
     tableau: &mut Tableau,
     columns: u32,
     own: &[Row],
     further: &[Row],
     stack: &mut Vec<u32>,
-    most: i64,
+    room: Room,
 ) -> Descent
     requires well_formed { IsWellFormed (linear_system columns (own.now ++ further.now)) }
     requires columns { length tableau.old.basis.slots ≡ columns }
-    requires not_negative { pos 0 ≤ℤ most }
-    requires room { HasRoom (linear_system columns (own.now ++ further.now)) (unsigned_abs most) }
+    requires not_negative { pos 0 ≤ℤ room.most }
+    requires room { HasRoomIn (linear_system columns (own.now ++ further.now)) room.norm (unsigned_abs room.most) room.long }
     requires stack { columns < vec_capacity stack.old }
     ensures outcome { EndTells (linear_system columns (own.now ++ further.now)) tableau.new result }
     ensures columns { length tableau.new.basis.slots ≡ columns }
     ensures stack { columns < vec_capacity stack.new }
 {
     stack.clear();
-    tableau.restart(most);
+    tableau.restart(room);
     descend(tableau, columns, own, further, stack)
+}
+
+// The same, where a short descent may end with a number that is too large: then a long one is made.
+fn descend_twice(
+    tableau: &mut Tableau,
+    columns: u32,
+    own: &[Row],
+    further: &[Row],
+    stack: &mut Vec<u32>,
+    room: Room,
+) -> Descent
+    requires well_formed { IsWellFormed (linear_system columns (own.now ++ further.now)) }
+    requires columns { length tableau.old.basis.slots ≡ columns }
+    requires not_negative { pos 0 ≤ℤ room.most }
+    requires room { HasRoomIn (linear_system columns (own.now ++ further.now)) room.norm (unsigned_abs room.most) room.long }
+    requires stack { columns < vec_capacity stack.old }
+    ensures outcome { EndTells (linear_system columns (own.now ++ further.now)) tableau.new result }
+    ensures columns { length tableau.new.basis.slots ≡ columns }
+    ensures stack { columns < vec_capacity stack.new }
+{
+    match descend_from_start(tableau, columns, own, further, stack, room) {
+        Descent::Point => Descent::Point,
+        Descent::Refuted(row) => Descent::Refuted(row),
+        Descent::Large => {
+            let room = Room {
+                norm: room.norm,
+                most: 1,
+                long: true,
+            };
+            descend_from_start(tableau, columns, own, further, stack, room)
+        }
+    }
 }
 
 impl Revised {
@@ -115,15 +148,20 @@ impl Revised {
         let Some(most) = most_for(norm) else {
             return Descent::Large;
         };
+        let room = Room {
+            norm,
+            most,
+            long: false,
+        };
         let columns = system.columns();
         let rows = system.rows();
-        let ended = descend_from_start(
+        let ended = descend_twice(
             &mut self.tableau,
             columns,
             rows,
             further,
             &mut self.stack,
-            most,
+            room,
         );
         if let Descent::Refuted(row) = ended {
             self.failing = Some(row);
@@ -161,7 +199,7 @@ impl Revised {
             unreachable!()
         };
         if row == failing {
-            return divide_by_factor(self.tableau.d(), self.factor);
+            return divide_by_factor(self.tableau.over(), self.factor);
         }
         match self.tableau.number_of(self.tableau.columns() + row) {
             Some(number) => -divide_by_factor(number, self.factor),

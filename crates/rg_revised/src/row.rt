@@ -14,7 +14,7 @@ use crate::pivot::Pivot;
 const SHORT: i64 = 2_147_483_648;
 
 // a*b - c*d, which is never out of range.
-fn short_term(a: i64, b: i64, c: i64, d: i64) -> i128
+pub(crate) fn short_term(a: i64, b: i64, c: i64, d: i64) -> i128
     ensures value { result ≡ (a *ℤ b) -ℤ (c *ℤ d) }
     ensures in_range { InRange result }
 {
@@ -22,7 +22,7 @@ fn short_term(a: i64, b: i64, c: i64, d: i64) -> i128
 }
 
 // The number, where its size is at most `most`.
-fn keep_in_range(z: i128, most: i64) -> Option<i64>
+pub(crate) fn keep_in_range(z: i128, most: i64) -> Option<i64>
     requires in_range { InRange z }
     requires not_negative { pos 0 ≤ℤ most }
     ensures value { IfSome result (λ q. q ≡ z) }

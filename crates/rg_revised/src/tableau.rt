@@ -1,42 +1,46 @@
 //! What a descent works on.
 
-ghost use Rattle.std.specs.Prelude.{◌≡◌, ◌↔◌, ℕ, ◌<◌, List, length, Contains, slice_index, IsTrue, IfOk, IfSome, IfNone, pos, ◌≤ℤ◌, ◌<ℤ◌, unsigned_abs};
+ghost use Rattle.std.specs.Prelude.{◌≡◌, ◌↔◌, ℕ, ◌<◌, ◌≤◌, List, length, Contains, slice_index, IsTrue, IfOk, IfSome, IfNone, pos, ◌≤ℤ◌, ◌<ℤ◌, unsigned_abs};
 ghost use Rattle.rg_integers.specs.Range.{InRange};
 ghost use Rattle.rg_integers.specs.Sum.{number_at};
 ghost use Rattle.rg_linear.specs.System.{LinearSystem};
 ghost use Rattle.rg_linear.specs.Dictionary.{numbers_from};
-ghost use Rattle.rg_revised.specs.Reading.{constant_over};
-ghost use Rattle.rg_revised.specs.State.{HasRoom, IsRow, IsTableauOf};
+ghost use Rattle.rg_revised.specs.Reading.{IsVacant, constant_over};
+ghost use Rattle.rg_revised.specs.State.{HasRoomIn, IsRow, IsTableauOf};
 ghost use Rattle.rg_revised.specs.Settling.{IsCommonFactor};
 
 use crate::basis::Basis;
 use crate::factor::common_factor;
 use crate::members::slot_of;
-use crate::naming::{constant_of, gather};
+use crate::naming::{constant_of, gather, long_constant_of};
+use crate::room::Room;
 use std::alloc::{AllocError, Global};
 use std::marker::Model;
 
-/// The relations of the columns, their constants, the columns where these aren't 0, and the numbers of one row's relation.
-/// No number of the table is larger than `most`.
+/// The relations of the columns, their constants, the columns where these aren't 0, and the numbers of one row's relation over
+/// `over`. No number of the table is larger than the room allows. A long descent has sums and products of 128 bits.
 #[derive(Drop)]
 pub(crate) struct Tableau {
     pub(crate) basis: Basis,
     pub(crate) constants: Vec<i64>,
     pub(crate) named: Vec<u32>,
     pub(crate) numbers: Vec<i64>,
-    pub(crate) most: i64,
+    pub(crate) over: i64,
+    pub(crate) room: Room,
+    pub(crate) sums: Vec<i128>,
+    pub(crate) products: Vec<i128>,
 }
 
 impl Model for Tableau {
-    ghost use Rattle.std.specs.Prelude.{unsigned_abs, vec_capacity};
+    ghost use Rattle.std.specs.Prelude.{length, unsigned_abs, vec_capacity};
     ghost use Rattle.rg_revised.specs.View.{TableauState, HasSizes};
 
     ghost Value = { TableauState };
 
-    ghost view = { λ a. record { basis = a.basis; constants = a.constants.items; named = a.named.items; numbers = a.numbers.items; most = unsigned_abs a.most } };
+    ghost view = { λ a. record { basis = a.basis; constants = a.constants.items; named = a.named.items; numbers = a.numbers.items; over = a.over; norm = a.room.norm; most = unsigned_abs a.room.most; long = a.room.long } };
 
-    ghost invariant = { λ a. HasSizes (record { basis = a.basis; constants = a.constants.items; named = a.named.items; numbers = a.numbers.items; most = unsigned_abs a.most })
-        (vec_capacity a.named) a.most };
+    ghost invariant = { λ a. HasSizes (record { basis = a.basis; constants = a.constants.items; named = a.named.items; numbers = a.numbers.items; over = a.over; norm = a.room.norm; most = unsigned_abs a.room.most; long = a.room.long })
+        (vec_capacity a.named) a.room.most (length a.sums.items) (length a.products.items) };
 }
 
 impl Tableau {
@@ -45,27 +49,37 @@ impl Tableau {
         ensures { IfOk result (λ t. length t.basis.slots ≡ columns) }
     {
         let basis = Basis::new(alloc, columns)?;
-        let numbers = vec![in alloc; 0i64; columns as usize + 1]?;
-        let constants = vec![in alloc; 0i64; columns as usize]?;
-        let named = Vec::with_capacity(alloc, columns as usize)?;
+        let columns = columns as usize;
+        let numbers = vec![in alloc; 0i64; columns + 1]?;
+        let constants = vec![in alloc; 0i64; columns]?;
+        let named = Vec::with_capacity(alloc, columns)?;
+        let sums = vec![in alloc; 0i128; columns + 2]?;
+        let products = vec![in alloc; 0i128; basis.size() + 1]?;
         Ok(Tableau {
             basis,
             constants,
             named,
             numbers,
-            most: 0,
+            over: 1,
+            room: Room {
+                norm: 0,
+                most: 0,
+                long: false,
+            },
+            sums,
+            products,
         })
     }
 
-    /// Makes it that of the columns alone, with numbers up to `most`.
-    pub(crate) fn restart(&mut self, most: i64)
-        requires { pos 0 ≤ℤ most }
-        ensures started { (system : LinearSystem) → system.columns ≡ length self.old.basis.slots → HasRoom system (unsigned_abs most) → IsTableauOf system (numbers_from 0 system.columns) self.new }
+    /// Makes it that of the columns alone, with this room.
+    pub(crate) fn restart(&mut self, room: Room)
+        requires { pos 0 ≤ℤ room.most }
+        ensures started { (system : LinearSystem) → system.columns ≡ length self.old.basis.slots → HasRoomIn system room.norm (unsigned_abs room.most) room.long → IsTableauOf system (numbers_from 0 system.columns) self.new }
         ensures columns { length self.new.basis.slots ≡ length self.old.basis.slots }
     {
         self.basis.restart();
         gather(&self.basis, &mut self.constants, &mut self.named);
-        self.most = most;
+        self.room = room;
     }
 
     /// The constant of the relation of the row with these coefficients and this constant.
@@ -74,13 +88,11 @@ impl Tableau {
         ensures value { result ≡ constant_over coeffs.now self.now.constants constant self.now.basis.d }
         ensures in_range { InRange result }
     {
-        constant_of(
-            coeffs,
-            constant,
-            &self.named,
-            &self.constants,
-            self.basis.d(),
-        )
+        let d = self.basis.d();
+        if self.room.long {
+            return long_constant_of(coeffs, constant, &self.named, &self.constants, d);
+        }
+        constant_of(coeffs, constant, &self.named, &self.constants, d)
     }
 
     /// Whether the row with these coefficients and this constant fails.
@@ -105,13 +117,29 @@ impl Tableau {
         self.basis.d()
     }
 
-    /// The greatest number that divides the denominator and the numbers.
+    /// The slot of the variable that leaves for the one whose relation has the numbers.
+    pub(crate) fn leaving(&self, stack: &[u32]) -> Option<usize>
+        ensures is { IfSome result (IsVacant (length self.now.basis.slots) self.now.basis.slots stack.now self.now.numbers) }
+        ensures least { IfSome result (λ p. (q : ℕ) → IsVacant (length self.now.basis.slots) self.now.basis.slots stack.now self.now.numbers q → slice_index self.now.basis.slots p ≤ slice_index self.now.basis.slots q) }
+        ensures none { IfNone result ((q : ℕ) → ¬ IsVacant (length self.now.basis.slots) self.now.basis.slots stack.now self.now.numbers q) }
+    {
+        self.basis.leaving(stack, &self.numbers)
+    }
+
+    /// The denominator of the numbers.
+    pub(crate) fn over(&self) -> i64
+        ensures { result ≡ self.now.over }
+    {
+        self.over
+    }
+
+    /// The greatest number that divides the denominator of the numbers and these.
     pub(crate) fn common_factor(&self) -> i128
-        requires { pos 0 <ℤ self.now.basis.d }
-        ensures factor { IsCommonFactor self.now.basis.d self.now.numbers result }
+        requires { pos 0 <ℤ self.now.over }
+        ensures factor { IsCommonFactor self.now.over self.now.numbers result }
         ensures in_range { InRange result }
     {
-        common_factor(self.basis.d(), &self.numbers)
+        common_factor(self.over, &self.numbers)
     }
 
     /// The number of the variable, if it has a slot.

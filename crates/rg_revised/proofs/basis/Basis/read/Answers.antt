@@ -15,7 +15,7 @@ read_row-requires c =
     let fk : FitsSigned w128 c.args.constant = search rules in
     let r = subst (λ (b : BasisState). CanRead b c.args.coeffs.now c.args.constant) (sym c.self.view_is) c.requires.row in
     let width = ap (λ (xs : List ℤ). length xs) c.deref_mut.ensures.value ∙ c.requires.width ∙ ap (λ (b : BasisState). length b.slots + 1) (sym c.self.view_is) in
-    let (norm, is) = small_row r.system r.members _ r.most r.small r.room r.i c.args.coeffs.now c.args.constant r.row in
+    let (norm, is) = small_row r.system r.members _ r.most r.small r.i c.args.coeffs.now c.args.constant r.row r.room in
     rw (c.deref.ensures.value, c.deref-2.ensures.value, to_z-of_z w64 c.self.inside.d fd, to_z-of_z w128 c.args.constant fk, width) (record {
       columns = read_each _ _ _ r;
       width = refl;
@@ -38,4 +38,4 @@ returns-clause-read c =
 pub returns-clause-small : goal.returns-clause-small
 returns-clause-small c =
     let r = c.requires.row in
-    numbers_small r.system r.members _ r.most r.small r.room r.i c.args.coeffs.now c.args.constant r.row _ (returns-clause-read c)
+    numbers_small r.system r.members _ r.most r.small r.i c.args.coeffs.now c.args.constant r.row _ (returns-clause-read c) r.room

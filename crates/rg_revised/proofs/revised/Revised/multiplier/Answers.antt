@@ -6,21 +6,21 @@ use Rattle.rg_integers.proofs.Casts.{back}
 use Rattle.rg_integers.proofs.Ranges.{negated}
 use Rattle.rg_revised.specs.View.{RevisedState}
 use Rattle.rg_revised.specs.Settling.{IsRefutedAt}
-use Rattle.rg_revised.proofs.Multipliers.{divides_d, divides_number, failing_row, slot_row, other_row, same_row}
+use Rattle.rg_revised.proofs.Multipliers.{divides_over, divides_number, failing_row, slot_row, other_row, same_row}
 use Rattle.rg_revised.proofs.revised.Revised.multiplier.Goals as goal
 
 pub divide_by_factor-requires-clause-divides : goal.divide_by_factor-requires-clause-divides
 divide_by_factor-requires-clause-divides c =
     let (system, members, i, refuted) = c.requires.refuted in
     let at = subst (λ (r : RevisedState). IsRefutedAt system members i r) (sym c.self.view_is) refuted in
-    let fits : FitsSigned w64 c.d.result = search rules in
-    rw (back c.self.inside.factor c.self.invariant.factor_in_range, to_z-of_z w64 c.d.result fits, c.d.ensures) (divides_d system members i _ at)
+    let fits : FitsSigned w64 c.over.result = search rules in
+    rw (back c.self.inside.factor c.self.invariant.factor_in_range, to_z-of_z w64 c.over.result fits, c.over.ensures) (divides_over system members i _ at)
 
 pub returns-then-row-failing : goal.returns-then-row-failing
 returns-then-row-failing c = λ system members i k refuted row.
     let at = subst (λ (r : RevisedState). IsRefutedAt system members i r) (sym c.self.view_is) refuted in
-    let fits : FitsSigned w64 c.d.result = search rules in
-    let value = rw (back c.self.inside.factor c.self.invariant.factor_in_range, to_z-of_z w64 c.d.result fits, c.d.ensures) at c.divide_by_factor.ensures.value in
+    let fits : FitsSigned w64 c.over.result = search rules in
+    let value = rw (back c.self.inside.factor c.self.invariant.factor_in_range, to_z-of_z w64 c.over.result fits, c.over.ensures) at c.divide_by_factor.ensures.value in
     back c.divide_by_factor.result c.divide_by_factor.ensures.in_range
     ∙ failing_row system members i _ at k row c.args.row c.divide_by_factor.result (c.if-row-failing.true ∙ same_row _ c.in-Some.failing i c.in-Some.is at.failing) value
 

@@ -1,7 +1,5 @@
-use Rattle.std.proofs.Common.{rules, ◌+◌, List, length, ap, subst, sym, ◌∙◌}
-use Rattle.std.specs.Prelude.{ℤ, FitsSigned, unsigned_abs}
-use Rattle.std.specs.Int.{w64}
-use Rattle.std.proofs.lemmas.Int.{to_z-of_z}
+use Rattle.std.proofs.Common.{◌+◌, List, length, ap, subst, sym, ◌∙◌}
+use Rattle.std.specs.Prelude.{ℤ, unsigned_abs}
 use Rattle.std.proofs.lemmas.List.{with_items_is}
 use Rattle.rg_revised.specs.View.{TableauState}
 use Rattle.rg_revised.specs.State.{HasConstants}
@@ -13,13 +11,11 @@ gather-requires-clause-columns c = ap (λ (xs : List ℤ). length xs) c.deref_mu
 
 pub returns-clause-started : goal.returns-clause-started
 returns-clause-started c =
-    let fm : FitsSigned w64 c.args.most = search rules in
     let same = with_items_is c.self.inside.constants c.gather.new.constants (c.gather.auto.constants ∙ c.deref_mut.ensures.len) in
-    rw (to_z-of_z w64 c.args.most fm)
-    (λ system columns room. record {
-      held = unit_basis_held system c.restart.new.self (unsigned_abs c.args.most) (length c.self.inside.basis.slots) c.restart.ensures.unit
-          (columns ∙ ap (λ (t : TableauState). length t.basis.slots) (sym c.self.view_is)) room.2;
+    λ system columns room. record {
+      held = unit_basis_held system c.restart.new.self (unsigned_abs c.args.room.most) (length c.self.inside.basis.slots) c.restart.ensures.unit
+          (columns ∙ ap (λ (t : TableauState). length t.basis.slots) (sym c.self.view_is)) room.some;
       room = room;
       constants = subst (λ xs. HasConstants c.restart.new.self xs c.gather.new.named.items) (sym same) c.gather.ensures.constants;
       width = c.self.invariant.numbers ∙ ap (λ n. n + 1) (sym c.restart.ensures.columns);
-    })
+    }
