@@ -33,12 +33,16 @@ negated f = record { top = neg_ℤ f.top; bottom = f.bottom }
 abbrev pub times_each : ℤ → List Ratio → Result (List Ratio) Wide → Type 0
 times_each m numbers = each (λ r. mul r (whole m)) numbers
 
+-- the numbers, times the marking that the class asks, if it asks one
+abbrev pub marked_fold : Class → List Ratio → Result (List Ratio) Wide → Type 0
+marked_fold class numbers = either (is_some class.marking) (times_each (pos (unwrap_or class.marking 1)) numbers) (gives numbers)
+
 -- the numbers without denominators, and then multiples of what the start has to be a multiple of
 abbrev pub whole_multiples : Class → List Ratio → Result (List Ratio) Wide → Type 0
 whole_multiples class numbers = do
   m ← multiple_of_all (map (λ r. r.bottom) numbers)
   products ← times_each m numbers
-  either (is_some class.marking) (times_each (pos (unwrap_or class.marking 1)) products) (gives products)
+  marked_fold class products
 
 -- the effects by label, and Start after them, made whole in a class that is neither plain nor bounded
 abbrev pub made_whole : Class → List Ratio → Result (List Ratio) Wide → Type 0
@@ -93,11 +97,19 @@ add_each m numbers = each (λ r. add r m) numbers
 abbrev pub lift_of : System → Class → List Ratio → Ratio
 lift_of lts class numbers = whole (pos (missing (unwrap_or class.marking 1) (unsigned_abs (top_at numbers lts.initial))))
 
+-- the numbers less the least of them
+abbrev pub moved_fold : Class → List Ratio → Result (List Ratio) Wide → Type 0
+moved_fold class numbers = either (is_shifted class) (add_each (negated (least_of numbers)) numbers) (gives numbers)
+
+-- the numbers and what the start lacks
+abbrev pub lifted_fold : System → Class → Problem → List Ratio → Result (List Ratio) Wide → Type 0
+lifted_fold lts class problem numbers = either (is_lifted class problem) (add_each (lift_of lts class numbers) numbers) (gives numbers)
+
 -- the numbers, moved and then lifted
 abbrev pub shift_fold : System → Class → Problem → List Ratio → Result (List Ratio) Wide → Type 0
 shift_fold lts class problem numbers = do
-  moved ← either (is_shifted class) (add_each (negated (least_of numbers)) numbers) (gives numbers)
-  either (is_lifted class problem) (add_each (lift_of lts class moved) moved) (gives moved)
+  moved ← moved_fold class numbers
+  lifted_fold lts class problem moved
 
 -- what a label with this effect takes, if no more is asked of it
 abbrev pub taken_by_effect : ℤ → ℤ

@@ -5,7 +5,7 @@ ghost use Rattle.rg_theory.specs.Tree.{IsTree};
 ghost use Rattle.rg_integers.specs.declared.term.Wide.{Wide};
 ghost use Rattle.rg_folds.specs.Fold.{Comes, gives, either, each, add, whole, Ratio, ratio_of};
 ghost use Rattle.rg_case_folds.specs.Rewriting.{all_numbers};
-ghost use Rattle.rg_case_folds.specs.Placing.{along_tree, ratio_at, negated, lesser, least_of, is_shifted, is_lifted, missing, top_at, shift_fold};
+ghost use Rattle.rg_case_folds.specs.Placing.{along_tree, ratio_at, negated, lesser, least_of, is_shifted, is_lifted, missing, moved_fold, lifted_fold, shift_fold};
 ghost use Rattle.rg_fraction.specs.declared.fold_stop.FoldStop.TheVariants as stop;
 ghost use Rattle.rg_places.specs.PointValues.{ratios_of};
 ghost use Rattle.rg_places.specs.Steps.{IsAlongTree};
@@ -62,7 +62,7 @@ fn shift_by_least(
     class: Class,
     numbers: Vec<Fraction>,
 ) -> Result<Vec<Fraction>, FoldStop>
-    ensures { Comes (either (is_shifted class) (each (λ m. add m (negated (least_of (ratios_of numbers.items)))) (ratios_of numbers.items)) (gives (ratios_of numbers.items))) (λ moved. ratios_of moved.items) result }
+    ensures { Comes (moved_fold class (ratios_of numbers.items)) (λ moved. ratios_of moved.items) result }
 {
     if !is_shifted(class) {
         return Ok(numbers);
@@ -81,7 +81,7 @@ fn lift(
     numbers: Vec<Fraction>,
 ) -> Result<Vec<Fraction>, FoldStop>
     requires { length numbers.items ≡ states lts.now }
-    ensures { Comes (either (is_lifted class problem) (each (λ m. add m (whole (pos (missing (unwrap_or class.marking 1) (unsigned_abs (top_at (ratios_of numbers.items) lts.now.initial)))))) (ratios_of numbers.items)) (gives (ratios_of numbers.items))) (λ lift. ratios_of lift.items) result }
+    ensures { Comes (lifted_fold lts.now class problem (ratios_of numbers.items)) (λ lifted. ratios_of lifted.items) result }
 {
     if !is_lifted(class, problem) {
         return Ok(numbers);

@@ -1,8 +1,8 @@
 //! Fractions without denominators.
-ghost use Rattle.std.specs.Prelude.{◌≡◌, ◌||◌, is_some, unwrap_or, pos};
+ghost use Rattle.std.specs.Prelude.{◌≡◌, ◌||◌, is_some, pos};
 ghost use Rattle.rg_integers.specs.Range.{InRange};
-ghost use Rattle.rg_folds.specs.Fold.{Comes, gives, either, each, mul, whole};
-ghost use Rattle.rg_case_folds.specs.Placing.{made_whole};
+ghost use Rattle.rg_folds.specs.Fold.{Comes};
+ghost use Rattle.rg_case_folds.specs.Placing.{made_whole, marked_fold};
 ghost use Rattle.rg_places.specs.PointValues.{ratios_of};
 
 use rg_case_parts::{common_denominator, products};
@@ -33,7 +33,7 @@ fn times_marking(
     class: Class,
     numbers: Vec<Fraction>,
 ) -> Result<Vec<Fraction>, FoldStop>
-    ensures { Comes (either (is_some class.marking) (each (λ r. mul r (whole (pos (unwrap_or class.marking 1)))) (ratios_of numbers.items)) (gives (ratios_of numbers.items))) (λ found. ratios_of found.items) result }
+    ensures { Comes (marked_fold class (ratios_of numbers.items)) (λ found. ratios_of found.items) result }
 {
     match class.marking {
         Some(n) => products(alloc, &numbers, widen(n)),
