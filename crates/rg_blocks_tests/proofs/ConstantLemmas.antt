@@ -3,10 +3,10 @@ use Rattle.std.specs.Prelude.{slice_index}
 use Rattle.std.proofs.Common.{◌≡◌, ◌⊎◌, ◌↔◌, inl, inr, IsTrue, nat_lt, ltb-true, ℕ, zero, suc, ◌<◌, ◌≤◌, List, [], ◌∷◌, ◌++◌, map, All, Any, length, replicate, refl, sym, ap, subst, ◌∙◌, arith}
 use Rattle.std.proofs.lemmas.Bool.{cases_lt, lt-ltb}
 use Rattle.std.proofs.lemmas.List.{length-replicate, get_or-replicate}
-use Rattle.std.proofs.lemmas.List.Elements.{All-append, All-cons}
+use Rattle.std.proofs.lemmas.List.Elements.{All-append, All-cons, All-map}
 use Rattle.rg_theory.specs.System.{System, states, labels, IsAllReachable}
 use Rattle.rg_theory.specs.Net.{Place, pre_weight}
-use Rattle.rg_theory.specs.Region.{Region}
+use Rattle.rg_theory.specs.Region.{Region, IsRegion}
 use Rattle.rg_theory.specs.declared.Problem.{Problem}
 use Rattle.rg_theory.specs.declared.Problem.TheVariants.{Event, States}
 use Rattle.rg_theory.specs.Problem.{IsProblem, IsSeparatedBy}
@@ -113,6 +113,10 @@ separating lts = record { separate = separate }
 pub one_more : (lts : System) (kept after : List RegionPlace) (r : RegionPlace) → All (RegionIsConstant lts) kept → RegionIsConstant lts r → after ≡ kept ++ r ∷ [] → All (RegionIsConstant lts) after
 one_more lts kept after r all one is =
     subst (All (RegionIsConstant lts)) (sym is) (All-append (RegionIsConstant lts) kept (r ∷ []) all (All-cons (RegionIsConstant lts) r [] one (λ k d lt. absurd (omega arith))))
+
+-- places that no arc changes are regions
+pub all_regions : (lts : System) (kept : List RegionPlace) → All (RegionIsConstant lts) kept → All (IsRegion lts) (shown kept)
+all_regions lts kept all = All-map (IsRegion lts) (λ r. shown_place r.place) kept (λ k r lt. (_, constant_region lts _ (all k r lt)))
 
 no_weight : (n t : ℕ) → slice_index (replicate n 0) t ≡ 0
 no_weight zero t = refl

@@ -12,4 +12,6 @@ mod phases;
 #[cfg(test)]
 mod places;
 #[cfg(test)]
+mod refuted;
+#[cfg(test)]
 mod rows;

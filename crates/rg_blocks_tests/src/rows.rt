@@ -215,7 +215,7 @@ fn push_names(
 }
 
 // The system with one state, so many labels and no arc.
-fn system_with_labels(alloc: Global, labels: usize) -> Option<Lts> {
+pub(crate) fn system_with_labels(alloc: Global, labels: usize) -> Option<Lts> {
     let mut text = String::from_str(alloc, ".type LTS .states s[initial] .labels").ok()?;
     push_names(alloc, &mut text, 't', 0, labels).ok()?;
     system(alloc, text.as_str())
@@ -273,7 +273,7 @@ fn come<R: Threads + Sync, G: Gate + Sync>(
 }
 
 // Whether the places are those of these labels, in order.
-fn are_places_of(places: &[RegionPlace], labels: &[usize]) -> bool {
+pub(crate) fn are_places_of(places: &[RegionPlace], labels: &[usize]) -> bool {
     if places.len() != labels.len() {
         return false;
     }

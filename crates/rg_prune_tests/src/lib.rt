@@ -10,3 +10,5 @@ mod laws;
 mod rows;
 #[cfg(test)]
 mod separated;
+#[cfg(test)]
+mod tokens;

@@ -21,15 +21,15 @@ const GREATEST: u128 = 170141183460469231731687303715884105727;
 
 // A place of a and b, with its tokens at the states of the word.
 #[derive(Clone, Copy)]
-struct Given {
-    start: u128,
-    pre: [u128; 2],
-    post: [u128; 2],
-    tokens: [u128; 4],
+pub(crate) struct Given {
+    pub(crate) start: u128,
+    pub(crate) pre: [u128; 2],
+    pub(crate) post: [u128; 2],
+    pub(crate) tokens: [u128; 4],
 }
 
 /// It counts the letters a, and b asks for one.
-const COUNTS: Given = Given {
+pub(crate) const COUNTS: Given = Given {
     start: 0,
     pre: [0, 1],
     post: [1, 1],
@@ -37,7 +37,7 @@ const COUNTS: Given = Given {
 };
 
 /// Letters a and b come in turn.
-const TURNS: Given = Given {
+pub(crate) const TURNS: Given = Given {
     start: 1,
     pre: [1, 0],
     post: [0, 1],
@@ -45,7 +45,7 @@ const TURNS: Given = Given {
 };
 
 /// There is one b.
-const ONCE: Given = Given {
+pub(crate) const ONCE: Given = Given {
     start: 1,
     pre: [0, 1],
     post: [0, 0],
@@ -53,7 +53,7 @@ const ONCE: Given = Given {
 };
 
 /// No token ever.
-const EMPTY: Given = Given {
+pub(crate) const EMPTY: Given = Given {
     start: 0,
     pre: [0, 0],
     post: [0, 0],

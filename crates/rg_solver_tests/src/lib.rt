@@ -14,6 +14,8 @@ mod laws;
 #[cfg(test)]
 mod places;
 #[cfg(test)]
+mod refusals;
+#[cfg(test)]
 mod rows;
 #[cfg(test)]
 mod separations;
