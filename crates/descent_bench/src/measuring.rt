@@ -8,7 +8,7 @@ use crate::counting::{Ending, descend, table_of};
 use rg_bounded_forms::can_branch;
 use rg_branch::{Bounded, BranchStop, Whole, solve_whole};
 use rg_feasible::{Dictionary, Settled};
-use rg_linear::System;
+use rg_linear::{JoinedSystem, System};
 use std::alloc::AllocError;
 use std::io;
 use std::time::{Clock, Duration, Instant};
@@ -100,8 +100,9 @@ fn fill_again(rt: &(impl Eprint + Clock + AllocGlobal), system: &System) -> io::
     let Ok(mut dictionary) = Dictionary::new(rt.alloc(), system) else {
         return Err(AllocError.into());
     };
+    let joined = JoinedSystem::of(system);
     let start = Instant::now(rt)?;
-    let Ok(()) = dictionary.renew(rt.alloc(), system, &[]) else {
+    let Ok(()) = dictionary.renew(rt.alloc(), &joined, &[]) else {
         return Err(AllocError.into());
     };
     let spent = start.elapsed(rt)?;

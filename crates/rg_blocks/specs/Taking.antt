@@ -1,5 +1,5 @@
 -- What the problems of a block come to, and what comes of it.
-use Rattle.std.specs.Prelude.{◌≤◌, List, length, take, map, Option, None, Some, IfSome}
+use Rattle.std.specs.Prelude.{◌≡◌, ◌≤◌, List, length, take, map, Option, None, Some, IfSome}
 use Rattle.rg_theory.specs.System.{System}
 use Rattle.rg_theory.specs.Net.{Place}
 use Rattle.rg_theory.specs.declared.Problem.{Problem}
@@ -12,6 +12,8 @@ use Rattle.rg_outcome.specs.Solving.{Solved, Solved.placed, Solved.refuted, Solv
 use Rattle.rg_outcome.specs.Blocks.{AfterBlock.kept_places, AfterBlock.refuted_one, TakenOver}
 use Rattle.rg_blocks.specs.declared.solving.ProblemOutcome.{ProblemOutcome}
 use Rattle.rg_blocks.specs.declared.solving.ProblemOutcome.TheVariants as outcome
+use Rattle.rg_blocks.specs.declared.solving.WaitingOutcome.{WaitingOutcome}
+use Rattle.rg_blocks.specs.declared.solving.WaitingOutcome.TheVariants as waiting
 use Rattle.rg_blocks.specs.declared.solving.SolvedProblem.{SolvedProblem}
 use Rattle.rg_blocks.specs.declared.taking.Begun.{Begun}
 use Rattle.rg_blocks.specs.declared.taking.Begun.TheVariants.{Ended, First}
@@ -22,16 +24,29 @@ IsOutcome comes makes problem (outcome.Place r) = comes problem (placed (shown_p
 IsOutcome comes makes problem outcome.Refuted = (trees : List Tree) × comes problem (refuted trees)
 IsOutcome comes makes problem outcome.TooWide = (w : Shown) × comes problem (passed w)
 
+-- the place is one that is made, of which the tokens are let go
+pub record IsMade (makes : RegionPlace → Type 0) (p : Place) : Type 0 where
+  pub r : RegionPlace
+  pub shown : shown_place r.place ≡ p
+  pub made : makes r
+
+-- the same of an outcome that waits
+abbrev pub IsWaiting : (Problem → Solved → Type 0) → (RegionPlace → Type 0) → Problem → WaitingOutcome → Type 0
+IsWaiting comes makes problem (waiting.Place p) = comes problem (placed p) × IsMade makes p
+IsWaiting comes makes problem waiting.Refuted = (trees : List Tree) × comes problem (refuted trees)
+IsWaiting comes makes problem waiting.TooWide = (w : Shown) × comes problem (passed w)
+
 -- where it is solved, it comes to what is said
 abbrev pub IsSolvedBy : (Problem → Solved → Type 0) → (RegionPlace → Type 0) → SolvedProblem → Type 0
-IsSolvedBy comes makes s = IfSome s.outcome (IsOutcome comes makes s.problem)
+IsSolvedBy comes makes s = IfSome s.outcome (IsWaiting comes makes s.problem)
 
 abbrev pub problems_of : List SolvedProblem → List Problem
 problems_of solved = map (λ s. s.problem) solved
 
--- each place that is made may be kept
-pub record AreKeepable (makes may_keep : RegionPlace → Type 0) : Type 0 where
+-- each place that is made may be kept, and also without its tokens
+pub record AreKeepable (makes may_keep : RegionPlace → Type 0) (may_keep_compact : Place → Type 0) : Type 0 where
   pub each : (r : RegionPlace) → makes r → may_keep r
+  pub compact : (r : RegionPlace) → makes r → may_keep_compact (shown_place r.place)
 
 -- each place that is made is a region whose tokens come with it, so that what it separates may be noted
 pub record AreNotable (lts : System) (makes : RegionPlace → Type 0) : Type 0 where

@@ -1,18 +1,18 @@
 //! A block of problems: how it is formed and solved.
-ghost use Rattle.std.specs.Prelude.{◌≡◌, ◌<◌, ◌≤◌, All, Some, IfSome, IfOk, length, slice_get};
+ghost use Rattle.std.specs.Prelude.{◌≡◌, ◌<◌, ◌≤◌, All, Some, IfSome, IfOk, OnOk, length, slice_get};
 ghost use Rattle.rg_theory.specs.Problem.{IsProblem};
 ghost use Rattle.rg_outcome.specs.Blocks.{IsBlock, last_of};
 ghost use Rattle.rg_outcome.specs.Coming.{IsDone};
 ghost use Rattle.rg_marks.specs.Separated.{AreSome};
 ghost use Rattle.rg_blocks.specs.Blocks.{most_in_block};
-ghost use Rattle.rg_blocks.specs.Taking.{IsSolvedBy, AreNotable, problems_of};
+ghost use Rattle.rg_blocks.specs.Taking.{IsOutcome, IsWaiting, IsSolvedBy, AreNotable, problems_of};
 
 use crate::keeping::Keeping;
 use crate::left::next_problem;
-use crate::search::{Progress, Search};
-use crate::solving::{ProblemOutcome, SolvedProblem, Solving};
+use crate::search::Search;
+use crate::solving::{ProblemOutcome, SolvedProblem, Solving, WaitingOutcome};
 use rg_lts::Lts;
-use rg_marks::Separated;
+use rg_marks::{CompactPlace, Separated};
 use rg_memory::NoMemory;
 use rg_phase::{PartTask, block_of_parts};
 use rg_ports::Gate;
@@ -65,12 +65,11 @@ pub fn next_block<K: Keeping>(
     Ok(block)
 }
 
-// The solving of the problems of a block that aren't taken over yet, by their numbers in it. Each part has a copy of the workspace.
+// The solving of the problems of a block that aren't taken over yet, by their numbers in it. Each part has a workspace of its own.
 #[derive(Drop)]
-struct Problems<'a, K, S: Solving, G> {
+struct Problems<'a, K, S, G> {
     search: &'a Search<'a, S, G>,
     kept: &'a K,
-    workspace: &'a S::Workspace,
     problems: &'a [Problem],
     taken: usize,
 }
@@ -91,15 +90,15 @@ where
 
     type Out = SolvedProblem;
 
-    ghost holds = { λ s part. AreSome s.search.now.lts.now part.separated × (S.serves s.search.now.solving.now s.workspace.now → S.serves s.search.now.solving.now part.workspace) };
+    ghost holds = { λ s part. AreSome s.search.now.lts.now part.separated × S.serves s.search.now.solving.now part.workspace };
 
-    ghost asks = { λ s i. (i < length s.problems.now) × All (IsProblem s.search.now.lts.now) s.problems.now × All (S.asks s.search.now.solving.now) s.problems.now × AreNotable s.search.now.lts.now (S.makes s.search.now.solving.now) × K.keeps_for s.kept.now s.search.now.lts.now × S.serves s.search.now.solving.now s.workspace.now };
+    ghost asks = { λ s i. (i < length s.problems.now) × All (IsProblem s.search.now.lts.now) s.problems.now × All (S.asks s.search.now.solving.now) s.problems.now × AreNotable s.search.now.lts.now (S.makes s.search.now.solving.now) × K.keeps_for s.kept.now s.search.now.lts.now };
 
     ghost answers = { λ s i v. (slice_get s.problems.now i ≡ Some v.problem) × IsSolvedBy (S.comes s.search.now.solving.now) (S.makes s.search.now.solving.now) v };
 
     fn begin(&self) -> Result<Part<S::Workspace>, NoMemory> {
         let separated = Separated::nothing(self.search.alloc, self.search.lts)?;
-        let workspace = self.search.solving.copy_workspace(self.workspace)?;
+        let workspace = self.search.solving.new_workspace()?;
         Ok(Part {
             separated,
             workspace,
@@ -123,26 +122,49 @@ where
             .search
             .solving
             .solve(&mut part.workspace, problem, &mut proof)?;
-        if let ProblemOutcome::Place(region) = &outcome {
-            part.separated
-                .add(self.search.alloc, lts, &region.place, &region.tokens)?;
-        }
+        let waiting = note(self.search, &mut part.separated, problem, outcome)?;
         Ok(SolvedProblem {
             problem,
-            outcome: Some(outcome),
+            outcome: Some(waiting),
         })
+    }
+}
+
+// Returns the outcome of a problem as it waits until it is taken over. Notes what its place separates, and lets the tokens go.
+fn note<S: Solving, G>(
+    search: &Search<'_, S, G>,
+    separated: &mut Separated,
+    problem: Problem,
+    outcome: ProblemOutcome,
+) -> Result<WaitingOutcome, NoMemory>
+    requires notable { AreNotable search.now.lts.now (S.makes search.now.solving.now) }
+    requires some { AreSome search.now.lts.now separated.old }
+    requires outcome { IsOutcome (S.comes search.now.solving.now) (S.makes search.now.solving.now) problem outcome }
+    ensures some { OnOk result (AreSome search.now.lts.now separated.new) }
+    ensures waiting { IfOk result (IsWaiting (S.comes search.now.solving.now) (S.makes search.now.solving.now) problem) }
+{
+    match outcome {
+        ProblemOutcome::Place(region) => {
+            let place = &region.place;
+            separated.add(search.alloc, search.lts, place, &region.tokens)?;
+            search.lts.is_well_formed();
+            let compact = CompactPlace::new(search.alloc, place)?;
+            Ok(WaitingOutcome::Place(compact))
+        }
+        ProblemOutcome::Refuted => Ok(WaitingOutcome::Refuted),
+        ProblemOutcome::TooWide => Ok(WaitingOutcome::TooWide),
     }
 }
 
 /// Returns the outcomes of the problems of a block, in their order, computed by parts that run in parallel, each for a
 /// run of neighbours. The first `taken` problems are left unsolved, and so is a problem that a kept place separates,
-/// or a place that its own part made before: its outcome is None. Each part solves with a copy of the workspace, and
+/// or a place that its own part made before: its outcome is None. Each part solves with a workspace of its own, and
 /// keeps no proof. The gate is entered before each number of the block and left after it, also for a problem that is
 /// left unsolved. Returns `NoMemory` if memory runs out.
 pub fn solve_block<R: Threads + Sync, K: Keeping + Sync, S: Solving + Sync, G: Gate + Sync>(
     rt: &R,
     search: &Search<'_, S, G>,
-    progress: &Progress<K, S::Workspace, S::Proof>,
+    kept: &K,
     problems: &[Problem],
     taken: usize,
 ) -> Result<Vec<SolvedProblem>, NoMemory>
@@ -151,18 +173,16 @@ where
     S::Proof: Send + Sync + Drop,
     requires few { length problems.now ≤ most_in_block }
     requires some { 1 ≤ search.now.jobs }
-    requires kept { K.keeps_for progress.now.kept search.now.lts.now }
+    requires kept { K.keeps_for kept.now search.now.lts.now }
     requires problems { All (IsProblem search.now.lts.now) problems.now }
     requires asked { All (S.asks search.now.solving.now) problems.now }
     requires notable { AreNotable search.now.lts.now (S.makes search.now.solving.now) }
-    requires serves { S.serves search.now.solving.now progress.now.workspace }
     ensures solved { IfOk result (λ v. All (IsSolvedBy (S.comes search.now.solving.now) (S.makes search.now.solving.now)) v.items) }
     ensures same { IfOk result (λ v. problems_of v.items ≡ problems.now) }
 {
     let task = Problems {
         search,
-        kept: &progress.kept,
-        workspace: &progress.workspace,
+        kept,
         problems,
         taken,
     };

@@ -9,7 +9,7 @@ ghost use Rattle.rg_marks.specs.declared.region_place.RegionPlace.{RegionPlace};
 ghost use Rattle.rg_outcome.specs.Coming.{IsSeparated};
 
 use rg_lts::Lts;
-use rg_marks::RegionPlace;
+use rg_marks::{CompactPlace, RegionPlace};
 use rg_memory::NoMemory;
 use rg_theory::Problem;
 
@@ -23,6 +23,9 @@ pub trait Keeping {
 
     /// What is asked of a place that is kept.
     ghost may_keep: { System → RegionPlace → Type 0 };
+
+    /// What is asked of a place that is kept without its tokens.
+    ghost may_keep_compact: { System → Place → Type 0 };
 
     /// Whether one of the places separates the problem of the system.
     fn separates(&self, lts: &Lts, problem: Problem) -> bool
@@ -41,4 +44,12 @@ pub trait Keeping {
         requires place { may_keep lts.now place }
         ensures system { OnOk result (keeps_for self.new lts.now) }
         ensures places { OnOk result (places self.new ≡ places self.old ++ shown_place place.place ∷ []) };
+
+    /// Keeps one more place, of which only the weights that aren't 0 are given, after the others. Returns `NoMemory`
+    /// if memory runs out.
+    fn keep_compact(&mut self, lts: &Lts, place: CompactPlace) -> Result<(), NoMemory>
+        requires system { keeps_for self.old lts.now }
+        requires place { may_keep_compact lts.now place }
+        ensures system { OnOk result (keeps_for self.new lts.now) }
+        ensures places { OnOk result (places self.new ≡ places self.old ++ place ∷ []) };
 }

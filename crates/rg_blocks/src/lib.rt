@@ -6,6 +6,7 @@
 //! after the other. The first problems of a block are solved in turn, as long as their places separate what follows.
 //! A part leaves a problem unsolved if a kept place separates it, or a place that the part made; such a problem is
 //! solved in its turn, unless a kept place separates it by then.
+//! A place that waits until it is taken over has neither its tokens nor its weights of 0.
 #![tactic(auto)]
 
 mod block;
@@ -22,5 +23,5 @@ pub use left::next_problem;
 pub use rg_memory::NoMemory;
 pub use search::{Progress, Search};
 pub use separation::{SeparationOutcome, find_refuted, separate_all};
-pub use solving::{ProblemOutcome, SolvedProblem, Solving};
+pub use solving::{ProblemOutcome, SolvedProblem, Solving, WaitingOutcome};
 pub use taking::{Begun, begin_in_turn, solve_in_turn, take_over};

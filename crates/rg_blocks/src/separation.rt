@@ -42,7 +42,7 @@ where
     S::Workspace: Send + Sync + Drop,
     S::Proof: Send + Sync + Drop,
     requires few { length problems.now ≤ most_in_block }
-    requires can { CanSearch search.now S.asks S.comes S.makes K.may_keep }
+    requires can { CanSearch search.now S.asks S.comes S.makes K.may_keep K.may_keep_compact }
     requires searching { IsSearching search.now K.keeps_for S.serves S.proves progress.old }
     requires problems { All (IsProblem search.now.lts.now) problems.now }
     ensures searching { OnOk result (IsSearching search.now K.keeps_for S.serves S.proves progress.new) }
@@ -58,7 +58,7 @@ where
             Ok(end)
         }
         Begun::First(taken) => {
-            let mut solved = solve_block(rt, search, progress, problems, taken)?;
+            let mut solved = solve_block(rt, search, &progress.kept, problems, taken)?;
             let others = solved.split_off(taken)?;
             take_over(search, progress, others)
         }
@@ -75,7 +75,7 @@ fn solve_all<R: Threads + Sync, K: Keeping + Sync, S: Solving + Sync, G: Gate + 
 where
     S::Workspace: Send + Sync + Drop,
     S::Proof: Send + Sync + Drop,
-    requires can { CanSearch search.now S.asks S.comes S.makes K.may_keep }
+    requires can { CanSearch search.now S.asks S.comes S.makes K.may_keep K.may_keep_compact }
     requires searching { IsSearching search.now K.keeps_for S.serves S.proves progress.old }
     requires sound { IsSound search.now.lts.now (S.comes search.now.solving.now) None (K.places progress.old.kept) }
     ensures searching { OnOk result (IsSearching search.now K.keeps_for S.serves S.proves progress.new) }
@@ -109,7 +109,7 @@ pub fn find_refuted<R: Threads + Sync, K: Keeping + Sync, S: Solving + Sync, G: 
 where
     S::Workspace: Send + Sync + Drop,
     S::Proof: Send + Sync + Drop,
-    requires can { CanSearch search.now S.asks S.comes S.makes K.may_keep }
+    requires can { CanSearch search.now S.asks S.comes S.makes K.may_keep K.may_keep_compact }
     requires searching { IsSearching search.now K.keeps_for S.serves S.proves progress.old }
     requires regions { All (IsRegion search.now.lts.now) (K.places progress.old.kept) }
     ensures searching { OnOk result (IsSearching search.now K.keeps_for S.serves S.proves progress.new) }
@@ -121,7 +121,7 @@ where
 
 /// Separates all problems of the system, all of whose states are reachable, beginning without a place. The outcome
 /// and the places that are kept are the same for any number of jobs and any gate. The calling thread solves with its
-/// workspace, and each part of a block with a copy of it. Returns `NoMemory` if memory runs out; nothing is known
+/// workspace, and each part of a block with one of its own. Returns `NoMemory` if memory runs out; nothing is known
 /// of the progress then.
 pub fn separate_all<R: Threads + Sync, K: Keeping + Sync, S: Solving + Sync, G: Gate + Sync>(
     rt: &R,
@@ -131,7 +131,7 @@ pub fn separate_all<R: Threads + Sync, K: Keeping + Sync, S: Solving + Sync, G: 
 where
     S::Workspace: Send + Sync + Drop,
     S::Proof: Send + Sync + Drop,
-    requires can { CanSearch search.now S.asks S.comes S.makes K.may_keep }
+    requires can { CanSearch search.now S.asks S.comes S.makes K.may_keep K.may_keep_compact }
     requires searching { IsSearching search.now K.keeps_for S.serves S.proves progress.old }
     requires empty { K.places progress.old.kept ≡ [] }
     ensures searching { OnOk result (IsSearching search.now K.keeps_for S.serves S.proves progress.new) }

@@ -5,16 +5,28 @@ ghost use Rattle.rg_marks.specs.declared.region_place.RegionPlace.{RegionPlace};
 ghost use Rattle.rg_outcome.specs.Solving.{Solved};
 ghost use Rattle.rg_blocks.specs.Taking.{IsOutcome};
 
-use rg_marks::RegionPlace;
+use rg_marks::{CompactPlace, RegionPlace};
 use rg_memory::NoMemory;
 use rg_theory::Problem;
 
-/// The outcome of a problem. It is small, because many outcomes may wait until they are taken over: that of a refuted
-/// problem has no trees, and that of a problem with a number out of range has no term.
+/// The outcome of a problem. That of a refuted problem has no trees, and that of a problem with a number out of range
+/// has no term.
 #[derive(Drop)]
 pub enum ProblemOutcome {
     /// A place that separates it, with its tokens at the states.
     Place(RegionPlace),
+    /// Trees refute all its cases.
+    Refuted,
+    /// A number passes in one of its cases, and none makes a place.
+    TooWide,
+}
+
+/// The outcome of a problem that waits until it is taken over. It is small, because many may wait: a place has neither
+/// its tokens nor weights of 0.
+#[derive(Drop)]
+pub enum WaitingOutcome {
+    /// A place that separates it.
+    Place(CompactPlace),
     /// Trees refute all its cases.
     Refuted,
     /// A number passes in one of its cases, and none makes a place.
@@ -27,7 +39,7 @@ pub struct SolvedProblem {
     /// The problem.
     pub problem: Problem,
     /// The outcome, or None if the problem isn't solved yet because a place made by the same part separates it.
-    pub outcome: Option<ProblemOutcome>,
+    pub outcome: Option<WaitingOutcome>,
 }
 
 /// How the problems of a system are solved, each by itself: the outcome of a problem depends neither on the places
@@ -54,9 +66,9 @@ pub trait Solving {
     /// What is said of what shows that a problem is refuted.
     ghost proves: { Self → Problem → Self.Proof → Type 0 };
 
-    /// Returns a copy of a workspace for another thread, which serves if that one does. Returns `NoMemory` if memory runs out.
-    fn copy_workspace(&self, workspace: &Self::Workspace) -> Result<Self::Workspace, NoMemory>
-        ensures { IfOk result (λ copy. serves self.now workspace.now → serves self.now copy) };
+    /// Returns a new workspace for a thread. Returns `NoMemory` if memory runs out.
+    fn new_workspace(&self) -> Result<Self::Workspace, NoMemory>
+        ensures { IfOk result (serves self.now) };
 
     /// Solves a problem with the workspace of a thread, and keeps the proof that it is refuted, if it is. Returns
     /// `NoMemory` if memory runs out; nothing is known of the workspace then.

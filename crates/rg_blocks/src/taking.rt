@@ -3,12 +3,12 @@ ghost use Rattle.std.specs.Prelude.{◌≡◌, ◌≤◌, [], ◌∷◌, All, If
 ghost use Rattle.rg_theory.specs.Problem.{IsProblem};
 ghost use Rattle.rg_outcome.specs.Coming.{IsSeparated};
 ghost use Rattle.rg_blocks.specs.Blocks.{most_in_block};
-ghost use Rattle.rg_blocks.specs.Taking.{IsOutcome, IsSolvedBy, AreKeepable, problems_of, IsTakenOver, IsBegun};
+ghost use Rattle.rg_blocks.specs.Taking.{IsWaiting, IsSolvedBy, AreKeepable, problems_of, IsTakenOver, IsBegun};
 ghost use Rattle.rg_blocks.specs.Searching.{IsSearching};
 
 use crate::keeping::Keeping;
 use crate::search::{Progress, Search};
-use crate::solving::{ProblemOutcome, SolvedProblem, Solving};
+use crate::solving::{ProblemOutcome, SolvedProblem, Solving, WaitingOutcome};
 use rg_lts::Lts;
 use rg_memory::NoMemory;
 use rg_ports::Gate;
@@ -17,44 +17,23 @@ use rg_theory::Problem;
 // Of so many problems of a block one is solved in turn.
 const ONE_IN_TURN_OF: usize = 256;
 
-// The outcome of a problem, which is solved now if it isn't solved yet.
-fn outcome_of<K: Keeping, S: Solving, G>(
+// Solves a problem that no kept place separates, and takes over its outcome. Returns the problem if it is refuted.
+fn solve_left<K: Keeping, S: Solving, G>(
     search: &Search<'_, S, G>,
     progress: &mut Progress<K, S::Workspace, S::Proof>,
-    solved: SolvedProblem,
-) -> Result<ProblemOutcome, NoMemory>
-    requires asked { S.asks search.now.solving.now solved.problem }
-    requires searching { IsSearching search.now K.keeps_for S.serves S.proves progress.old }
-    requires solved { IsSolvedBy (S.comes search.now.solving.now) (S.makes search.now.solving.now) solved }
-    ensures outcome { IfOk result (IsOutcome (S.comes search.now.solving.now) (S.makes search.now.solving.now) solved.problem) }
-    ensures searching { OnOk result (IsSearching search.now K.keeps_for S.serves S.proves progress.new) }
-    ensures proves { IfSome progress.new.proof (λ p. S.proves search.now.solving.now p.0 p.1) }
-    ensures same { progress.new.kept ≡ progress.old.kept }
-{
-    match solved.outcome {
-        Some(outcome) => Ok(outcome),
-        None => search.solving.solve(&mut progress.workspace, solved.problem, &mut progress.proof),
-    }
-}
-
-// Takes over the outcome of a problem that no kept place separates. Returns the problem if it is refuted.
-fn take_left<K: Keeping, S: Solving, G>(
-    search: &Search<'_, S, G>,
-    progress: &mut Progress<K, S::Workspace, S::Proof>,
-    solved: SolvedProblem,
+    problem: Problem,
 ) -> Result<Option<Problem>, NoMemory>
-    requires keepable { AreKeepable (S.makes search.now.solving.now) (K.may_keep search.now.lts.now) }
-    requires asked { S.asks search.now.solving.now solved.problem }
+    requires keepable { AreKeepable (S.makes search.now.solving.now) (K.may_keep search.now.lts.now) (K.may_keep_compact search.now.lts.now) }
+    requires asked { S.asks search.now.solving.now problem }
     requires searching { IsSearching search.now K.keeps_for S.serves S.proves progress.old }
-    requires problem { IsProblem search.now.lts.now solved.problem }
-    requires solved { IsSolvedBy (S.comes search.now.solving.now) (S.makes search.now.solving.now) solved }
-    requires left { ¬ IsSeparated search.now.lts.now (K.places progress.old.kept) solved.problem }
+    requires problem { IsProblem search.now.lts.now problem }
+    requires left { ¬ IsSeparated search.now.lts.now (K.places progress.old.kept) problem }
     ensures searching { OnOk result (IsSearching search.now K.keeps_for S.serves S.proves progress.new) }
     ensures proves { IfSome progress.new.proof (λ p. S.proves search.now.solving.now p.0 p.1) }
-    ensures taken { IfOk result (λ end. IsTakenOver search.now.lts.now (S.comes search.now.solving.now) (K.places progress.old.kept) (solved.problem ∷ []) (K.places progress.new.kept) end) }
+    ensures taken { IfOk result (λ end. IsTakenOver search.now.lts.now (S.comes search.now.solving.now) (K.places progress.old.kept) (problem ∷ []) (K.places progress.new.kept) end) }
 {
-    let problem = solved.problem;
-    match outcome_of(search, progress, solved)? {
+    let solving = search.solving;
+    match solving.solve(&mut progress.workspace, problem, &mut progress.proof)? {
         ProblemOutcome::Place(place) => {
             progress.kept.keep(search.lts, place)?;
             Ok(None)
@@ -64,13 +43,38 @@ fn take_left<K: Keeping, S: Solving, G>(
     }
 }
 
+// Takes over the outcome of a problem that no kept place separates, which has waited. Returns the problem if it is refuted.
+fn take_waiting<K: Keeping, S: Solving, G>(
+    search: &Search<'_, S, G>,
+    progress: &mut Progress<K, S::Workspace, S::Proof>,
+    problem: Problem,
+    outcome: WaitingOutcome,
+) -> Result<Option<Problem>, NoMemory>
+    requires keepable { AreKeepable (S.makes search.now.solving.now) (K.may_keep search.now.lts.now) (K.may_keep_compact search.now.lts.now) }
+    requires searching { IsSearching search.now K.keeps_for S.serves S.proves progress.old }
+    requires outcome { IsWaiting (S.comes search.now.solving.now) (S.makes search.now.solving.now) problem outcome }
+    requires left { ¬ IsSeparated search.now.lts.now (K.places progress.old.kept) problem }
+    ensures searching { OnOk result (IsSearching search.now K.keeps_for S.serves S.proves progress.new) }
+    ensures proves { IfSome progress.new.proof (λ p. S.proves search.now.solving.now p.0 p.1) }
+    ensures taken { IfOk result (λ end. IsTakenOver search.now.lts.now (S.comes search.now.solving.now) (K.places progress.old.kept) (problem ∷ []) (K.places progress.new.kept) end) }
+{
+    match outcome {
+        WaitingOutcome::Place(place) => {
+            progress.kept.keep_compact(search.lts, place)?;
+            Ok(None)
+        }
+        WaitingOutcome::Refuted => Ok(Some(problem)),
+        WaitingOutcome::TooWide => Ok(None),
+    }
+}
+
 // Takes over the outcome of a problem, and drops it if a kept place separates the problem. Returns the problem if it is refuted.
 fn take<K: Keeping, S: Solving, G>(
     search: &Search<'_, S, G>,
     progress: &mut Progress<K, S::Workspace, S::Proof>,
     solved: SolvedProblem,
 ) -> Result<Option<Problem>, NoMemory>
-    requires keepable { AreKeepable (S.makes search.now.solving.now) (K.may_keep search.now.lts.now) }
+    requires keepable { AreKeepable (S.makes search.now.solving.now) (K.may_keep search.now.lts.now) (K.may_keep_compact search.now.lts.now) }
     requires asked { S.asks search.now.solving.now solved.problem }
     requires searching { IsSearching search.now K.keeps_for S.serves S.proves progress.old }
     requires problem { IsProblem search.now.lts.now solved.problem }
@@ -82,7 +86,11 @@ fn take<K: Keeping, S: Solving, G>(
     if progress.kept.separates(search.lts, solved.problem) {
         return Ok(None);
     }
-    take_left(search, progress, solved)
+    let problem = solved.problem;
+    match solved.outcome {
+        Some(outcome) => take_waiting(search, progress, problem, outcome),
+        None => solve_left(search, progress, problem),
+    }
 }
 
 /// Takes over the outcomes of the problems of a block, in the order of the problems. A place is kept, and a problem
@@ -95,7 +103,7 @@ pub fn take_over<K: Keeping, S: Solving, G>(
     progress: &mut Progress<K, S::Workspace, S::Proof>,
     solved: Vec<SolvedProblem>,
 ) -> Result<Option<Problem>, NoMemory>
-    requires keepable { AreKeepable (S.makes search.now.solving.now) (K.may_keep search.now.lts.now) }
+    requires keepable { AreKeepable (S.makes search.now.solving.now) (K.may_keep search.now.lts.now) (K.may_keep_compact search.now.lts.now) }
     requires asked { All (λ s. S.asks search.now.solving.now s.problem) solved.items }
     requires searching { IsSearching search.now K.keeps_for S.serves S.proves progress.old }
     requires problems { All (λ s. IsProblem search.now.lts.now s.problem) solved.items }
@@ -138,7 +146,7 @@ pub fn begin_in_turn<K: Keeping, S: Solving, G>(
     progress: &mut Progress<K, S::Workspace, S::Proof>,
     problems: &[Problem],
 ) -> Result<Begun, NoMemory>
-    requires keepable { AreKeepable (S.makes search.now.solving.now) (K.may_keep search.now.lts.now) }
+    requires keepable { AreKeepable (S.makes search.now.solving.now) (K.may_keep search.now.lts.now) (K.may_keep_compact search.now.lts.now) }
     requires asked { All (S.asks search.now.solving.now) problems.now }
     requires searching { IsSearching search.now K.keeps_for S.serves S.proves progress.old }
     requires problems { All (IsProblem search.now.lts.now) problems.now }
@@ -151,11 +159,7 @@ pub fn begin_in_turn<K: Keeping, S: Solving, G>(
         if progress.kept.separates(search.lts, problem) {
             continue;
         }
-        let solved = SolvedProblem {
-            problem,
-            outcome: None,
-        };
-        if let Some(refuted) = take_left(search, progress, solved)? {
+        if let Some(refuted) = solve_left(search, progress, problem)? {
             return Ok(Begun::Ended(Some(refuted)));
         }
         if i + 1 >= in_turn && !follows_separated(search.lts, &progress.kept, problems, i + 1) {
@@ -186,7 +190,7 @@ pub fn solve_in_turn<K: Keeping, S: Solving, G: Gate>(
     problems: &[Problem],
 ) -> Result<Option<Problem>, NoMemory>
     requires few { length problems.now ≤ most_in_block }
-    requires keepable { AreKeepable (S.makes search.now.solving.now) (K.may_keep search.now.lts.now) }
+    requires keepable { AreKeepable (S.makes search.now.solving.now) (K.may_keep search.now.lts.now) (K.may_keep_compact search.now.lts.now) }
     requires asked { All (S.asks search.now.solving.now) problems.now }
     requires searching { IsSearching search.now K.keeps_for S.serves S.proves progress.old }
     requires problems { All (IsProblem search.now.lts.now) problems.now }

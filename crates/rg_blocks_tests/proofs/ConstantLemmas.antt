@@ -2,7 +2,7 @@
 use Rattle.std.specs.Prelude.{slice_index}
 use Rattle.std.proofs.Common.{◌≡◌, ◌⊎◌, ◌↔◌, inl, inr, IsTrue, nat_lt, ltb-true, ℕ, zero, suc, ◌<◌, ◌≤◌, List, [], ◌∷◌, ◌++◌, map, All, Any, length, replicate, refl, sym, ap, subst, ◌∙◌, arith}
 use Rattle.std.proofs.lemmas.Bool.{cases_lt, lt-ltb}
-use Rattle.std.proofs.lemmas.List.{length-replicate, get_or-replicate}
+use Rattle.std.proofs.lemmas.List.{length-replicate, get_or-replicate, map-append}
 use Rattle.std.proofs.lemmas.List.Elements.{All-append, All-cons, All-map}
 use Rattle.rg_theory.specs.System.{System, states, labels, IsAllReachable}
 use Rattle.rg_theory.specs.Net.{Place, pre_weight}
@@ -113,6 +113,10 @@ separating lts = record { separate = separate }
 pub one_more : (lts : System) (kept after : List RegionPlace) (r : RegionPlace) → All (RegionIsConstant lts) kept → RegionIsConstant lts r → after ≡ kept ++ r ∷ [] → All (RegionIsConstant lts) after
 one_more lts kept after r all one is =
     subst (All (RegionIsConstant lts)) (sym is) (All-append (RegionIsConstant lts) kept (r ∷ []) all (All-cons (RegionIsConstant lts) r [] one (λ k d lt. absurd (omega arith))))
+
+-- the places that are kept are those before, and the one that is given without its tokens
+pub one_more_shown : (kept after : List RegionPlace) (r : RegionPlace) (p : Place) → after ≡ kept ++ r ∷ [] → shown_place r.place ≡ p → shown after ≡ shown kept ++ p ∷ []
+one_more_shown kept after r p is same = ap shown is ∙ map-append (λ x. shown_place x.place) kept (r ∷ []) ∙ ap (λ q. shown kept ++ q ∷ []) same
 
 -- places that no arc changes are regions
 pub all_regions : (lts : System) (kept : List RegionPlace) → All (RegionIsConstant lts) kept → All (IsRegion lts) (shown kept)

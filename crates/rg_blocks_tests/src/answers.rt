@@ -59,8 +59,8 @@ impl Gate for Counts {
 }
 
 // One answer for each of the first labels, which have no arc; in any other problem a number passes. Kept are how many problems were solved,
-// how many of them while their number was inside the gate, and how many in turn; how many workspaces were copied, and in how many workspaces a
-// problem was solved.
+// how many of them while their number was inside the gate, and how many in turn; how many workspaces were made for parts, and in how many
+// workspaces a problem was solved.
 #[derive(Drop)]
 pub(crate) struct Answers<'a> {
     pub(crate) alloc: Global,
@@ -70,7 +70,7 @@ pub(crate) struct Answers<'a> {
     pub(crate) solved: AtomicU64,
     pub(crate) solved_inside: AtomicU64,
     pub(crate) in_turn: AtomicU64,
-    pub(crate) copied: AtomicU64,
+    pub(crate) made: AtomicU64,
     pub(crate) used: AtomicU64,
 }
 
@@ -89,15 +89,15 @@ impl<'a> Answers<'a> {
             solved: AtomicU64::new(0),
             solved_inside: AtomicU64::new(0),
             in_turn: AtomicU64::new(0),
-            copied: AtomicU64::new(0),
+            made: AtomicU64::new(0),
             used: AtomicU64::new(0),
         }
     }
 
-    // Counts a problem that is solved with the workspace. The calling thread has the one that is no copy.
+    // Counts a problem that is solved with the workspace. The calling thread has the one that is no part's.
     fn count(&self, workspace: &mut Work) {
         self.solved.fetch_add(1, Ordering::SeqCst);
-        if !workspace.is_copy {
+        if !workspace.is_of_part {
             self.in_turn.fetch_add(1, Ordering::SeqCst);
         }
         if !workspace.used {
@@ -107,17 +107,17 @@ impl<'a> Answers<'a> {
     }
 }
 
-// What a thread solves with: whether it is a copy, and whether a problem was solved in it.
+// What a thread solves with: whether it is a part's, and whether a problem was solved in it.
 #[derive(Drop)]
 pub(crate) struct Work {
-    is_copy: bool,
+    is_of_part: bool,
     used: bool,
 }
 
 impl Work {
     pub(crate) fn new() -> Work {
         Work {
-            is_copy: false,
+            is_of_part: false,
             used: false,
         }
     }
@@ -138,10 +138,10 @@ impl Solving for Answers<'_> {
 
     ghost proves = { λ _ _ _. ⊤ };
 
-    fn copy_workspace(&self, _workspace: &Work) -> Result<Work, NoMemory> {
-        self.copied.fetch_add(1, Ordering::SeqCst);
+    fn new_workspace(&self) -> Result<Work, NoMemory> {
+        self.made.fetch_add(1, Ordering::SeqCst);
         Ok(Work {
-            is_copy: true,
+            is_of_part: true,
             used: false,
         })
     }

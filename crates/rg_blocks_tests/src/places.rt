@@ -2,11 +2,11 @@
 ghost use Rattle.std.specs.Prelude.{◌≡◌, ◌↔◌, ℕ, ◌<◌, ◌≤◌, All, Any, map, length, slice_index, IfOk, IsTrue};
 ghost use Rattle.rg_theory.specs.System.{IsAllReachable};
 ghost use Rattle.rg_net.specs.Shown.{shown_place};
-ghost use Rattle.rg_blocks_tests.specs.Constant.{HasDead, RegionStops, RegionIsConstant, HasNoToken};
+ghost use Rattle.rg_blocks_tests.specs.Constant.{HasDead, IsConstant, RegionStops, RegionIsConstant, HasNoToken};
 
 use rg_blocks::{Keeping, NoMemory};
 use rg_lts::Lts;
-use rg_marks::RegionPlace;
+use rg_marks::{CompactPlace, RegionPlace};
 use rg_net::Place;
 use rg_theory::Problem;
 use std::alloc::Global;
@@ -70,9 +70,10 @@ pub(crate) fn stopping(
     Ok(RegionPlace { place, tokens })
 }
 
-// Places in a list, each of which is asked.
+// Places in a list, each of which is asked. Their tokens aren't read.
 #[derive(Drop)]
 pub(crate) struct Places {
+    pub(crate) alloc: Global,
     pub(crate) kept: Vec<RegionPlace>,
 }
 
@@ -105,6 +106,8 @@ impl Keeping for Places {
 
     ghost may_keep = { λ lts r. RegionIsConstant lts r };
 
+    ghost may_keep_compact = { IsConstant };
+
     fn separates(&self, _lts: &Lts, problem: Problem) -> bool {
         match problem {
             Problem::Event(_, t) => is_stopped(&self.kept, t),
@@ -118,5 +121,11 @@ impl Keeping for Places {
 
     fn keep(&mut self, _lts: &Lts, place: RegionPlace) -> Result<(), NoMemory> {
         Ok(self.kept.push(place)?)
+    }
+
+    fn keep_compact(&mut self, _lts: &Lts, place: CompactPlace) -> Result<(), NoMemory> {
+        let place = place.place(self.alloc)?;
+        let tokens = Vec::new(self.alloc);
+        Ok(self.kept.push(RegionPlace { place, tokens })?)
     }
 }

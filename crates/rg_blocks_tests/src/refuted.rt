@@ -214,7 +214,7 @@ fn find<R: Threads + Sync, G: Gate + Sync>(
         gate,
     };
     let mut progress = Progress {
-        kept: Places { kept },
+        kept: Places { alloc, kept },
         workspace: Work::new(),
         proof: None,
     };

@@ -261,6 +261,7 @@ fn come<R: Threads + Sync, G: Gate + Sync>(
     };
     let mut progress = Progress {
         kept: Places {
+            alloc,
             kept: Vec::new(alloc),
         },
         workspace: Work::new(),
@@ -285,14 +286,14 @@ pub(crate) fn are_places_of(places: &[RegionPlace], labels: &[usize]) -> bool {
     true
 }
 
-// How many problems were solved, how many of them inside the gate, and how many in turn; how many workspaces were copied, and in how many
-// workspaces a problem was solved; and how often the gate was entered and left.
+// How many problems were solved, how many of them inside the gate, and how many in turn; how many workspaces were made for parts, and in how
+// many workspaces a problem was solved; and how often the gate was entered and left.
 #[derive(Clone, Copy)]
 struct Counted {
     solved: u64,
     solved_inside: u64,
     in_turn: u64,
-    copied: u64,
+    made: u64,
     used: u64,
     entered: u64,
     left: u64,
@@ -332,7 +333,7 @@ fn see_through<R: Threads + Sync, G: Gate + Sync>(
         solved: answers.solved.load(Ordering::SeqCst),
         solved_inside: answers.solved_inside.load(Ordering::SeqCst),
         in_turn: answers.in_turn.load(Ordering::SeqCst),
-        copied: answers.copied.load(Ordering::SeqCst),
+        made: answers.made.load(Ordering::SeqCst),
         used: answers.used.load(Ordering::SeqCst),
         entered: counts.entered.load(Ordering::SeqCst),
         left: counts.left.load(Ordering::SeqCst),
@@ -347,9 +348,8 @@ fn see<R: Threads + Sync>(rt: &R, alloc: Global, lts: &Lts, given: &[Given], job
     see_through(rt, alloc, lts, given, jobs, &gate, &gate)
 }
 
-// How many workspaces are copied: none for the calling thread, and one for each part with a label, where what is left of so many labels is
-// solved inside the gate.
-fn count_copies(jobs: u8, labels: usize, inside: u64) -> u64 {
+// How many workspaces are made for parts: one for each part with a label, where what is left of so many labels is solved inside the gate.
+fn count_made(jobs: u8, labels: usize, inside: u64) -> u64 {
     if jobs == 1 || inside == 0 {
         return 0;
     }
@@ -375,7 +375,7 @@ fn rows(rt: HostRuntime) -> Result<(), Fail> {
             assert!(rt; seen.is_wanted(wanted, labels));
             assert_eq!(rt; counted.left, counted.entered);
             assert!(rt; wanted.is_none() || counted.entered == given.len() as u64);
-            assert_eq!(rt; counted.copied, count_copies(jobs, given.len(), by_two.1));
+            assert_eq!(rt; counted.made, count_made(jobs, given.len(), by_two.1));
             assert_eq!(rt; (counted.solved, counted.solved_inside), solved);
         }
     }
@@ -425,7 +425,7 @@ fn see_held<R: Threads + Sync>(
     None
 }
 
-// All labels wait for each other, since each has a part of its own. A part without a label copies no workspace.
+// All labels wait for each other, since each has a part of its own. A part without a label makes no workspace.
 #[test]
 fn each_part_does_one(rt: HostRuntime) -> Result<(), Fail> {
     for (given, wanted, labels, _, _, (solved, inside)) in ROWS {
@@ -444,7 +444,7 @@ fn each_part_does_one(rt: HostRuntime) -> Result<(), Fail> {
         let counted = seen.counted;
         assert!(rt; seen.is_wanted(wanted, labels));
         assert_eq!(rt; (counted.solved, counted.solved_inside), (solved, inside));
-        assert_eq!(rt; counted.copied, u64::from(lts.labels()));
+        assert_eq!(rt; counted.made, u64::from(lts.labels()));
         assert_eq!(rt; counted.used.checked_sub(1), Some(inside));
     }
     Ok(())
@@ -474,7 +474,7 @@ fn growing_blocks(rt: HostRuntime) -> Result<(), Fail> {
         return Ok(());
     };
     let (by_one, by_more) = (62 + 126 + 5927, 63 + 127 + 5927);
-    for (jobs, solved, in_turn, copied) in [
+    for (jobs, solved, in_turn, made) in [
         (1u8, by_one, by_one, 0),
         (2, by_more, 26, 8 * 2),
         (3, by_more, 26, 8 * 3),
@@ -486,7 +486,7 @@ fn growing_blocks(rt: HostRuntime) -> Result<(), Fail> {
         let entered = 64 + 128 + 5927;
         assert_eq!(rt; (counted.entered, counted.left), (entered, entered));
         assert_eq!(rt; (counted.solved, counted.in_turn), (solved, in_turn));
-        assert_eq!(rt; (counted.copied, counted.used), (copied, 1 + copied));
+        assert_eq!(rt; (counted.made, counted.used), (made, 1 + made));
         let wanted = Some(SeparationOutcome::TooWide(Problem::Event(0, 3)));
         assert!(rt; seen.is_wanted(wanted, &[0, 1, 2, 65, 66, 67]));
     }
@@ -505,7 +505,7 @@ fn on_in_turn(rt: HostRuntime) -> Result<(), Fail> {
         assert!(rt; false);
         return Ok(());
     };
-    for (jobs, in_turn, copied) in [
+    for (jobs, in_turn, made) in [
         (1u8, 192 - 2, 0),
         (2, 1 + 3, 2 * 2),
         (3, 1 + 3, 2 * 3),
@@ -516,7 +516,7 @@ fn on_in_turn(rt: HostRuntime) -> Result<(), Fail> {
         let counted = seen.counted;
         assert_eq!(rt; (counted.entered, counted.left), (192, 192));
         assert_eq!(rt; (counted.solved, counted.in_turn), (192 - 2, in_turn));
-        assert_eq!(rt; (counted.copied, counted.used), (copied, 1 + copied));
+        assert_eq!(rt; (counted.made, counted.used), (made, 1 + made));
         let wanted = Some(SeparationOutcome::TooWide(Problem::Event(0, 0)));
         assert!(rt; seen.is_wanted(wanted, &[64, 66]));
     }

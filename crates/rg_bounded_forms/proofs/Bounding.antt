@@ -1,5 +1,5 @@
 -- Single rows bound a form.
-use Rattle.std.proofs.Common.{◌≡◌, ⊎_elim, refl, ℕ, suc, ◌+◌, ◌^◌, ◌<◌, List, [], ◌∷◌, length, map, All, ap, subst, sym, ◌∙◌, arith}
+use Rattle.std.proofs.Common.{◌≡◌, ⊎_elim, refl, ℕ, suc, ◌+◌, ◌^◌, ◌<◌, List, [], ◌∷◌, length, All, ap, subst, sym, ◌∙◌, arith}
 use Rattle.std.specs.Prelude.{ℤ, pos, neg_ℤ, ◌+ℤ◌, ◌-ℤ◌, ◌*ℤ◌, ◌≤ℤ◌, ◌<ℤ◌, slice_index_or, FitsSigned}
 use Rattle.std.specs.Int.{w128}
 use Rattle.std.proofs.lemmas.Int.{ints}
@@ -12,7 +12,6 @@ use Rattle.rg_integers.specs.Sum.{sum_below}
 use Rattle.rg_integers.proofs.Sums.{sum_below-same, sum_below-times}
 use Rattle.rg_linear.specs.declared.row.Row.{Row}
 use Rattle.rg_linear.specs.View.{linear_row, IsWellFormed}
-use Rattle.rg_linear.proofs.KeptRows.{item_is, below_rows, row_length}
 use Rattle.rg_linear.specs.System.{LinearSystem, LinearRow, row_variable, row_at, entry}
 use Rattle.rg_linear.specs.Branching.{Form, scaled_value}
 use Rattle.rg_linear.specs.Room.{gap_of, gap, total}
@@ -51,11 +50,11 @@ high_of m x c s f h r hm hs hr is most =
 
 -- ---- one form
 
-pub bounded_form : (system : LinearSystem) (b : Bounded) (row : ℕ) (times : ℤ) → IsFormOf system b → IsLow system b → IsTop system b row times → IsBoundedForm system b
-bounded_form system b row times is low top = record {
+pub bounded_form : (system : LinearSystem) (before : ℕ) (b : Bounded) (row : ℕ) (times : ℤ) → IsFormOf system before b → IsLow system before b → IsTop system b row times → IsBoundedForm system before b
+bounded_form system before b row times is low top = record {
   form = is;
   between = λ scale x p meets. (
-    subst (λ z. (b.low *ℤ (b.scale *ℤ scale)) ≤ℤ z) (sym (form_value system b is scale x p low.row)) (low_of b.times (x (row_variable system b.row)) (row_at system b.row).constant scale b.scale b.low is.not_negative (meets b.row low.row) p.positive low.constant),
+    subst (λ z. (b.low *ℤ (b.scale *ℤ scale)) ≤ℤ z) (sym (form_value system before b is scale x p low.row)) (low_of b.times (x (row_variable system (before + b.row))) (row_at system (before + b.row)).constant scale b.scale b.low is.not_negative (meets (before + b.row) low.row) p.positive low.constant),
     high_of times (scaled_value system (form_of b) x) (row_at system row).constant scale b.scale b.high (x (row_variable system row)) top.positive p.positive (meets row top.within) (p.rows row top.within ∙ ap (λ z. z +ℤ ((row_at system row).constant *ℤ scale)) (turned x)) top.constant,
   );
 }
@@ -71,20 +70,20 @@ bounded_form system b row times is low top = record {
 -- ---- all forms
 
 -- what is known of the first n forms
-pub record AreKnown (system : LinearSystem) (forms : List Bounded) (n sum : ℕ) : Type 0 where
-  pub bounded : (k : ℕ) (b : Bounded) → k < n → k < length forms → IsBoundedForm system (slice_index_or forms k b)
+pub record AreKnown (system : LinearSystem) (before : ℕ) (forms : List Bounded) (n sum : ℕ) : Type 0 where
+  pub bounded : (k : ℕ) (b : Bounded) → k < n → k < length forms → IsBoundedForm system before (slice_index_or forms k b)
   pub sum_is : sum ≡ total n (gap (forms_of forms) [])
 
-pub none_known : (system : LinearSystem) (forms : List Bounded) → AreKnown system forms 0 0
-none_known system forms = record { bounded = λ k b lt within. absurd (omega arith); sum_is = refl }
+pub none_known : (system : LinearSystem) (before : ℕ) (forms : List Bounded) → AreKnown system before forms 0 0
+none_known system before forms = record { bounded = λ k b lt within. absurd (omega arith); sum_is = refl }
 
 gap_is : (h l : ℤ) (n : ℕ) → pos n ≡ h -ℤ l → gap_of (h -ℤ l) ≡ n
 gap_is h l n e = sym (ap gap_of e)
 
-pub one_more_known : (system : LinearSystem) (forms : List Bounded) (n sum more : ℕ) (b : Bounded) → n < length forms → b ≡ slice_index_or forms n b → AreKnown system forms n sum → IsBoundedForm system b → pos more ≡ b.high -ℤ b.low → AreKnown system forms (n + 1) (sum + more)
-one_more_known system forms n sum more b lt at known is size = record {
+pub one_more_known : (system : LinearSystem) (before : ℕ) (forms : List Bounded) (n sum more : ℕ) (b : Bounded) → n < length forms → b ≡ slice_index_or forms n b → AreKnown system before forms n sum → IsBoundedForm system before b → pos more ≡ b.high -ℤ b.low → AreKnown system before forms (n + 1) (sum + more)
+one_more_known system before forms n sum more b lt at known is size = record {
   bounded = λ k d below within. ⊎_elim
-      (λ e. subst (λ m. IsBoundedForm system (slice_index_or forms m d)) (sym e) (subst (IsBoundedForm system) (at ∙ get_or_default forms n b d lt) is))
+      (λ e. subst (λ m. IsBoundedForm system before (slice_index_or forms m d)) (sym e) (subst (IsBoundedForm system before) (at ∙ get_or_default forms n b d lt) is))
       (λ ne. known.bounded k d (omega arith) within)
       (equal_or_not k n);
   sum_is = (let s = known.sum_is in let g = here in let t = next n in omega arith);
@@ -99,8 +98,8 @@ one_more_known system forms n sum more b lt at known is size = record {
         one : (n : ℕ) → n + 1 ≡ suc n
         one n = omega arith
 
-pub all_known : (system : LinearSystem) (forms : List Bounded) (sum : ℕ) → AreKnown system forms (length forms) sum → length forms < 2 ^ 32 → system.columns + length system.rows + sum < 2 ^ 32 → CanBranch system forms
-all_known system forms sum known few_forms few = record {
+pub all_known : (system : LinearSystem) (before : ℕ) (forms : List Bounded) (sum : ℕ) → AreKnown system before forms (length forms) sum → length forms < 2 ^ 32 → system.columns + length system.rows + sum < 2 ^ 32 → CanBranch system before forms
+all_known system before forms sum known few_forms few = record {
   each = λ k b lt. (known.bounded k b lt lt).form;
   bounded = record {
     positive = λ f lt. (let w = below f lt in let b = some_form forms f w in subst (λ (form : Form). pos 0 <ℤ form.scale) (form_here forms f b w) (known.bounded f b w w).form.positive);
@@ -121,11 +120,11 @@ all_known system forms sum known few_forms few = record {
 
 -- ---- what the code has tested
 
-module _ (system : LinearSystem) (b : Bounded) (rows : List Row) (item : Row) (are : map linear_row rows ≡ system.rows) where
-  pub form_asked : b.row < length rows → item ≡ slice_index_or rows b.row item → length (arc_slice_items b.coeffs) ≡ system.columns → pos 0 <ℤ b.scale → b.low ≤ℤ b.high
+module _ (system : LinearSystem) (b : Bounded) (item : Row) (i : ℕ) (lt : i < length system.rows) (is : linear_row item ≡ row_at system i) where
+  pub form_asked : (before : ℕ) → i ≡ before + b.row → length (arc_slice_items b.coeffs) ≡ system.columns → pos 0 <ℤ b.scale → b.low ≤ℤ b.high
       → pos 0 ≤ℤ b.times → FitsSigned w128 b.scale → FitsSigned w128 b.times → InRange (b.scale *ℤ b.low) → InRange (b.scale *ℤ b.high)
-      → All InRange (arc_slice_items b.coeffs) → AreTimes (arc_slice_items b.coeffs) b.times (linear_row item).coeffs → IsFormOf system b
-  form_asked lt at size positive ordered not_negative scale times low high coeffs same = record {
+      → All InRange (arc_slice_items b.coeffs) → AreTimes (arc_slice_items b.coeffs) b.times (linear_row item).coeffs → IsFormOf system before b
+  form_asked before here size positive ordered not_negative scale times low high coeffs same = record {
     one_each = size;
     positive = positive;
     scale_in_range = in_range b.scale (weak b.scale positive) scale;
@@ -135,8 +134,9 @@ module _ (system : LinearSystem) (b : Bounded) (rows : List Row) (item : Row) (a
     high_in_range = high;
     not_negative = not_negative;
     times_in_range = in_range b.times not_negative times;
-    row_within = λ ne. below_rows system rows b.row are lt;
-    multiple = λ j less. same.each j (subst (λ n. j < n) (sym size) less) ∙ ap (λ (r : LinearRow). b.times *ℤ slice_index_or r.coeffs j (pos 0)) (item_is system rows b.row item are lt at);
+    row_within = λ ne. subst (λ k. k < length system.rows) here lt;
+    multiple = λ j less. same.each j (subst (λ n. j < n) (sym size) less)
+        ∙ ap (λ (r : LinearRow). b.times *ℤ slice_index_or r.coeffs j (pos 0)) (is ∙ ap (row_at system) here);
   }
     where
       weak : (z : ℤ) → pos 0 <ℤ z → pos 0 ≤ℤ z
@@ -145,25 +145,22 @@ module _ (system : LinearSystem) (b : Bounded) (rows : List Row) (item : Row) (a
       in_range : (z : ℤ) → pos 0 ≤ℤ z → FitsSigned w128 z → InRange z
       in_range z h fits = omega (arith, ints)
 
-  pub low_asked : b.row < length rows → item ≡ slice_index_or rows b.row item → (product low : ℤ) → product ≡ b.times *ℤ item.constant → low ≡ b.scale *ℤ b.low → product ≤ℤ neg_ℤ low → IsLow system b
-  low_asked lt at product low is_product is_low least = record {
-    row = below_rows system rows b.row are lt;
-    constant = subst (λ (r : LinearRow). (b.times *ℤ r.constant) ≤ℤ neg_ℤ (b.scale *ℤ b.low)) (item_is system rows b.row item are lt at)
+  pub low_asked : (before : ℕ) → i ≡ before + b.row → (product low : ℤ) → product ≡ b.times *ℤ item.constant → low ≡ b.scale *ℤ b.low → product ≤ℤ neg_ℤ low → IsLow system before b
+  low_asked before here product low is_product is_low least = record {
+    row = subst (λ k. k < length system.rows) here lt;
+    constant = subst (λ (r : LinearRow). (b.times *ℤ r.constant) ≤ℤ neg_ℤ (b.scale *ℤ b.low)) (is ∙ ap (row_at system) here)
         (subst (λ z. z ≤ℤ neg_ℤ (b.scale *ℤ b.low)) is_product (subst (λ z. product ≤ℤ neg_ℤ z) is_low least));
   }
 
-  pub top_asked : (row : ℕ) (times : ℤ) → row < length rows → item ≡ slice_index_or rows row item → IsWellFormed system → pos 0 <ℤ times → (high most : ℤ)
+  pub top_asked : (times : ℤ) → IsWellFormed system → pos 0 <ℤ times → (high most : ℤ)
       → high ≡ b.scale *ℤ b.high → most ≡ times *ℤ high → item.constant ≤ℤ most → AreTimes (linear_row item).coeffs (neg_ℤ times) (arc_slice_items b.coeffs)
-      → IsTop system b row times
-  top_asked row times lt at well positive high most is_high is_most constant same = record {
-    within = below_rows system rows row are lt;
+      → IsTop system b i times
+  top_asked times well positive high most is_high is_most constant same = record {
+    within = lt;
     positive = positive;
     entries = λ j less. ap (λ (r : LinearRow). slice_index_or r.coeffs j (pos 0)) (sym is) ∙ same.each j (subst (λ n. j < n) (sym size) less);
     constant = subst (λ (r : LinearRow). r.constant ≤ℤ (times *ℤ (b.scale *ℤ b.high))) is (subst (λ z. item.constant ≤ℤ z) (is_most ∙ ap (λ z. times *ℤ z) is_high) constant);
   }
     where
-      is : linear_row item ≡ row_at system row
-      is = item_is system rows row item are lt at
-
       size : length (linear_row item).coeffs ≡ system.columns
-      size = row_length system well rows row item are lt at
+      size = ap (λ (r : LinearRow). length r.coeffs) is ∙ well.one_each i lt

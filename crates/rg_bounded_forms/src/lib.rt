@@ -3,4 +3,4 @@
 
 mod asking;
 
-pub use asking::{Top, can_branch};
+pub use asking::{Top, can_branch, can_branch_after};

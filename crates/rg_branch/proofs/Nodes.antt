@@ -47,8 +47,8 @@ first_row system further i lt = get_or_append_left system.rows further _ i lt
 pub first_length : (system : LinearSystem) (further : List LinearRow) (i : ℕ) → i < length system.rows → i < length (with_rows system further).rows
 first_length system further i lt = let e = length-append system.rows further in omega arith
 
-pub node_form : (system : LinearSystem) (further : List LinearRow) (b : Bounded) → IsFormOf system b → IsFormOf (with_rows system further) b
-node_form system further b is = record {
+pub node_form : (system : LinearSystem) (before : ℕ) (further : List LinearRow) (b : Bounded) → IsFormOf system before b → IsFormOf (with_rows system further) before b
+node_form system before further b is = record {
   one_each = is.one_each;
   positive = is.positive;
   scale_in_range = is.scale_in_range;
@@ -58,28 +58,29 @@ node_form system further b is = record {
   high_in_range = is.high_in_range;
   not_negative = is.not_negative;
   times_in_range = is.times_in_range;
-  row_within = λ ne. first_length system further b.row (is.row_within ne);
+  row_within = λ ne. first_length system further (before + b.row) (is.row_within ne);
   multiple = λ j lt. is.multiple j lt ∙ go b.times j (λ ne. is.row_within ne);
 }
   where
-    go : (t : ℤ) (j : ℕ) → (t ≢ pos 0 → b.row < length system.rows) → t *ℤ entry system b.row j ≡ t *ℤ entry (with_rows system further) b.row j
+    go : (t : ℤ) (j : ℕ) → (t ≢ pos 0 → before + b.row < length system.rows) → t *ℤ entry system (before + b.row) j ≡ t *ℤ entry (with_rows system further) (before + b.row) j
     go t j within = by_lt_z t (pos 0) (λ less. same (λ e. omega (arith, ints))) (λ most. by_lt_z (pos 0) t (λ more. same (λ e. omega (arith, ints))) (λ least. zeros (both most least)))
       where
         both : pos 0 ≤ℤ t → t ≤ℤ pos 0 → t ≡ pos 0
         both h g = omega (arith, ints)
 
-        same : t ≢ pos 0 → t *ℤ entry system b.row j ≡ t *ℤ entry (with_rows system further) b.row j
-        same ne = ap (λ (r : LinearRow). t *ℤ slice_index_or r.coeffs j (pos 0)) (sym (first_row system further b.row (within ne)))
+        same : t ≢ pos 0 → t *ℤ entry system (before + b.row) j ≡ t *ℤ entry (with_rows system further) (before + b.row) j
+        same ne = ap (λ (r : LinearRow). t *ℤ slice_index_or r.coeffs j (pos 0)) (sym (first_row system further (before + b.row) (within ne)))
 
-        zeros : t ≡ pos 0 → t *ℤ entry system b.row j ≡ t *ℤ entry (with_rows system further) b.row j
-        zeros e = ap (λ z. z *ℤ entry system b.row j) e ∙ zero-*ℤ (entry system b.row j) ∙ sym (zero-*ℤ (entry (with_rows system further) b.row j)) ∙ ap (λ z. z *ℤ entry (with_rows system further) b.row j) (sym e)
+        zeros : t ≡ pos 0 → t *ℤ entry system (before + b.row) j ≡ t *ℤ entry (with_rows system further) (before + b.row) j
+        zeros e = ap (λ z. z *ℤ entry system (before + b.row) j) e ∙ zero-*ℤ (entry system (before + b.row) j) ∙ sym (zero-*ℤ (entry (with_rows system further) (before + b.row) j)) ∙ ap (λ z. z *ℤ entry (with_rows system further) (before + b.row) j) (sym e)
 
-module _ (system : LinearSystem) (forms : List Bounded) (above : List SplitSide) (can : CanBranch system forms) where
+module _ (system : LinearSystem) (before : ℕ) (forms : List Bounded) (above : List SplitSide) (can : CanBranch system before forms) where
   pub forms_at : (members : List ℕ) (relations : Relations) → AreRelationsOf (node_system system (forms_of forms) above) members relations
-      → DescentFromStart (node_system system (forms_of forms) above) (point members) → AreFormsAt system (map (side_row (forms_of forms)) above) members relations forms
+      → DescentFromStart (node_system system (forms_of forms) above) (point members) → AreFormsAt system before (map (side_row (forms_of forms)) above) members relations forms
   forms_at members relations are outcome k b lt = record {
     are = are;
     form = can.each k b lt;
+    few_rows = (let f = can.few in omega arith);
     narrow = narrow_of (slice_index_or forms k b).high (slice_index_or forms k b).low (room (forms_of forms) []) (gap_here k b lt) (let f = can.few in omega arith);
     between = subst (IsBetween (node_system system (forms_of forms) above) members) (sym (form_here forms k b lt))
         (λ scale v basic. can.bounded.between k scale v (subst (λ n. k < n) (sym (length-map forms form_of)) lt)
@@ -132,12 +133,10 @@ module _ (system : LinearSystem) (forms : List Bounded) (above : List SplitSide)
 pub node_is : (system : LinearSystem) (forms : List Form) (above : List SplitSide) (rows slice : List Row) → slice ≡ rows → map linear_row rows ≡ map (side_row forms) above → with_rows system (map linear_row slice) ≡ node_system system forms above
 node_is system forms above rows slice e are = ap (λ xs. with_rows system xs) (ap (map linear_row) e ∙ are)
 
-pub row_count : (system : LinearSystem) (further : List LinearRow) (own split : List Row) (n : ℕ) → map linear_row own ≡ system.rows → map linear_row split ≡ further → n ≡ length split → length own + n ≡ length (system.rows ++ further)
-row_count system further own split n are behind count =
-    let a = length-map own linear_row in
+pub row_count : (system : LinearSystem) (further : List LinearRow) (split : List Row) (count n : ℕ) → count ≡ length system.rows → map linear_row split ≡ further → n ≡ length split → count + n ≡ length (system.rows ++ further)
+row_count system further split count n own behind is =
     let b = length-map split linear_row in
     let c = length-append system.rows further in
-    let e = ap length are in
     let f = ap length behind in
     omega arith
 

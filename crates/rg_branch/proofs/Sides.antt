@@ -21,8 +21,8 @@ use Rattle.rg_branch.proofs.Points.{form_is}
 
 -- ---- one side
 
-pub coeffs_fit : (system : LinearSystem) (b : Bounded) → IsFormOf system b → All InRange (arc_slice_items b.coeffs)
-coeffs_fit system b is k d lt = subst InRange (sym (get_or_default (arc_slice_items b.coeffs) k d (pos 0) lt)) (is.coeffs_in_range k (subst (λ n. k < n) is.one_each lt))
+pub coeffs_fit : (system : LinearSystem) (before : ℕ) (b : Bounded) → IsFormOf system before b → All InRange (arc_slice_items b.coeffs)
+coeffs_fit system before b is k d lt = subst InRange (sym (get_or_default (arc_slice_items b.coeffs) k d (pos 0) lt)) (is.coeffs_in_range k (subst (λ n. k < n) is.one_each lt))
 
 -- a row fits: one number a column, and all in range
 record RowFits (columns : ℕ) (row : LinearRow) : Type 0 where
@@ -30,10 +30,10 @@ record RowFits (columns : ℕ) (row : LinearRow) : Type 0 where
   pub coeffs : (j : ℕ) → j < columns → InRange (slice_index_or row.coeffs j (pos 0))
   pub constant : InRange row.constant
 
-side_fits : (system : LinearSystem) (b : Bounded) (at : ℤ) (high : Bool) → IsFormOf system b → InRange (b.scale *ℤ at) → InRange (b.scale *ℤ (at +ℤ pos 1))
+side_fits : (system : LinearSystem) (before : ℕ) (b : Bounded) (at : ℤ) (high : Bool) → IsFormOf system before b → InRange (b.scale *ℤ at) → InRange (b.scale *ℤ (at +ℤ pos 1))
     → RowFits system.columns (side_row (form_of b ∷ []) (record { form = 0; at = at; high = high }))
-side_fits system b at true is low high = record { one_each = is.one_each; coeffs = is.coeffs_in_range; constant = subst InRange (high_constant b.scale at) (in_range-neg _ high) }
-side_fits system b at false is low high = record {
+side_fits system before b at true is low high = record { one_each = is.one_each; coeffs = is.coeffs_in_range; constant = subst InRange (high_constant b.scale at) (in_range-neg _ high) }
+side_fits system before b at false is low high = record {
   one_each = length-map (arc_slice_items b.coeffs) neg_ℤ ∙ is.one_each;
   coeffs = λ j lt. subst InRange (sym (index-neg (arc_slice_items b.coeffs) j)) (in_range-neg _ (is.coeffs_in_range j lt));
   constant = low;
@@ -44,12 +44,12 @@ some_form [] f lt = absurd (omega arith)
 some_form (x ∷ forms) zero lt = (x, refl)
 some_form (x ∷ forms) (suc f) lt = some_form forms f (omega arith)
 
-module _ (system : LinearSystem) (forms : List Bounded) (can : CanBranch system forms) (side : SplitSide) (asked : IsSideOf (forms_of forms) side) where
+module _ (system : LinearSystem) (before : ℕ) (forms : List Bounded) (can : CanBranch system before forms) (side : SplitSide) (asked : IsSideOf (forms_of forms) side) where
   pub form_within : side.form < length forms
   form_within = subst (λ n. side.form < n) (length-map forms form_of) asked.form
 
-  pub form_asked : (b : Bounded) → b ≡ slice_index_or forms side.form b → IsFormOf system b
-  form_asked b e = subst (IsFormOf system) (sym e) (can.each side.form b form_within)
+  pub form_asked : (b : Bounded) → b ≡ slice_index_or forms side.form b → IsFormOf system before b
+  form_asked b e = subst (IsFormOf system before) (sym e) (can.each side.form b form_within)
 
   form_same : (b : Bounded) → b ≡ slice_index_or forms side.form b → form_of b ≡ form_at (forms_of forms) side.form
   form_same b e = form_is forms side.form b form_within e
@@ -83,14 +83,14 @@ module _ (system : LinearSystem) (forms : List Bounded) (can : CanBranch system 
   row_fits : RowFits system.columns (side_row (forms_of forms) side)
   row_fits =
       let (b, e) = some_form forms side.form form_within in
-      subst (RowFits system.columns) (row_same b e) (side_fits system b side.at side.high (form_asked b e) (low_fits b e) (high_fits b e))
+      subst (RowFits system.columns) (row_same b e) (side_fits system before b side.at side.high (form_asked b e) (low_fits b e) (high_fits b e))
 
 -- ---- every row of a node
 
 no_side : SplitSide
 no_side = record { form = 0; at = pos 0; high = false }
 
-module _ (system : LinearSystem) (forms : List Bounded) (above : List SplitSide) (can : CanBranch system forms) (asked : AreSidesOf (forms_of forms) above) (well : IsWellFormed system) where
+module _ (system : LinearSystem) (before : ℕ) (forms : List Bounded) (above : List SplitSide) (can : CanBranch system before forms) (asked : AreSidesOf (forms_of forms) above) (well : IsWellFormed system) where
   count : length (node_system system (forms_of forms) above).rows ≡ length system.rows + length above
   count = length-append system.rows (map (side_row (forms_of forms)) above) ∙ ap (λ n. length system.rows + n) (length-map above (side_row (forms_of forms)))
 
@@ -102,7 +102,7 @@ module _ (system : LinearSystem) (forms : List Bounded) (above : List SplitSide)
   fits : (i : ℕ) → i < length (node_system system (forms_of forms) above).rows → RowFits system.columns (row_at (node_system system (forms_of forms) above) i)
   fits i lt = ⊎_elim
       (λ front. subst (RowFits system.columns) (sym (front_row system (forms_of forms) above i front)) (record { one_each = well.one_each i front; coeffs = λ j b. well.coeffs i j front b; constant = well.constants i front }))
-      (λ past. (let k : i - length system.rows < length above = (let c = count in omega arith) in subst (RowFits system.columns) (sym (behind i past k)) (row_fits system forms can _ (asked.each (i - length system.rows) no_side k))))
+      (λ past. (let k : i - length system.rows < length above = (let c = count in omega arith) in subst (RowFits system.columns) (sym (behind i past k)) (row_fits system before forms can _ (asked.each (i - length system.rows) no_side k))))
       (cases_lt i (length system.rows))
 
   pub rows_well_formed : IsWellFormed (node_system system (forms_of forms) above)

@@ -1,5 +1,5 @@
 -- What a form is worth at the point of a descent, from the value of a row.
-use Rattle.std.proofs.Common.{◌≡◌, ℕ, ◌<◌, length, ap, sym, ◌∙◌, arith, Less, Equal, Greater}
+use Rattle.std.proofs.Common.{◌≡◌, ℕ, ◌+◌, ◌<◌, length, ap, sym, ◌∙◌, arith, Less, Equal, Greater}
 use Rattle.std.specs.Prelude.{ℤ, pos, neg_ℤ, ◌+ℤ◌, ◌-ℤ◌, ◌*ℤ◌, ◌≤ℤ◌, ◌<ℤ◌}
 use Rattle.std.specs.Ordering.{int_cmp}
 use Rattle.std.specs.Cmp.{int_cmp_is}
@@ -17,11 +17,11 @@ use Rattle.rg_branch.specs.Asked.{IsFormOf}
 
 -- ---- a form is a multiple of a row
 
-pub form_value : (node : LinearSystem) (b : Bounded) → IsFormOf node b → (scale : ℤ) (v : ℕ → ℤ) → IsPoint node scale v → b.row < length node.rows → scaled_value node (form_of b) v ≡ b.times *ℤ (v (row_variable node b.row) -ℤ ((row_at node b.row).constant *ℤ scale))
-form_value node b is scale v p lt =
-    sum_below-same node.columns _ (λ j. b.times *ℤ (entry node b.row j *ℤ v j)) (λ j h. ap (λ z. z *ℤ v j) (is.multiple j h) ∙ turn b.times (entry node b.row j) (v j))
-    ∙ sum_below-times node.columns b.times (λ j. entry node b.row j *ℤ v j)
-    ∙ ap (λ z. b.times *ℤ z) (rest (v (row_variable node b.row)) _ _ (p.rows b.row lt))
+pub form_value : (node : LinearSystem) (before : ℕ) (b : Bounded) → IsFormOf node before b → (scale : ℤ) (v : ℕ → ℤ) → IsPoint node scale v → before + b.row < length node.rows → scaled_value node (form_of b) v ≡ b.times *ℤ (v (row_variable node (before + b.row)) -ℤ ((row_at node (before + b.row)).constant *ℤ scale))
+form_value node before b is scale v p lt =
+    sum_below-same node.columns _ (λ j. b.times *ℤ (entry node (before + b.row) j *ℤ v j)) (λ j h. ap (λ z. z *ℤ v j) (is.multiple j h) ∙ turn b.times (entry node (before + b.row) j) (v j))
+    ∙ sum_below-times node.columns b.times (λ j. entry node (before + b.row) j *ℤ v j)
+    ∙ ap (λ z. b.times *ℤ z) (rest (v (row_variable node (before + b.row))) _ _ (p.rows (before + b.row) lt))
   where
     turn : (a b c : ℤ) → (a *ℤ b) *ℤ c ≡ a *ℤ (b *ℤ c)
     turn a b c = simp ring
@@ -29,8 +29,8 @@ form_value node b is scale v p lt =
     rest : (a b c : ℤ) → a ≡ b +ℤ c → b ≡ a -ℤ c
     rest a b c e = omega (arith, ints)
 
-pub zero_value : (node : LinearSystem) (b : Bounded) → IsFormOf node b → b.times ≡ pos 0 → (v : ℕ → ℤ) → scaled_value node (form_of b) v ≡ pos 0
-zero_value node b is e v = sum_below-zero node.columns _ (λ j h. ap (λ z. z *ℤ v j) (is.multiple j h ∙ ap (λ t. t *ℤ entry node b.row j) e ∙ zero-*ℤ (entry node b.row j)) ∙ zero-*ℤ (v j))
+pub zero_value : (node : LinearSystem) (before : ℕ) (b : Bounded) → IsFormOf node before b → b.times ≡ pos 0 → (v : ℕ → ℤ) → scaled_value node (form_of b) v ≡ pos 0
+zero_value node before b is e v = sum_below-zero node.columns _ (λ j h. ap (λ z. z *ℤ v j) (is.multiple j h ∙ ap (λ t. t *ℤ entry node (before + b.row) j) e ∙ zero-*ℤ (entry node (before + b.row) j)) ∙ zero-*ℤ (v j))
 
 -- ---- over the denominator of the row's value
 

@@ -10,8 +10,9 @@ use Rattle.rg_branch.specs.declared.splits.Splits.{Splits}
 use Rattle.rg_linear.specs.Room.{room}
 use Rattle.rg_branch.specs.View.{forms_of}
 
--- one coefficient a column, a whole multiple of those of a row; the scale is positive, and the numbers are in range
-pub record IsFormOf (system : LinearSystem) (b : Bounded) : Type 0 where
+-- one coefficient a column, a whole multiple of those of a row, which is counted after the first rows, as many as `before`;
+-- the scale is positive, and the numbers are in range
+pub record IsFormOf (system : LinearSystem) (before : ℕ) (b : Bounded) : Type 0 where
   pub one_each : length (arc_slice_items b.coeffs) ≡ system.columns
   pub positive : pos 0 <ℤ b.scale
   pub scale_in_range : InRange b.scale
@@ -21,12 +22,12 @@ pub record IsFormOf (system : LinearSystem) (b : Bounded) : Type 0 where
   pub high_in_range : InRange (b.scale *ℤ b.high)
   pub not_negative : pos 0 ≤ℤ b.times
   pub times_in_range : InRange b.times
-  pub row_within : b.times ≢ pos 0 → b.row < length system.rows
-  pub multiple : (j : ℕ) → j < system.columns → slice_index_or (arc_slice_items b.coeffs) j (pos 0) ≡ b.times *ℤ entry system b.row j
+  pub row_within : b.times ≢ pos 0 → before + b.row < length system.rows
+  pub multiple : (j : ℕ) → j < system.columns → slice_index_or (arc_slice_items b.coeffs) j (pos 0) ≡ b.times *ℤ entry system (before + b.row) j
 
 -- the rows bound each form; columns, rows and all splits that the bounds allow are fewer than 2^32
-pub record CanBranch (system : LinearSystem) (forms : List Bounded) : Type 0 where
-  pub each : All (IsFormOf system) forms
+pub record CanBranch (system : LinearSystem) (before : ℕ) (forms : List Bounded) : Type 0 where
+  pub each : All (IsFormOf system before) forms
   pub bounded : AreBounded system (forms_of forms)
   pub few_forms : length forms < 2 ^ 32
   pub few : system.columns + length system.rows + room (forms_of forms) [] < 2 ^ 32

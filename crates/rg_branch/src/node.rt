@@ -15,7 +15,7 @@ use crate::relations::Relations;
 use crate::splits::Splits;
 use rg_feasible::{Dictionary, PivotWide, Settled};
 use rg_fraction::Fraction;
-use rg_linear::System;
+use rg_linear::{JoinedSystem, System};
 use rg_memory::NoMemory;
 use rg_revised::{Descent, Revised};
 use std::alloc::{AllocError, Global};
@@ -37,23 +37,24 @@ pub(crate) enum NodeEnd {
 pub(crate) fn settle_small(
     alloc: Global,
     revised: &mut Revised,
-    system: &System,
+    system: &JoinedSystem<'_>,
     forms: &[Bounded],
+    before: u32,
     splits: &Splits,
 ) -> Result<Option<NodeEnd>, NoMemory>
-    requires can { CanBranch system.now forms.now }
+    requires can { CanBranch system.now before forms.now }
     requires sides { AreSidesOf (forms_of forms.now) splits.now.above.items }
     requires rows { HasRowsOf (forms_of forms.now) splits.now }
     requires columns { revised.old.columns ≡ system.now.columns }
     ensures node { IfOk result (λ end. IfSome end (NodeTells system.now (forms_of forms.now) splits.now.above.items)) }
     ensures columns { revised.new.columns ≡ system.now.columns }
 {
-    let count = system.rows().len() + splits.rows.len();
+    let count = system.count() as usize + splits.rows.len();
     let ended = revised.settle(system, &splits.rows);
     let relations = Relations::OfColumns(revised);
     match ended {
         Descent::Point => {
-            let end = point_end(alloc, relations, system, forms)?;
+            let end = point_end(alloc, relations, system, forms, before)?;
             Ok(Some(end))
         }
         Descent::Refuted(_) => {
@@ -68,11 +69,12 @@ pub(crate) fn settle_small(
 pub(crate) fn settle_full(
     alloc: Global,
     full: &mut Option<Dictionary>,
-    system: &System,
+    system: &JoinedSystem<'_>,
     forms: &[Bounded],
+    before: u32,
     splits: &Splits,
 ) -> Result<NodeEnd, NoMemory>
-    requires can { CanBranch system.now forms.now }
+    requires can { CanBranch system.now before forms.now }
     requires sides { AreSidesOf (forms_of forms.now) splits.now.above.items }
     requires rows { HasRowsOf (forms_of forms.now) splits.now }
     ensures { IfOk result (NodeTells system.now (forms_of forms.now) splits.now.above.items) }
@@ -82,7 +84,7 @@ pub(crate) fn settle_full(
         *full = Some(Dictionary::new(alloc, &System::new(columns, Vec::new(alloc)))?);
     }
     match full {
-        Some(dictionary) => fill_and_settle(alloc, dictionary, system, forms, splits),
+        Some(dictionary) => fill_and_settle(alloc, dictionary, system, forms, before, splits),
         None => unreachable!(),
     }
 }
@@ -91,17 +93,18 @@ pub(crate) fn settle_full(
 fn fill_and_settle(
     alloc: Global,
     dictionary: &mut Dictionary,
-    system: &System,
+    system: &JoinedSystem<'_>,
     forms: &[Bounded],
+    before: u32,
     splits: &Splits,
 ) -> Result<NodeEnd, NoMemory>
-    requires can { CanBranch system.now forms.now }
+    requires can { CanBranch system.now before forms.now }
     requires sides { AreSidesOf (forms_of forms.now) splits.now.above.items }
     requires rows { HasRowsOf (forms_of forms.now) splits.now }
     ensures { IfOk result (NodeTells system.now (forms_of forms.now) splits.now.above.items) }
 {
     let columns = system.columns();
-    let count = system.rows().len() + splits.rows.len();
+    let count = system.count() as usize + splits.rows.len();
     dictionary.renew(alloc, system, &splits.rows)?;
     match dictionary.settle() {
         Settled::Wide(wide) => {
@@ -113,7 +116,7 @@ fn fill_and_settle(
             Ok(NodeEnd::Refuted(weights))
         }
         Settled::Point => {
-            let end = point_end(alloc, Relations::OfAll(dictionary), system, forms)?;
+            let end = point_end(alloc, Relations::OfAll(dictionary), system, forms, before)?;
             Ok(end)
         }
     }
@@ -123,14 +126,15 @@ fn fill_and_settle(
 fn point_end(
     alloc: Global,
     relations: Relations<'_>,
-    system: &System,
+    system: &JoinedSystem<'_>,
     forms: &[Bounded],
+    before: u32,
 ) -> Result<NodeEnd, AllocError>
-    requires can { CanBranch system.now forms.now }
+    requires can { CanBranch system.now before forms.now }
     requires point { (above : List SplitSide) × (members : List ℕ) × IsPointOf (node_system system.now (forms_of forms.now) above) members relations }
     ensures { (above : List SplitSide) (members : List ℕ) → IsPointOf (node_system system.now (forms_of forms.now) above) members relations.entry → IfOk result (NodeTells system.now (forms_of forms.now) above) }
 {
-    match first_fraction(relations, system, forms) {
+    match first_fraction(relations, system, forms, before) {
         Some((form, floor)) => Ok(NodeEnd::Fraction(form, floor)),
         None => {
             let values = values(alloc, relations, system.columns())?;

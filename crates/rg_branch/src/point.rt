@@ -12,24 +12,25 @@ use crate::bounded::Bounded;
 use crate::floor::{Multiple, floor_of_fraction};
 use crate::relations::Relations;
 use rg_fraction::Fraction;
-use rg_linear::System;
+use rg_linear::JoinedSystem;
 use std::alloc::{AllocError, Global};
 
 // The first form without a whole value at the point, and its floor.
 pub(crate) fn first_fraction(
     relations: Relations<'_>,
-    system: &System,
+    system: &JoinedSystem<'_>,
     forms: &[Bounded],
+    before: u32,
 ) -> Option<(u32, i64)>
-    requires forms { (further : List LinearRow) × (members : List ℕ) × AreFormsAt system.now further members relations forms.now }
+    requires forms { (further : List LinearRow) × (members : List ℕ) × AreFormsAt system.now before further members relations forms.now }
     requires few { length forms.now < 2 ^ 32 }
-    ensures first { (further : List LinearRow) (members : List ℕ) → AreFormsAt system.now further members relations.entry forms.now
+    ensures first { (further : List LinearRow) (members : List ℕ) → AreFormsAt system.now before further members relations.entry forms.now
         → IfSome result (λ s. IsFirstFraction (with_rows system.now further) members (forms_of forms.now) s.0 s.1) }
-    ensures none { (further : List LinearRow) (members : List ℕ) → AreFormsAt system.now further members relations.entry forms.now
+    ensures none { (further : List LinearRow) (members : List ℕ) → AreFormsAt system.now before further members relations.entry forms.now
         → IfNone result (AreWholeBelow (with_rows system.now further) members (forms_of forms.now) (length forms.now)) }
 {
     for (f, form) in forms.iter().enumerate() {
-        if let Some(floor) = fraction_floor(relations, system, form) {
+        if let Some(floor) = fraction_floor(relations, system, form, before) {
             return Some((f as u32, floor));
         }
     }
@@ -37,20 +38,26 @@ pub(crate) fn first_fraction(
 }
 
 // The floor of the form at the point, where it isn't whole.
-fn fraction_floor(relations: Relations<'_>, system: &System, form: &Bounded) -> Option<i64>
-    requires form { (further : List LinearRow) × (members : List ℕ) × IsFormAt system.now further members relations form.now }
-    ensures floor { (further : List LinearRow) (members : List ℕ) → IsFormAt system.now further members relations.entry form.now
+fn fraction_floor(
+    relations: Relations<'_>,
+    system: &JoinedSystem<'_>,
+    form: &Bounded,
+    before: u32,
+) -> Option<i64>
+    requires form { (further : List LinearRow) × (members : List ℕ) × IsFormAt system.now before further members relations form.now }
+    ensures floor { (further : List LinearRow) (members : List ℕ) → IsFormAt system.now before further members relations.entry form.now
         → IfSome result (HasFloor (with_rows system.now further) members (form_of form.now)) }
     ensures low { IfSome result (λ u. form.now.low ≤ℤ u) }
     ensures high { IfSome result (λ u. u <ℤ form.now.high) }
-    ensures whole { (further : List LinearRow) (members : List ℕ) → IsFormAt system.now further members relations.entry form.now
+    ensures whole { (further : List LinearRow) (members : List ℕ) → IsFormAt system.now before further members relations.entry form.now
         → IfNone result (IsWholeThere (with_rows system.now further) members (form_of form.now)) }
 {
     if form.times == 0 {
         return None;
     }
-    let value = relations.row_value(system, form.row);
-    let constant = constant_at(system, form.row);
+    let row = before + form.row;
+    let value = relations.row_value(system, row);
+    let constant = constant_at(system, row);
     floor_of_fraction(Multiple {
         value,
         constant,
@@ -62,12 +69,12 @@ fn fraction_floor(relations: Relations<'_>, system: &System, form: &Bounded) -> 
 }
 
 // The constant of a row.
-fn constant_at(system: &System, row: u32) -> i128
+fn constant_at(system: &JoinedSystem<'_>, row: u32) -> i128
     requires { row < length system.now.rows }
     ensures value { result ≡ (row_at system.now row).constant }
     ensures in_range { InRange result }
 {
-    system.rows()[row as usize].constant
+    system.row(row).constant
 }
 
 // The values of the columns.

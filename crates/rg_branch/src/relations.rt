@@ -8,7 +8,7 @@ ghost use Rattle.rg_branch.specs.Relating.{AreRelationsOf, IsRefutedBy};
 
 use rg_feasible::Dictionary;
 use rg_fraction::Fraction;
-use rg_linear::System;
+use rg_linear::JoinedSystem;
 use rg_revised::Revised;
 
 // The relations over the set at which a descent ended: those of the columns alone, or those of all variables.
@@ -20,13 +20,13 @@ pub(crate) enum Relations<'a> {
 
 impl Relations<'_> {
     // The value of a row of the system where every member is 0.
-    pub(crate) fn row_value(self, system: &System, row: u32) -> Fraction
+    pub(crate) fn row_value(self, system: &JoinedSystem<'_>, row: u32) -> Fraction
         requires row { row < length system.now.rows }
         requires are { (further : List LinearRow) × (members : List ℕ) × AreRelationsOf (with_rows system.now further) members self }
         ensures { (further : List LinearRow) (members : List ℕ) → AreRelationsOf (with_rows system.now further) members self.entry → (scale : ℤ) (v : ℕ → ℤ) → IsBasicPoint (with_rows system.now further) members scale v → IsValue result (v (row_variable system.now row)) scale }
     {
         match self {
-            Relations::OfColumns(revised) => revised.value(&system.rows()[row as usize]),
+            Relations::OfColumns(revised) => revised.value(system.row(row)),
             Relations::OfAll(dictionary) => dictionary.point(system.columns() + row),
         }
     }

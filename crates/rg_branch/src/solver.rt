@@ -9,7 +9,7 @@ use crate::node::{NodeEnd, settle_full, settle_small};
 use crate::splits::Splits;
 use crate::whole::{BranchStop, RawNode, Whole};
 use rg_feasible::Dictionary;
-use rg_linear::System;
+use rg_linear::JoinedSystem;
 use rg_memory::NoMemory;
 use rg_revised::Revised;
 use std::alloc::Global;
@@ -45,14 +45,17 @@ impl Solver {
         })
     }
 
-    /// As `solve_whole`. What was solved before doesn't matter, nor whether it came to an end.
+    /// As `solve_whole`, for a system of two lists. The row that a form names is counted after the first `before` rows
+    /// of the system: where these are the rows of the first list, the form names a row of the second one. What was
+    /// solved earlier doesn't matter, nor whether it came to an end.
     pub fn solve_whole(
         &mut self,
         alloc: Global,
-        system: &System,
+        system: &JoinedSystem<'_>,
         forms: &[Bounded],
+        before: u32,
     ) -> Result<Whole, BranchStop>
-        requires can { CanBranch system.now forms.now }
+        requires can { CanBranch system.now before forms.now }
         requires columns { self.old ≡ system.now.columns }
         ensures answer { IfOk result (IsAnswer system.now (forms_of forms.now)) }
         ensures sound { IfOk result (IsSound system.now (forms_of forms.now)) }
@@ -65,7 +68,7 @@ impl Solver {
         };
         let mut nodes = Vec::new(alloc);
         loop {
-            match self.node_end(alloc, system, forms, &splits)? {
+            match self.node_end(alloc, system, forms, before, &splits)? {
                 NodeEnd::Stopped(members, wide) => {
                     return Err(BranchStop::Wide {
                         above: splits.above,
@@ -93,20 +96,21 @@ impl Solver {
     fn node_end(
         &mut self,
         alloc: Global,
-        system: &System,
+        system: &JoinedSystem<'_>,
         forms: &[Bounded],
+        before: u32,
         splits: &Splits,
     ) -> Result<NodeEnd, NoMemory>
-        requires can { CanBranch system.now forms.now }
+        requires can { CanBranch system.now before forms.now }
         requires sides { AreSidesOf (forms_of forms.now) splits.now.above.items }
         requires rows { HasRowsOf (forms_of forms.now) splits.now }
         requires columns { self.old ≡ system.now.columns }
         ensures node { IfOk result (NodeTells system.now (forms_of forms.now) splits.now.above.items) }
         ensures columns { self.new ≡ self.old }
     {
-        match settle_small(alloc, &mut self.revised, system, forms, splits)? {
+        match settle_small(alloc, &mut self.revised, system, forms, before, splits)? {
             Some(end) => Ok(end),
-            None => settle_full(alloc, &mut self.full, system, forms, splits),
+            None => settle_full(alloc, &mut self.full, system, forms, before, splits),
         }
     }
 }

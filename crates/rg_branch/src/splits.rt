@@ -1,5 +1,5 @@
 //! The splits above a node.
-ghost use Rattle.std.specs.Prelude.{◌≡◌, ◌++◌, ◌∷◌, [], map, OnOk};
+ghost use Rattle.std.specs.Prelude.{◌≡◌, ◌++◌, ◌∷◌, [], ℕ, map, OnOk};
 ghost use Rattle.rg_linear.specs.System.{LinearSystem};
 ghost use Rattle.rg_branch_trees.specs.Trees.{low_side};
 ghost use Rattle.rg_branch_trees.specs.Turning.{turned};
@@ -31,7 +31,7 @@ impl Splits {
         form: u32,
         at: i64,
     ) -> Result<(), NoMemory>
-        requires can { (system : LinearSystem) × CanBranch system forms.now }
+        requires can { (system : LinearSystem) × (before : ℕ) × CanBranch system before forms.now }
         requires side { IsSideOf (forms_of forms.now) (low_side form at) }
         requires rows { HasRowsOf (forms_of forms.now) self.old }
         ensures above { OnOk result (self.new.above.items ≡ self.old.above.items ++ low_side form at ∷ []) }
@@ -48,7 +48,7 @@ impl Splits {
 
     // Goes to the splits above the next node, past a tree that is done.
     pub(crate) fn turn(&mut self, alloc: Global, forms: &[Bounded]) -> Result<(), NoMemory>
-        requires can { (system : LinearSystem) × CanBranch system forms.now }
+        requires can { (system : LinearSystem) × (before : ℕ) × CanBranch system before forms.now }
         requires sides { AreSidesOf (forms_of forms.now) self.old.above.items }
         requires rows { HasRowsOf (forms_of forms.now) self.old }
         ensures above { OnOk result (self.new.above.items ≡ turned self.old.above.items) }
@@ -71,7 +71,7 @@ fn push_row(
     forms: &[Bounded],
     side: Side<u32>,
 ) -> Result<(), NoMemory>
-    requires can { (system : LinearSystem) × CanBranch system forms.now }
+    requires can { (system : LinearSystem) × (before : ℕ) × CanBranch system before forms.now }
     requires side { IsSideOf (forms_of forms.now) side }
     ensures { OnOk result (map linear_row rows.new.items ≡ map linear_row rows.old.items ++ side_row (forms_of forms.now) side ∷ []) }
 {

@@ -1,7 +1,7 @@
 //! Systems and forms from tables of numbers.
 ghost use Rattle.std.specs.Prelude.{◌≡◌, ◌+◌, ◌<◌, ◌^◌, All, length, IfOk};
 ghost use Rattle.rg_integers.specs.Range.{InRange};
-ghost use Rattle.rg_linear.specs.View.{linear_row};
+ghost use Rattle.rg_linear.specs.View.{linear_row, linear_system, IsWellFormed};
 
 use rg_branch::Bounded;
 use rg_branch_trees::Side;
@@ -54,17 +54,27 @@ fn row(alloc: Global, columns: u32, told: Told) -> Result<Row, AllocError>
     Row::new(coeffs, keep_in_range(told.constant))
 }
 
-/// The system of these rows.
-pub(crate) fn system(alloc: Global, columns: u32, rows: &[Told]) -> Result<System, AllocError>
-    requires { columns + length rows.now < 2 ^ 32 }
-    ensures columns { IfOk result (λ s. s.columns ≡ columns) }
-    ensures rows { IfOk result (λ s. length s.rows ≡ length rows.now) }
+/// These rows, each of so many coefficients.
+pub(crate) fn rows(alloc: Global, columns: u32, told: &[Told]) -> Result<Vec<Row>, AllocError>
+    requires { columns + length told.now < 2 ^ 32 }
+    ensures count { IfOk result (λ v. length v.items ≡ length told.now) }
+    ensures well_formed { IfOk result (λ v. IsWellFormed (linear_system columns v.items)) }
 {
-    let mut list = Vec::new(alloc);
-    for &told in rows {
-        list.push(row(alloc, columns, told)?)?;
+    let mut rows = Vec::new(alloc);
+    for &one in told {
+        rows.push(row(alloc, columns, one)?)?;
     }
-    Ok(System::new(columns, list))
+    Ok(rows)
+}
+
+/// The system of these rows.
+pub(crate) fn system(alloc: Global, columns: u32, told: &[Told]) -> Result<System, AllocError>
+    requires { columns + length told.now < 2 ^ 32 }
+    ensures columns { IfOk result (λ s. s.columns ≡ columns) }
+    ensures rows { IfOk result (λ s. length s.rows ≡ length told.now) }
+{
+    let rows = rows(alloc, columns, told)?;
+    Ok(System::new(columns, rows))
 }
 
 /// These forms.

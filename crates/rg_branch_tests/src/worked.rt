@@ -1,14 +1,14 @@
 //! Small systems worked by hand.
-ghost use Rattle.std.specs.Prelude.{◌≡◌, IfOk};
+ghost use Rattle.std.specs.Prelude.{◌≡◌, ◌<◌, length, IfOk};
 ghost use Rattle.rg_branch.specs.Asked.{CanBranch};
 
-use crate::systems::{Told, ToldForm, forms, sides, system};
-use rg_bounded_forms::{Top, can_branch};
+use crate::systems::{Told, ToldForm, forms, rows as linear_rows, sides, system};
+use rg_bounded_forms::{Top, can_branch, can_branch_after};
 use rg_branch::{Bounded, BranchStop, RawNode, Solver, Whole, solve_whole};
 use rg_feasible::PivotWide;
 use rg_fraction::Fraction;
 use rg_integers::Wide;
-use rg_linear::System;
+use rg_linear::{JoinedSystem, RowList, System};
 use std::alloc::{AllocError, Global};
 use std::process::Abort;
 use std::test::Fail;
@@ -89,15 +89,9 @@ fn branches(
     branches_on(rt, rows, &list, &tops, wanted)
 }
 
-// The system of these rows, with these forms.
-fn system_of_rows(
-    rt: &(impl Abort + AllocGlobal),
-    rows: &[Row],
-    told: &[ToldForm],
-    tops: &[Top],
-) -> Result<(System, Vec<Bounded>), Fail>
-    ensures can { IfOk result (λ a. CanBranch a.0 a.1.items) }
-    ensures columns { IfOk result (λ a. a.0.columns ≡ 2) }
+// These rows, which are fewer than 1,000.
+fn told_rows<'a>(rt: &(impl Abort + AllocGlobal), rows: &'a [Row]) -> Result<Vec<Told<'a>>, Fail>
+    ensures { IfOk result (λ v. length v.items < 1000) }
 {
     let mut list = Vec::new(rt.alloc());
     for (coeffs, constant) in rows {
@@ -107,6 +101,20 @@ fn system_of_rows(
         })?;
     }
     assert!(rt; list.len() < 1000);
+    Ok(list)
+}
+
+// The system of these rows, with these forms.
+fn system_of_rows(
+    rt: &(impl Abort + AllocGlobal),
+    rows: &[Row],
+    told: &[ToldForm],
+    tops: &[Top],
+) -> Result<(System, Vec<Bounded>), Fail>
+    ensures can { IfOk result (λ a. CanBranch a.0 0 a.1.items) }
+    ensures columns { IfOk result (λ a. a.0.columns ≡ 2) }
+{
+    let list = told_rows(rt, rows)?;
     let system = system(rt.alloc(), 2, &list)?;
     let forms = forms(rt.alloc(), told)?;
     assert!(rt; can_branch(&system, &forms, tops), "{rows:?}");
@@ -127,6 +135,32 @@ fn branches_on(
     Ok(())
 }
 
+// Branching over the system whose rows are in two lists, the first one with so many of these rows, has this answer. The
+// forms and their tops name rows of the second list.
+fn branches_after(
+    rt: &(impl Abort + AllocGlobal),
+    rows: &[Row],
+    before: u32,
+    told: &[Form],
+    wanted: Answer,
+) -> Result<(), Fail> {
+    let (list, tops) = forms_of(rt.alloc(), told)?;
+    let forms = forms(rt.alloc(), &list)?;
+    let list = told_rows(rt, rows)?;
+    let mut own = linear_rows(rt.alloc(), 2, &list)?;
+    assert!(rt; before as usize <= own.len());
+    let shared = RowList::new(own.split_off(before as usize)?);
+    let joined = JoinedSystem::new(2, &own, &shared);
+    assert!(rt;
+        can_branch_after(&joined, &forms, before, &tops),
+        "{rows:?}"
+    );
+    let mut solver = Solver::new(rt.alloc(), 2)?;
+    let found = solver.solve_whole(rt.alloc(), &joined, &forms, before);
+    assert_eq!(rt; found, result_of(rt.alloc(), wanted)?, "{rows:?}");
+    Ok(())
+}
+
 // The solver gives over these rows and forms what `solve_whole` does.
 fn serves(
     rt: &(impl Abort + AllocGlobal),
@@ -139,7 +173,7 @@ fn serves(
     ensures { solver.new ≡ 2 }
 {
     let (system, forms) = system_of_rows(rt, rows, told, tops)?;
-    let found = solver.solve_whole(rt.alloc(), &system, &forms);
+    let found = solver.solve_whole(rt.alloc(), &JoinedSystem::of(&system), &forms, 0);
     assert_eq!(rt; found, solve_whole(rt.alloc(), &system, &forms), "{rows:?}");
     Ok(())
 }
@@ -302,6 +336,19 @@ fn whole_columns(rt: HostRuntime) -> Result<(), Fail> {
     let behind_two = Answer::Point(&[(2, 1), (0, 1)], &[(0, 1, true)]);
     branches(&rt, &TWO_SPLITS, &COLUMNS, behind_two)?;
     branches(&rt, &THREE_SPLITS, &COLUMNS, Answer::Tree(&THREE_TREE))
+}
+
+// The same forms, with rows counted after the first two.
+const COLUMNS_AFTER_TWO: [Form; 2] = [(1, [1, 0], 0, 3, 0, (2, 1)), (1, [0, 1], 0, 3, 1, (3, 1))];
+
+#[test]
+fn rows_in_two_lists(rt: HostRuntime) -> Result<(), Fail> {
+    let point = Answer::Point(&[(2, 1), (0, 1)], &[(0, 1, true)]);
+    branches(&rt, &TWO_SPLITS, &COLUMNS, point)?;
+    branches_after(&rt, &TWO_SPLITS, 2, &COLUMNS_AFTER_TWO, point)?;
+    let tree = Answer::Tree(&THREE_TREE);
+    branches(&rt, &THREE_SPLITS, &COLUMNS, tree)?;
+    branches_after(&rt, &THREE_SPLITS, 2, &COLUMNS_AFTER_TWO, tree)
 }
 
 const MOST: i128 = i128::MAX;

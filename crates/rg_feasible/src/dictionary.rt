@@ -15,7 +15,7 @@ use crate::descent::descend;
 use crate::relation_table::RelationTable;
 use crate::settled::Settled;
 use rg_fraction::Fraction;
-use rg_linear::{Row, System};
+use rg_linear::{JoinedSystem, Row, System};
 use rg_memory::NoMemory;
 use std::alloc::{AllocError, Global};
 use std::marker::Model;
@@ -59,17 +59,23 @@ impl Dictionary {
     /// Makes it the dictionary of the system with the rows `further` after its own, over its columns, as `new` does.
     /// It takes memory only if it never had so many rows, or has another number of columns. Returns `NoMemory` if
     /// memory runs out; then it is as before.
-    pub fn renew(&mut self, alloc: Global, system: &System, further: &[Row]) -> Result<(), NoMemory>
+    pub fn renew(
+        &mut self,
+        alloc: Global,
+        system: &JoinedSystem<'_>,
+        further: &[Row],
+    ) -> Result<(), NoMemory>
         requires { IsWellFormed (with_rows system.now (map linear_row further.now)) }
         ensures dictionary { OnOk result (IsDictionaryOf (with_rows system.now (map linear_row further.now)) self.new) }
         ensures fresh { OnOk result (IsFresh self.new) }
         ensures succeeds { self.old.table.columns ≡ system.now.columns → length system.now.rows + length further.now ≤ self.old.table.rows + self.old.table.room → IsOk result }
         ensures as_before { OnErr result (self.new ≡ self.old) }
     {
-        let rows = system.rows();
-        let count = rows.len() + further.len();
+        let (own, shared) = system.lists();
+        let count = own.len() + shared.len() + further.len();
         self.restart(alloc, system.columns(), count as u32)?;
-        add_rows(&mut self.table, rows);
+        add_rows(&mut self.table, own);
+        add_rows(&mut self.table, shared);
         add_rows(&mut self.table, further);
         Ok(())
     }

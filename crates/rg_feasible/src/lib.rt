@@ -16,7 +16,7 @@ mod table;
 
 pub use dictionary::Dictionary;
 pub use relation_table::RelationTable;
-pub use rg_linear::{Row, System};
+pub use rg_linear::{JoinedSystem, Row, System};
 pub use rg_memory::NoMemory;
 pub use settled::{PivotWide, Settled};
 pub use table::ExchangeWide;

@@ -12,6 +12,7 @@
 pub mod branching;
 pub mod cycle;
 pub mod descent;
+mod joined;
 mod row;
 pub mod samples;
 pub mod stack;
@@ -26,6 +27,7 @@ ghost use Rattle.rg_integers.specs.Term.{term_value};
 ghost use Rattle.rg_linear.specs.Exchange.{without, exchanged, terms, AllFit, FirstWide, renewed, turned, IsReduced, SetFits};
 ghost use Rattle.rg_linear.specs.Descent.{IsAtZero};
 
+pub use joined::{JoinedSystem, RowList};
 pub use row::{Row, norm};
 pub use system::{System, largest_norm};
 

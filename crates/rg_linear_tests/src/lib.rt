@@ -10,6 +10,8 @@ mod dictionaries;
 #[cfg(test)]
 mod fractions;
 #[cfg(test)]
+mod joined;
+#[cfg(test)]
 mod laws;
 #[cfg(test)]
 mod narrow;

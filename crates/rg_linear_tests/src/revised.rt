@@ -1,6 +1,6 @@
 //! The revised dictionary ends as the full one does, but where a number is too large for it.
 ghost use Rattle.std.specs.Prelude.{◌≡◌, ℕ, ◌+◌, ◌<◌, ◌≤◌, ◌^◌, List, length, map};
-ghost use Rattle.rg_linear.specs.System.{LinearSystem};
+ghost use Rattle.rg_linear.specs.System.{LinearSystem, with_rows};
 ghost use Rattle.rg_linear.specs.View.{linear_row, linear_system, IsWellFormed};
 ghost use Rattle.rg_revised.specs.Settling.{IsHeldOf, IsRefutedAt};
 
@@ -9,16 +9,16 @@ use crate::descents::{
     shown_of,
 };
 use rg_feasible::Settled;
-use rg_linear::{Row, System};
+use rg_linear::{JoinedSystem, Row, System};
 use rg_revised::{Descent, Revised};
 use std::alloc::{AllocError, Global};
 
-// What a revised dictionary shows once it is settled: the values of the columns, and the multipliers of the rows.
-#[derive(Drop)]
-struct Small {
-    ended: Descent,
-    values: Vec<(i128, i128)>,
-    multipliers: Vec<i128>,
+/// What a revised dictionary shows once it is settled: the values of the columns, and the multipliers of the rows.
+#[derive(PartialEq, Drop)]
+pub(crate) struct Small {
+    pub(crate) ended: Descent,
+    pub(crate) values: Vec<(i128, i128)>,
+    pub(crate) multipliers: Vec<i128>,
 }
 
 fn values(alloc: Global, revised: &Revised, columns: u32) -> Result<Vec<(i128, i128)>, AllocError>
@@ -44,13 +44,18 @@ fn multipliers(alloc: Global, revised: &Revised, rows: u32) -> Result<Vec<i128>,
     Ok(multipliers)
 }
 
-// What the revised dictionary shows where a system without a row gets these rows.
-fn show(alloc: Global, columns: u32, rows: &[Row]) -> Result<Small, AllocError>
-    requires { IsWellFormed (linear_system columns rows.now) }
+/// What the revised dictionary of the system with these rows after its own shows.
+pub(crate) fn show(
+    alloc: Global,
+    system: &JoinedSystem<'_>,
+    further: &[Row],
+) -> Result<Small, AllocError>
+    requires { IsWellFormed (with_rows system.now (map linear_row further.now)) }
 {
-    let none = System::new(columns, Vec::new(alloc));
+    let columns = system.columns();
+    let count = system.count() + further.len() as u32;
     let mut revised = Revised::new(alloc, columns)?;
-    let ended = revised.settle(&none, rows);
+    let ended = revised.settle(system, further);
     let mut small = Small {
         ended,
         values: Vec::new(alloc),
@@ -58,18 +63,19 @@ fn show(alloc: Global, columns: u32, rows: &[Row]) -> Result<Small, AllocError>
     };
     match ended {
         Descent::Point => small.values = values(alloc, &revised, columns)?,
-        Descent::Refuted(_) => small.multipliers = multipliers(alloc, &revised, rows.len() as u32)?,
+        Descent::Refuted(_) => small.multipliers = multipliers(alloc, &revised, count)?,
         Descent::Large => {}
     }
     Ok(small)
 }
 
-// What the revised dictionary of these rows shows.
-fn settle_small(alloc: Global, columns: u32, rows: &[Row]) -> Option<Small> {
+/// What the revised dictionary shows where a system without a row gets these rows.
+pub(crate) fn settle_small(alloc: Global, columns: u32, rows: &[Row]) -> Option<Small> {
     if !is_well_formed(columns, rows) {
         return None;
     }
-    show(alloc, columns, rows).ok()
+    let none = System::new(columns, Vec::new(alloc));
+    show(alloc, &JoinedSystem::of(&none), rows).ok()
 }
 
 // Whether both show the same.

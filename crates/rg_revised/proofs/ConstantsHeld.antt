@@ -15,7 +15,7 @@ use Rattle.rg_revised.specs.Reading.{IsRead, constant_over}
 use Rattle.rg_revised.specs.View.{BasisState}
 use Rattle.rg_revised.specs.State.{IsSmallHeld, HasConstants, IsRow}
 use Rattle.rg_revised.proofs.Relations.{row_passes}
-use Rattle.rg_revised.proofs.Rows.{row_follows}
+use Rattle.rg_revised.proofs.RowRelations.{row_follows}
 
 module _ (b : BasisState) (constants : List ℤ) (named : List ℕ) (h : HasConstants b constants named) where
   -- the constant among the numbers that were read

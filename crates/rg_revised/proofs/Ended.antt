@@ -1,4 +1,4 @@
--- How a descent over a system's rows and further ones ends.
+-- How a descent over the rows of a system, which are in two lists, and further ones ends.
 use Rattle.std.proofs.Common.{◌≡◌, ◌⊎◌, inl, inr, ℕ, ◌+◌, ◌-◌, ◌*◌, ◌^◌, ◌<◌, ◌≤◌, max, Bool, true, false, List, [], ◌++◌, length, length-append, map, Some, ap, ap₂, refl, subst, sym, ◌∙◌, arith, le_refl}
 use Rattle.std.specs.Prelude.{pos}
 use Rattle.std.proofs.lemmas.Bool.{cases_lt, false≢true}
@@ -20,10 +20,10 @@ use Rattle.rg_revised.specs.declared.descent.Descent.TheVariants.{Point, Refuted
 
 -- ---- the system
 
-pub rows_behind : (system : LinearSystem) (columns : ℕ) (own further : List Row) → columns ≡ system.columns → map linear_row own ≡ system.rows
-    → linear_system columns (own ++ further) ≡ with_rows system (map linear_row further)
-rows_behind system columns own further same are = ap₂ (λ n (rs : List LinearRow). record { columns = n; rows = rs }) same
-    (map-append linear_row own further ∙ ap (λ xs. xs ++ map linear_row further) are)
+pub rows_behind : (system : LinearSystem) (columns : ℕ) (own shared further : List Row) → columns ≡ system.columns → map linear_row own ++ map linear_row shared ≡ system.rows
+    → linear_system columns (own ++ shared ++ further) ≡ with_rows system (map linear_row further)
+rows_behind system columns own shared further same are = ap₂ (λ n (rs : List LinearRow). record { columns = n; rows = rs }) same
+    (map-append linear_row (own ++ shared) further ∙ ap (λ xs. xs ++ map linear_row further) (map-append linear_row own shared ∙ are))
 
 -- ---- norms
 
@@ -52,10 +52,10 @@ norms_of own further a b n first second greater small i lt = go (cases_lt i (len
         subst (λ m. m ≤ n) (sym (norm_is _ _ (get_or-append_right own further (length own) i (record { coeffs = []; constant = pos 0 }) refl past)))
         (below _ _ (at_most (length further) (norm_at further) (i - length own) inside) (unkept (greatest_norm further) b a n second (turned_max a b n greater) small))
 
-pub has_norms : (system : LinearSystem) (columns : ℕ) (own further : List Row) → columns ≡ system.columns → map linear_row own ≡ system.rows → (a b n most : ℕ)
-    → a ≡ kept_norm (greatest_norm system.rows) → b ≡ kept_norm (greatest_norm (map linear_row further)) → n ≡ max a b → 1 ≤ most → (n + 1) * most < 2 ^ 63
-    → HasNorms (linear_system columns (own ++ further)) n
-has_norms system columns own further same are a b n most first second greater some room = subst (λ s. HasNorms s n) (sym (rows_behind system columns own further same are))
+pub has_norms : (system : LinearSystem) (columns : ℕ) (own shared further : List Row) → columns ≡ system.columns → map linear_row own ++ map linear_row shared ≡ system.rows
+    → (a b n most : ℕ) → a ≡ kept_norm (greatest_norm system.rows) → b ≡ kept_norm (greatest_norm (map linear_row further)) → n ≡ max a b → 1 ≤ most → (n + 1) * most < 2 ^ 63
+    → HasNorms (linear_system columns (own ++ shared ++ further)) n
+has_norms system columns own shared further same are a b n most first second greater some room = subst (λ s. HasNorms s n) (sym (rows_behind system columns own shared further same are))
     (norms_of system.rows (map linear_row further) a b n first second greater (small n most some room))
   where
     small : (n most : ℕ) → 1 ≤ most → (n + 1) * most < 2 ^ 63 → n < 2 ^ 63

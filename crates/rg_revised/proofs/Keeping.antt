@@ -24,7 +24,7 @@ use Rattle.rg_revised.specs.Rows.{RowWithin}
 use Rattle.rg_revised.specs.View.{BasisState}
 use Rattle.rg_revised.specs.Held.{relation_of, column_relation, IsHeld, IsPivot, AreRowNumbers}
 use Rattle.rg_revised.proofs.Relations.{member_has_no_constant}
-use Rattle.rg_revised.proofs.Rows.{row_follows}
+use Rattle.rg_revised.proofs.RowRelations.{row_follows}
 use Rattle.rg_revised.proofs.Renewing.{basis_renewed}
 use Rattle.rg_linear.proofs.TableLemmas.{beside_none}
 use Rattle.rg_revised.proofs.Slots.{beside_at, set_Contains, Contains-set_new, Contains-set_old, distinct-set}

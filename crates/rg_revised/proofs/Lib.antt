@@ -1,5 +1,5 @@
 pub mod Relations
-pub mod Rows
+pub mod RowRelations
 pub mod Renewing
 pub mod Fitting
 pub mod Small

@@ -14,7 +14,7 @@ use Rattle.rg_linear.specs.Norm.{norm_at}
 use Rattle.rg_integers.proofs.Signs.{abs-plus, abs-times, abs-factor}
 use Rattle.rg_revised.specs.Basis.{IsRelationOf, IsBasis, row_over, IsWithin, AreWithin, HasNorms, IsSmall}
 use Rattle.rg_revised.proofs.Relations.{reduced_from}
-use Rattle.rg_revised.proofs.Rows.{row_follows}
+use Rattle.rg_revised.proofs.RowRelations.{row_follows}
 use Rattle.rg_revised.proofs.Fitting.{AllWithin, fits_where_small}
 
 -- ---- sums

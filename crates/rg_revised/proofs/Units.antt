@@ -17,7 +17,7 @@ use Rattle.rg_revised.specs.Held.{AreDistinct, relation_of, column_relation, IsH
 use Rattle.rg_revised.specs.View.{BasisState}
 use Rattle.rg_revised.specs.Starting.{IsUnitRow, IsUnitTable, IsUnitBasis}
 use Rattle.rg_revised.specs.State.{IsSmallHeld}
-use Rattle.rg_revised.proofs.Rows.{columns_basis}
+use Rattle.rg_revised.proofs.RowRelations.{columns_basis}
 use Rattle.rg_linear.proofs.TableLemmas.{beside_none}
 use Rattle.rg_revised.proofs.Slots.{beside_at}
 

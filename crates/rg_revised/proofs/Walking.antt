@@ -21,7 +21,7 @@ use Rattle.rg_revised.specs.View.{BasisState}
 use Rattle.rg_revised.specs.State.{IsSmallHeld, IsExchangeOf, HasRoom, IsRow}
 use Rattle.rg_revised.specs.Walk.{NamesColumn}
 use Rattle.rg_revised.proofs.Relations.{multiple_row, row_skipped, row_picks}
-use Rattle.rg_revised.proofs.Rows.{row_follows}
+use Rattle.rg_revised.proofs.RowRelations.{row_follows}
 use Rattle.rg_linear.proofs.TableLemmas.{beside_none}
 use Rattle.rg_revised.proofs.Slots.{beside_at}
 use Rattle.rg_revised.proofs.Stepping.{relation}

@@ -1,5 +1,6 @@
 pub mod Basis
 pub mod Rows
+pub mod Lists
 pub mod Few
 pub mod Long
 pub mod Held

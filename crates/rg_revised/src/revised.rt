@@ -8,6 +8,7 @@ ghost use Rattle.rg_linear.specs.Dictionary.{Relation, DictionaryRow};
 ghost use Rattle.rg_linear.specs.Descent.{multiplier_of, IsBasicPoint};
 ghost use Rattle.rg_linear.specs.View.{linear_row, linear_system, IsWellFormed};
 ghost use Rattle.rg_revised.specs.Basis.{HasNorms};
+ghost use Rattle.rg_revised.specs.Lists.{rows_of};
 ghost use Rattle.rg_revised.specs.Ending.{EndTells};
 ghost use Rattle.rg_revised.specs.State.{HasRoomIn};
 ghost use Rattle.rg_revised.specs.Settling.{IsHeldOf, IsRefutedAt, IsDescent};
@@ -15,10 +16,11 @@ ghost use Rattle.rg_revised.specs.Settling.{IsHeldOf, IsRefutedAt, IsDescent};
 use crate::descent::{Descent, descend};
 use crate::factor::divide_by_factor;
 use crate::room::Room;
+use crate::rows::Rows;
 use crate::tableau::Tableau;
 use crate::value::{column_value, row_value};
 use rg_fraction::Fraction;
-use rg_linear::{Row, System, largest_norm};
+use rg_linear::{JoinedSystem, Row, largest_norm};
 use std::alloc::{AllocError, Global};
 use std::marker::Model;
 
@@ -60,48 +62,46 @@ pub(crate) fn most_for(norm: u64) -> Option<i64>
     Some(most as i64)
 }
 
-// Makes the descent of the system of these rows, the further ones last, from the start, with this room.
+// Makes the descent of the system of these rows from the start, with this room.
 fn descend_from_start(
     tableau: &mut Tableau,
     columns: u32,
-    own: &[Row],
-    further: &[Row],
+    rows: Rows<'_>,
     stack: &mut Vec<u32>,
     room: Room,
 ) -> Descent
-    requires well_formed { IsWellFormed (linear_system columns (own.now ++ further.now)) }
+    requires well_formed { IsWellFormed (linear_system columns (rows_of rows)) }
     requires columns { length tableau.old.basis.slots ≡ columns }
     requires not_negative { pos 0 ≤ℤ room.most }
-    requires room { HasRoomIn (linear_system columns (own.now ++ further.now)) room.norm (unsigned_abs room.most) room.long }
+    requires room { HasRoomIn (linear_system columns (rows_of rows)) room.norm (unsigned_abs room.most) room.long }
     requires stack { columns < vec_capacity stack.old }
-    ensures outcome { EndTells (linear_system columns (own.now ++ further.now)) tableau.new result }
+    ensures outcome { EndTells (linear_system columns (rows_of rows.entry)) tableau.new result }
     ensures columns { length tableau.new.basis.slots ≡ columns }
     ensures stack { columns < vec_capacity stack.new }
 {
     stack.clear();
     tableau.restart(room);
-    descend(tableau, columns, own, further, stack)
+    descend(tableau, columns, rows, stack)
 }
 
 // The same, where a short descent may end with a number that is too large: then a long one is made.
 fn descend_twice(
     tableau: &mut Tableau,
     columns: u32,
-    own: &[Row],
-    further: &[Row],
+    rows: Rows<'_>,
     stack: &mut Vec<u32>,
     room: Room,
 ) -> Descent
-    requires well_formed { IsWellFormed (linear_system columns (own.now ++ further.now)) }
+    requires well_formed { IsWellFormed (linear_system columns (rows_of rows)) }
     requires columns { length tableau.old.basis.slots ≡ columns }
     requires not_negative { pos 0 ≤ℤ room.most }
-    requires room { HasRoomIn (linear_system columns (own.now ++ further.now)) room.norm (unsigned_abs room.most) room.long }
+    requires room { HasRoomIn (linear_system columns (rows_of rows)) room.norm (unsigned_abs room.most) room.long }
     requires stack { columns < vec_capacity stack.old }
-    ensures outcome { EndTells (linear_system columns (own.now ++ further.now)) tableau.new result }
+    ensures outcome { EndTells (linear_system columns (rows_of rows.entry)) tableau.new result }
     ensures columns { length tableau.new.basis.slots ≡ columns }
     ensures stack { columns < vec_capacity stack.new }
 {
-    match descend_from_start(tableau, columns, own, further, stack, room) {
+    match descend_from_start(tableau, columns, rows, stack, room) {
         Descent::Point => Descent::Point,
         Descent::Refuted(row) => Descent::Refuted(row),
         Descent::Large => {
@@ -110,7 +110,7 @@ fn descend_twice(
                 most: 1,
                 long: true,
             };
-            descend_from_start(tableau, columns, own, further, stack, room)
+            descend_from_start(tableau, columns, rows, stack, room)
         }
     }
 }
@@ -138,7 +138,7 @@ impl Revised {
     ///
     /// `Descent::Point` and `Descent::Refuted` are the outcome of the order of work. `Descent::Large` says nothing of the
     /// system.
-    pub fn settle(&mut self, system: &System, further: &[Row]) -> Descent
+    pub fn settle(&mut self, system: &JoinedSystem<'_>, further: &[Row]) -> Descent
         requires columns { self.old.columns ≡ system.now.columns }
         requires well_formed { IsWellFormed (with_rows system.now (map linear_row further.now)) }
         ensures outcome { IsDescent (with_rows system.now (map linear_row further.now)) self.new result }
@@ -154,15 +154,13 @@ impl Revised {
             long: false,
         };
         let columns = system.columns();
-        let rows = system.rows();
-        let ended = descend_twice(
-            &mut self.tableau,
-            columns,
-            rows,
+        let (own, shared) = system.lists();
+        let rows = Rows {
+            own,
+            shared,
             further,
-            &mut self.stack,
-            room,
-        );
+        };
+        let ended = descend_twice(&mut self.tableau, columns, rows, &mut self.stack, room);
         if let Descent::Refuted(row) = ended {
             self.failing = Some(row);
             self.factor = self.tableau.common_factor();

@@ -12,11 +12,12 @@ mod Assembling
 mod Terms
 mod Sharing
 mod Parts
-mod Copies
+pub mod FormsAfter
 mod Joining
 mod Dividing
 mod Forming
 mod Counted
 mod Hashing
 mod SharedNames
+mod NamedCases
 mod SharedCase

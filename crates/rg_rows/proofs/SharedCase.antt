@@ -1,15 +1,11 @@
 -- The system of a case, where the rows that all cases share come after its own.
-use Rattle.std.proofs.Common.{◌≡◌, ⊎_elim, ℕ, ◌+◌, ◌*◌, ◌^◌, ◌<◌, ◌≤◌, List, [], ◌++◌, map, length, All, Ok, Err, ap, refl, subst, sym, ◌∙◌, arith}
-use Rattle.std.specs.Prelude.{pos, ◌<ℤ◌, slice_index_or, IsFalse}
+use Rattle.std.proofs.Common.{◌≡◌, ℕ, ◌+◌, ◌*◌, ◌^◌, ◌<◌, ◌≤◌, List, [], ◌++◌, map, length, All, Ok, Err, ap, refl, subst, sym, ◌∙◌, arith}
+use Rattle.std.specs.Prelude.{pos, ◌<ℤ◌, IsFalse}
 use Rattle.std.specs.Arc.{arc_slice_items}
 use Rattle.std.proofs.lemmas.List.{length-append, length-map, map-append}
 use Rattle.std.proofs.lemmas.List.Elements.{All-append}
-use Rattle.std.proofs.lemmas.Option.{slice_get_within}
-use Rattle.rg_theory.specs.declared.Class.{Class}
 use Rattle.rg_theory.specs.ClassWords.{HasNumbersInRange}
-use Rattle.rg_theory.specs.System.{System, states, labels}
-use Rattle.rg_linear.specs.Branching.{Form}
-use Rattle.rg_linear.specs.Cycle.{IsZeroVector}
+use Rattle.rg_theory.specs.System.{states, labels}
 use Rattle.rg_linear.specs.Firsts.{KeepsEqualRows}
 use Rattle.rg_linear.specs.View.{linear_row, linear_system, IsWellFormed}
 use Rattle.rg_linear.specs.declared.row.Row.{Row}
@@ -27,37 +23,22 @@ use Rattle.rg_rows.specs.declared.kept.CaseRows.{CaseRows}
 use Rattle.rg_rows.specs.declared.named_form.NamedForm.{NamedForm}
 use Rattle.rg_rows.specs.declared.shared_rows.SharedRows.{SharedRows}
 use Rattle.rg_rows.specs.View.{kept_row, columns_in, fold_of, ShowsRows, AreIndices}
-use Rattle.rg_rows.specs.Forms.{PlainForm, plain_form, form_after, linear_form, split_of, forms_in, StandsInRow, AreFormsOf}
+use Rattle.rg_rows.specs.Forms.{form_after, forms_after, linear_form, split_of, StandsInRow, AreFormsOf}
 use Rattle.rg_rows.specs.Making.{IsMade}
 use Rattle.rg_rows.specs.Sharing.{shared_names, AreSharedRows}
 use Rattle.rg_rows.proofs.Assembling.{all_stand, all_forms}
-use Rattle.rg_rows.proofs.Copies.{as_told, each_as, made_after}
+use Rattle.rg_rows.proofs.FormsAfter.{each_mapped, linear_after, split_after, made_after}
 use Rattle.rg_rows.proofs.FormNames.{shared_forms}
-use Rattle.rg_rows.proofs.FormTimes.{times_zero}
 use Rattle.rg_rows.proofs.Forming.{names_few, well_formed}
 use Rattle.rg_rows.proofs.Joining.{kept_append, signs_differ, indices_append, names_alone, each_joined}
 use Rattle.rg_rows.proofs.Making.{case_made, case_fails}
 use Rattle.rg_rows.proofs.FormSteps.{each_early_fails}
 use Rattle.rg_integers.specs.declared.term.Wide.{Wide}
 
--- the row of a form is one of those that are kept
-row_short : (lts : System) (class : Class) (columns : ℕ) (all kept : List KeptRow) (indices : List ℕ) → AreIndices all kept indices → (f : NamedForm) → IsMade lts class columns all indices f → f.row ≤ length kept
-row_short lts class columns all kept indices are f is = ⊎_elim
-    (λ (positive, times, row, busy).
-    (let here = are.each is.number is.row is.at (λ (zeros, weak). busy (subst IsZeroVector (sym times) (times_zero f.times is.row.row.coeffs zeros))) in
-    let within = slice_get_within (map (λ (k : KeptRow). k.row) kept) (slice_index_or indices is.number 0) is.row.row here in
-    let size = length-map kept (λ (k : KeptRow). k.row) in
-    omega arith))
-    (λ (none, row, zeros). (omega arith))
-    is.part
-
 pub shown_count : (r : CaseRows) (kept : List KeptRow) → ShowsRows r kept → length r.rows.items ≡ length kept
 shown_count r kept shows = sym (length-map r.rows.items linear_row) ∙ ap length shows.rows ∙ length-map kept (λ (k : KeptRow). k.row)
 
 module _ (s : CaseSetting) (shared : SharedRows) (are : AreSharedRows s.setting shared) where
-  pub forms_fit : (before : ℕ) → before + length are.kept < 2 ^ 32 → All (λ (f : NamedForm). before + f.row < 2 ^ 32) shared.forms.items
-  forms_fit before few = λ k d lt. (let short = row_short s.lts s.class (columns_in s.setting) (map kept_row are.all) are.kept are.indices are.are_indices (slice_index_or shared.forms.items k d) (are.are_made k d lt) in omega arith)
-
   -- a step of its own rows that is out of range is the first of the case
   pub own_fails : (own_names : List RowName) → own_names ≡ problem_rows s.lts s.class s.problem → (w : Wide) → each (fold_of s) own_names (Err w) → system_fold s (Err w)
   own_fails own_names named w failed = case_fails s (own_names ++ shared_names s.lts s.class)
@@ -123,31 +104,31 @@ module _ (s : CaseSetting) (shared : SharedRows) (are : AreSharedRows s.setting 
         all_indices = subst (λ l. AreIndices l (kept ++ are.kept) all_places) (sym rows_are)
             (indices_append (map kept_row own) (map kept_row are.all) kept are.kept places are.indices (map (λ i. length kept + i) are.indices) are_places are.are_indices refl)
 
-        module _ (forms : List NamedForm) (moved : map plain_form forms ≡ map (form_after (length kept)) shared.forms.items) (start : IsFalse (splits_start s.class s.problem)) where
-          linear_are : map linear_form forms ≡ map linear_form shared.forms.items
-          linear_are = as_told (form_after (length kept)) plain_form linear_form linear_form shared.forms.items forms (λ x y e i. record { scale = (e i).scale; coeffs = (e i).coeffs; low = (e i).low; high = (e i).high }) moved
+        module _ (start : IsFalse (splits_start s.class s.problem)) where
+          abbrev pub forms : List NamedForm
+          forms = forms_after (length kept) shared.forms.items
 
-          pub splits_are : map split_of forms ≡ split_forms s.lts s.class s.problem
-          splits_are = as_told (form_after (length kept)) plain_form split_of split_of shared.forms.items forms (λ x y e. ap (λ (p : PlainForm). p.form) e) moved
-              ∙ are.splits ∙ shared_forms s.lts s.class s.problem s.number are.alone start
+          pub splits_are : map split_of shared.forms.items ≡ split_forms s.lts s.class s.problem
+          splits_are = are.splits ∙ shared_forms s.lts s.class s.problem s.number are.alone start
 
-          forms_made : each (form_fold s.setting) (split_forms s.lts s.class s.problem) (Ok (map linear_form forms))
-          forms_made = subst (λ (l : List SplitForm). each (form_fold s.setting) l (Ok (map linear_form forms))) (shared_forms s.lts s.class s.problem s.number are.alone start)
-              (subst (λ (l : List Form). each (form_fold s.setting) (forms_in s.class (shared_names s.lts s.class)) (Ok l)) (sym linear_are) are.forms_made)
+          forms_made : each (form_fold s.setting) (split_forms s.lts s.class s.problem) (Ok (map linear_form shared.forms.items))
+          forms_made = subst (λ (l : List SplitForm). each (form_fold s.setting) l (Ok (map linear_form shared.forms.items)))
+              (shared_forms s.lts s.class s.problem s.number are.alone start) are.forms_made
 
           are_made : All (IsMade s.lts s.class (columns_in s.setting) (map kept_row all) all_places) forms
           are_made = subst (λ l. All (IsMade s.lts s.class (columns_in s.setting) l all_places) forms) (sym rows_are)
-              (each_as (form_after (length kept)) plain_form (IsMade s.lts s.class (columns_in s.setting) (map kept_row are.all) are.indices)
-              (IsMade s.lts s.class (columns_in s.setting) (map kept_row own ++ map kept_row are.all) all_places) shared.forms.items forms moved
-              (λ f g is e. made_after s.lts s.class (columns_in s.setting) (map kept_row are.all) are.indices f is g (map kept_row own) places all_places (length kept) e are_places.one_each are.are_indices.one_each refl)
+              (each_mapped (form_after (length kept)) (IsMade s.lts s.class (columns_in s.setting) (map kept_row are.all) are.indices)
+              (IsMade s.lts s.class (columns_in s.setting) (map kept_row own ++ map kept_row are.all) all_places) shared.forms.items
+              (λ f is. made_after s.lts s.class (columns_in s.setting) (map kept_row are.all) are.indices f is
+              (map kept_row own) places all_places (length kept) are_places.one_each are.are_indices.one_each refl)
               are.are_made)
 
           module _ (columns : ℕ) (columns_are : columns ≡ columns_in s.setting) where
             abbrev pub shown : CaseSystem
-            shown = record { columns = columns; kept = kept ++ are.kept; forms = map linear_form forms }
+            shown = record { columns = columns; kept = kept ++ are.kept; forms = map linear_form shared.forms.items }
 
             pub case_is : system_fold s (Ok shown)
-            case_is = case_made s names names_are (map kept_row all) all_made (map linear_form forms) shown forms_made columns_are all_firsts refl
+            case_is = case_made s names names_are (map kept_row all) all_made (map linear_form shared.forms.items) shown forms_made columns_are all_firsts refl
 
             made_over : All (IsMade s.lts s.class columns (map kept_row all) all_places) forms
             made_over = subst (λ n. All (IsMade s.lts s.class n (map kept_row all) all_places) forms) (sym columns_are) are_made
@@ -160,4 +141,5 @@ module _ (s : CaseSetting) (shared : SharedRows) (are : AreSharedRows s.setting 
                 let most : column_count s.lts s.basis s.class ≤ labels s.lts + 1 = columns_few s.lts s.basis s.class in
                 let size : length (rows_of shown).rows ≡ length kept + length are.kept = length-map (kept ++ are.kept) (λ (k : KeptRow). k.row) ∙ length-append kept are.kept in
                 let few = all_kept_few in
-                all_forms s names shown (map kept_row all) all_places all_made all_indices forms made_over refl splits_are over few_states bound (omega arith)
+                all_forms s names shown (map kept_row all) all_places all_made all_indices forms made_over
+                (linear_after (length kept) shared.forms.items) (split_after (length kept) shared.forms.items ∙ splits_are) over few_states bound (omega arith)

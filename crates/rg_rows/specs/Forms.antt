@@ -26,28 +26,18 @@ linear_form f = record { scale = f.scale; coeffs = arc_slice_items f.coeffs; low
 abbrev pub split_of : NamedForm → SplitForm
 split_of f = f.form
 
--- what it says, whatever memory its coefficients have
-pub record PlainForm : Type 0 where
-  pub form : SplitForm
-  pub scale : ℤ
-  pub coeffs : List ℤ
-  pub low : ℤ
-  pub high : ℤ
-  pub row : ℕ
-  pub times : ℤ
-
-abbrev pub plain_form : NamedForm → PlainForm
-plain_form f = record { form = f.form; scale = f.scale; coeffs = arc_slice_items f.coeffs; low = f.low; high = f.high; row = f.row; times = f.times }
-
--- the number of the form's row, where so many rows come before it; 0 if the form is no row's
+-- the number of the form's row, where so many rows come before it; a form that is no row's keeps its number
 abbrev pub row_after : ℕ → ℤ → ℕ → ℕ
-row_after before (pos zero) row = 0
+row_after before (pos zero) row = row
 row_after before (pos (suc n)) row = before + row
 row_after before (negsuc n) row = before + row
 
 -- the form, where so many rows come before its row
-abbrev pub form_after : ℕ → NamedForm → PlainForm
-form_after before f = record (plain_form f) { row = row_after before f.times f.row }
+abbrev pub form_after : ℕ → NamedForm → NamedForm
+form_after before f = record f { row = row_after before f.times f.row }
+
+abbrev pub forms_after : ℕ → List NamedForm → List NamedForm
+forms_after before forms = map (form_after before) forms
 
 -- ---- the forms in the order of the named rows
 

@@ -5,3 +5,4 @@ pub mod Forms
 pub mod Making
 pub mod Hashing
 pub mod Columns
+pub mod Shared

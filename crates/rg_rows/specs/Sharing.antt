@@ -1,5 +1,5 @@
 -- The rows and forms that all problems of a system and a class share.
-use Rattle.std.specs.Prelude.{◌≡◌, ℕ, ◌&&◌, not, is_some, if◌then◌else◌, List, [], ◌++◌, map, length, All, Some, slice_get, Result, Ok, Err, IfOk, IfSome, IsFalse, pos, ◌≤ℤ◌}
+use Rattle.std.specs.Prelude.{◌≡◌, ℕ, ◌&&◌, not, is_some, if◌then◌else◌, List, [], ◌++◌, map, length, All, Option, None, Some, slice_get, Result, Ok, Err, IfOk, IfSome, IsFalse, pos, ◌≤ℤ◌}
 use Rattle.std.specs.Arc.{arc_slice_items}
 use Rattle.rg_theory.specs.declared.Class.{Class}
 use Rattle.rg_theory.specs.declared.Problem.{Problem}
@@ -19,6 +19,7 @@ use Rattle.rg_rows.specs.declared.form_terms.FormTerms.{FormTerms}
 use Rattle.rg_rows.specs.declared.kind.Kind.{Kind}
 use Rattle.rg_rows.specs.declared.kind.Kind.TheVariants as kind
 use Rattle.rg_rows.specs.declared.common.Common.{Common}
+use Rattle.rg_rows.specs.declared.named_form.NamedForm.{NamedForm}
 use Rattle.rg_rows.specs.declared.shared_rows.SharedRows.{SharedRows}
 use Rattle.rg_rows.specs.View.{kept_row, terms_of, columns_in, fold_of, ShowsRows, AreIndices}
 use Rattle.rg_rows.specs.Forms.{linear_form, split_of, forms_in}
@@ -93,7 +94,7 @@ pub record AreSharedRows (s : Setting) (shared : SharedRows) : Type 0 where
   pub made : (problem : Problem) (number : ℕ) → each (fold_of (case_at s problem number)) (shared_names s.lts s.class) (Ok (map kept_row all))
   pub one_each : All (λ r. length (arc_slice_items r.coeffs) ≡ columns_in s) all
   pub kept : List KeptRow
-  pub shows : ShowsRows shared.kept kept
+  pub shows : ShowsRows (record { rows = shared.rows.rows; names = shared.names; factors = shared.factors }) kept
   pub firsts : KeepsEqualRows (λ k. k.row) IsIdle [] (map kept_row all) kept
   pub not_negative : All (λ k. pos 0 ≤ℤ k.row.constant) kept
   pub indices : List ℕ
@@ -101,6 +102,10 @@ pub record AreSharedRows (s : Setting) (shared : SharedRows) : Type 0 where
   pub forms_made : each (form_fold s) (forms_in s.class (shared_names s.lts s.class)) (Ok (map linear_form shared.forms.items))
   pub splits : map split_of shared.forms.items ≡ forms_in s.class (shared_names s.lts s.class)
   pub are_made : All (IsMade s.lts s.class (columns_in s) (map kept_row all) indices) shared.forms.items
+
+abbrev pub forms_of_shared : Option SharedRows → List NamedForm
+forms_of_shared None = []
+forms_of_shared (Some shared) = shared.forms.items
 
 -- the rows and forms that all problems of the system and the class share, over the tree and the basis
 pub record IsCommonOf (s : Setting) (common : Common) : Type 0 where
@@ -127,3 +132,7 @@ abbrev pub AreTermsInCase : CaseSetting → RowName → Result FormTerms Wide �
 AreTermsInCase s name written =
     terms_fold s.setting (row_expression s.lts s.class s.problem s.number [] name).terms (shown_result terms_of written)
     × IfOk written (λ t. length (arc_slice_items t.coeffs) ≡ column_count s.lts s.basis s.class)
+
+-- the forms of the rows that all cases share, where there are such
+abbrev pub shared_forms : Common → List NamedForm
+shared_forms common = forms_of_shared common.shared

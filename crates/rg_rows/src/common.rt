@@ -8,12 +8,13 @@ ghost use Rattle.rg_cycles.specs.View.{labels_of, cycle_of};
 ghost use Rattle.rg_case_folds.specs.Rewriting.{column_count};
 ghost use Rattle.rg_case_parts.specs.SettingViews.{shown_setting};
 ghost use Rattle.rg_case_parts.specs.ColumnViews.{AreColumns};
-ghost use Rattle.rg_rows.specs.Sharing.{or_wide, AreRowsOfKind, AreTermsOfKind, IsCommonOf, IsRowInCase, AreTermsInCase};
+ghost use Rattle.rg_rows.specs.Sharing.{or_wide, AreRowsOfKind, AreTermsOfKind, IsCommonOf, IsRowInCase, AreTermsInCase, shared_forms};
 ghost use Rattle.rg_case_folds.specs.Setting.{Setting as ShownSetting, CaseSetting};
 
 use crate::case_row::CaseRow;
 use crate::form_terms::FormTerms;
 use crate::kind::Kind;
+use crate::named_form::NamedForm;
 use crate::rewriting::{form_terms, row};
 use crate::shared_rows::{SharedRows, shared_rows};
 use rg_case_parts::{Columns, Setting};
@@ -69,6 +70,17 @@ impl Common {
         ensures { (s : ShownSetting) → IsCommonOf s self.now → cycle_of basis.now ≡ s.basis → result ≡ column_count s.lts s.basis s.class }
     {
         self.columns.count(basis)
+    }
+
+    /// The forms of the rows that all cases share, whose rows are counted from the first of these; none if there are no
+    /// such rows.
+    pub fn shared_forms(&self) -> &[NamedForm]
+        ensures { result.now ≡ shared_forms self.now }
+    {
+        match &self.shared {
+            Some(shared) => &shared.forms,
+            None => &[],
+        }
     }
 
     // The row of the name, where it speaks of no problem.

@@ -64,27 +64,6 @@ impl CaseRows {
         self.factors.push(row.factor)?;
         Ok(())
     }
-
-    // Adds rows after these, with the same coefficients in memory.
-    pub(crate) fn extend(&mut self, more: &CaseRows) -> Result<(), AllocError>
-        ensures { OnOk result ((kept rest : List KeptRow) → ShowsRows self.old kept → ShowsRows more.now rest → ShowsRows self.new (kept ++ rest)) }
-    {
-        extend_rows(&mut self.rows, &more.rows)?;
-        self.names.extend_from_slice(&more.names)?;
-        self.factors.extend_from_slice(&more.factors)?;
-        Ok(())
-    }
-}
-
-// Adds rows after these, with the same coefficients in memory.
-fn extend_rows(rows: &mut Vec<Row>, more: &[Row]) -> Result<(), AllocError>
-    ensures { OnOk result (map linear_row rows.new.items ≡ map linear_row rows.old.items ++ map linear_row more.now) }
-{
-    rows.reserve(more.len())?;
-    for row in more {
-        rows.push(row.clone()?)?;
-    }
-    Ok(())
 }
 
 // Whether the row has no coefficients and always holds.

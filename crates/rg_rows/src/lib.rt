@@ -8,13 +8,13 @@
 mod case;
 mod case_row;
 mod common;
-mod copying;
 mod counts;
 mod form_terms;
 mod forms;
 mod held_row;
 mod kept;
 mod kind;
+mod named_case;
 mod named_form;
 mod named_system;
 mod names;
@@ -25,5 +25,6 @@ mod shared_rows;
 
 pub use case::cases;
 pub use common::Common;
+pub use named_case::{NamedCase, system_with};
 pub use named_form::NamedForm;
-pub use named_system::{NamedSystem, system, system_with};
+pub use named_system::{NamedSystem, system};

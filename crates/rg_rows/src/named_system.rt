@@ -1,5 +1,5 @@
 //! The system of a case.
-ghost use Rattle.std.specs.Prelude.{◌≡◌, ◌<◌, length, All, map, Ok, Err, IfOk, IfSome, IsErrOf, IsFalse};
+ghost use Rattle.std.specs.Prelude.{◌≡◌, ◌<◌, length, All, map, Ok, Err, IfOk, IsErrOf};
 ghost use Rattle.std.specs.Arc.{arc_slice_items};
 ghost use Rattle.rg_theory.specs.ClassWords.{HasNumbersInRange};
 ghost use Rattle.rg_theory.specs.System.{labels, IsAllReachable};
@@ -7,26 +7,22 @@ ghost use Rattle.rg_integers.specs.declared.term.Wide.{Wide};
 ghost use Rattle.rg_cert_meaning.specs.Refutes.{IsSeparationProblem};
 ghost use Rattle.rg_cert_meaning.specs.Row.{cases_of};
 ghost use Rattle.rg_spanning.specs.Spanning.{IsTreeOf};
-ghost use Rattle.rg_case_folds.specs.Rewriting.{CaseSystem, split_forms, splits_start, system_fold};
+ghost use Rattle.rg_case_folds.specs.Rewriting.{CaseSystem, split_forms, system_fold};
 ghost use Rattle.rg_case_folds.specs.Setting.{setting_at, case_at};
 ghost use Rattle.rg_case_folds.specs.Chords.{IsBasis};
 ghost use Rattle.rg_folds.specs.Fold.{Comes, each};
 ghost use Rattle.rg_cycles.specs.View.{labels_of, cycle_of};
 ghost use Rattle.rg_fraction.specs.declared.fold_stop.FoldStop.TheVariants as stop;
 ghost use Rattle.rg_rows.specs.View.{kept_row, row_in, columns_in, AreNamesWithin, fold_of};
-ghost use Rattle.rg_rows.specs.Sharing.{AreSharedRows, IsCommonOf};
+ghost use Rattle.rg_rows.specs.Sharing.{IsCommonOf};
 ghost use Rattle.rg_rows.specs.Forms.{split_of, StandsInRow, AreFormsOf};
-ghost use Rattle.rg_rows.specs.Shown.{ShowsCase, IsSystemOf};
+ghost use Rattle.rg_rows.specs.Shown.{ShowsCase, rows_of_system};
 ghost use Rattle.rg_case_parts.specs.SettingViews.{shown_setting, shown_case};
 
 use crate::common::Common;
-use crate::forms::{case_forms, splits_start};
 use crate::held_row::{HeldRow, row_in_case};
-use crate::kept::firsts;
+use crate::named_case::whole_case;
 use crate::named_form::NamedForm;
-use crate::names::names;
-use crate::problem_names::problem_rows;
-use crate::shared_rows::{SharedRows, all_negative, forms_after};
 use rg_case_parts::{CaseSetting, Setting};
 use rg_cert_meaning::RowName;
 use rg_cycles::Basis;
@@ -82,7 +78,7 @@ pub fn system(
     requires tree { IsTreeOf lts.now tree.now }
     requires labels { labels_of basis.now ≡ labels lts.now }
     ensures system { let s = setting_at lts.now tree.now.arcs (cycle_of basis.now) class in
-        IfOk result (λ named. (shown : CaseSystem) × system_fold (case_at s problem case) (Ok shown) × ShowsCase named shown) }
+        IfOk result (λ named. (shown : CaseSystem) × system_fold (case_at s problem case) (Ok shown) × ShowsCase (rows_of_system named) shown) }
     ensures named { IfOk result (λ named. map split_of named.forms.items ≡ split_forms lts.now class problem) }
     ensures rows { let s = setting_at lts.now tree.now.arcs (cycle_of basis.now) class in
         IfOk result (λ named. All (StandsInRow (case_at s problem case) named.system) named.forms.items) }
@@ -103,97 +99,8 @@ pub fn system(
         problem,
         number: case,
     };
-    system_with(alloc, &common, c)
-}
-
-/// Returns the system of a case of a problem, as `system` does, with the rows and forms that all problems of the
-/// system and the class share.
-pub fn system_with(
-    alloc: Global,
-    common: &Common,
-    c: CaseSetting<'_>,
-) -> Result<NamedSystem, FoldStop>
-    requires asked { IsSeparationProblem c.setting.lts.now c.problem }
-    requires case { c.number < cases_of c.setting.lts.now c.setting.class c.problem }
-    requires tree { IsTreeOf c.setting.lts.now c.setting.tree.now }
-    requires labels { labels_of c.setting.basis.now ≡ labels c.setting.lts.now }
-    requires common { IsCommonOf (shown_setting c.setting) common.now }
-    ensures system { IfOk result (λ named. (shown : CaseSystem) × system_fold (shown_case c.entry) (Ok shown) × ShowsCase named shown) }
-    ensures named { IfOk result (λ named. map split_of named.forms.items ≡ split_forms c.entry.setting.lts.now c.entry.setting.class c.entry.problem) }
-    ensures rows { IfOk result (λ named. All (StandsInRow (shown_case c.entry) named.system) named.forms.items) }
-    ensures forms { let s = shown_setting c.entry.setting in
-        IsAllReachable s.lts → IsBasis s.lts s.tree s.basis → HasNumbersInRange s.class → IfOk result (λ named. AreFormsOf named.system named.forms.items) }
-    ensures wide { (w : Wide) → IsErrOf result (stop.Wide w) → system_fold (shown_case c.entry) (Err w) }
-{
-    if let Some(shared) = &common.shared {
-        if !splits_start(c.setting.class, c.problem) {
-            if let Some(named) = system_before(alloc, common, c, shared)? {
-                return Ok(named);
-            }
-        }
-    }
-    whole_system(alloc, common, c)
-}
-
-// The system of the case, where the rows that all cases share come after its own and differ from these in sign.
-fn system_before(
-    alloc: Global,
-    common: &Common,
-    c: CaseSetting<'_>,
-    shared: &SharedRows,
-) -> Result<Option<NamedSystem>, FoldStop>
-    requires asked { IsSeparationProblem c.setting.lts.now c.problem }
-    requires case { c.number < cases_of c.setting.lts.now c.setting.class c.problem }
-    requires tree { IsTreeOf c.setting.lts.now c.setting.tree.now }
-    requires labels { labels_of c.setting.basis.now ≡ labels c.setting.lts.now }
-    requires common { IsCommonOf (shown_setting c.setting) common.now }
-    requires shared { AreSharedRows (shown_setting c.setting) shared.now }
-    requires start { IsFalse (splits_start c.setting.class c.problem) }
-    ensures made { IfOk result (λ o. IfSome o (IsSystemOf (shown_case c.entry))) }
-    ensures wide { (w : Wide) → IsErrOf result (stop.Wide w) → system_fold (shown_case c.entry) (Err w) }
-{
-    c.setting.lts.is_well_formed();
-    let names = problem_rows(alloc, c.setting.lts, c.setting.class, c.problem)?;
-    let own = rows(alloc, common, c, &names)?;
-    if !all_negative(&own) {
-        return Ok(None);
-    }
-    let (mut kept, _) = firsts(alloc, &own)?;
-    let forms = forms_after(alloc, &shared.forms, kept.rows.len() as u32)?;
-    kept.extend(&shared.kept)?;
-    Ok(Some(NamedSystem {
-        system: System::new(common.columns.count(c.setting.basis), kept.rows),
-        names: kept.names,
-        factors: kept.factors,
-        forms,
-    }))
-}
-
-// The system of the case, row by row.
-fn whole_system(alloc: Global, common: &Common, c: CaseSetting<'_>) -> Result<NamedSystem, FoldStop>
-    requires asked { IsSeparationProblem c.setting.lts.now c.problem }
-    requires case { c.number < cases_of c.setting.lts.now c.setting.class c.problem }
-    requires tree { IsTreeOf c.setting.lts.now c.setting.tree.now }
-    requires labels { labels_of c.setting.basis.now ≡ labels c.setting.lts.now }
-    requires common { IsCommonOf (shown_setting c.setting) common.now }
-    ensures system { IfOk result (λ named. (shown : CaseSystem) × system_fold (shown_case c.entry) (Ok shown) × ShowsCase named shown) }
-    ensures named { IfOk result (λ named. map split_of named.forms.items ≡ split_forms c.entry.setting.lts.now c.entry.setting.class c.entry.problem) }
-    ensures rows { IfOk result (λ named. All (StandsInRow (shown_case c.entry) named.system) named.forms.items) }
-    ensures forms { let s = shown_setting c.entry.setting in
-        IsAllReachable s.lts → IsBasis s.lts s.tree s.basis → HasNumbersInRange s.class → IfOk result (λ named. AreFormsOf named.system named.forms.items) }
-    ensures wide { (w : Wide) → IsErrOf result (stop.Wide w) → system_fold (shown_case c.entry) (Err w) }
-{
-    c.setting.lts.is_well_formed();
-    let names = names(alloc, c, &common.columns)?;
-    let all = rows(alloc, common, c, &names)?;
-    let (kept, indices) = firsts(alloc, &all)?;
-    let forms = case_forms(alloc, common, c, &names, &all, &indices)?;
-    Ok(NamedSystem {
-        system: System::new(common.columns.count(c.setting.basis), kept.rows),
-        names: kept.names,
-        factors: kept.factors,
-        forms,
-    })
+    let named = whole_case(alloc, &common, c)?;
+    Ok(named.into_system())
 }
 
 // The named rows over the columns.

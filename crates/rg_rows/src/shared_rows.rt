@@ -6,7 +6,6 @@ ghost use Rattle.rg_spanning.specs.Spanning.{IsTreeOf};
 ghost use Rattle.rg_cycles.specs.View.{labels_of};
 ghost use Rattle.rg_case_parts.specs.SettingViews.{shown_setting};
 ghost use Rattle.rg_rows.specs.View.{kept_row, row_in};
-ghost use Rattle.rg_rows.specs.Forms.{plain_form, row_after, form_after};
 ghost use Rattle.rg_rows.specs.Sharing.{AreSharedRows, IsCommonOf};
 
 use crate::case_row::CaseRow;
@@ -18,8 +17,9 @@ use crate::named_form::NamedForm;
 use crate::named_system::rows;
 use crate::names::shared_names;
 use rg_case_parts::{CaseSetting, Setting};
-use rg_fraction::FoldStop;
-use rg_linear::Row;
+use rg_cert_meaning::RowName;
+use rg_fraction::{FoldStop, Fraction};
+use rg_linear::{Row, RowList};
 use rg_theory::Problem;
 use std::alloc::{AllocError, Global};
 
@@ -27,7 +27,9 @@ use std::alloc::{AllocError, Global};
 /// forms, as they are in a case without rows of its own.
 #[derive(Drop)]
 pub(crate) struct SharedRows {
-    pub(crate) kept: CaseRows,
+    pub(crate) rows: RowList,
+    pub(crate) names: Vec<RowName>,
+    pub(crate) factors: Vec<Fraction>,
     pub(crate) forms: Vec<NamedForm>,
 }
 
@@ -79,7 +81,17 @@ fn rows_in_range(
         return Ok(None);
     }
     let forms = forms(alloc, common, c, &names, &all, &indices)?;
-    Ok(Some(SharedRows { kept, forms }))
+    let CaseRows {
+        rows,
+        names,
+        factors,
+    } = kept;
+    Ok(Some(SharedRows {
+        rows: RowList::new(rows),
+        names,
+        factors,
+        forms,
+    }))
 }
 
 // Whether no constant of the rows is negative.
@@ -111,49 +123,4 @@ fn is_negative(row: &CaseRow) -> bool
     ensures { IsTrue result ↔ ((kept_row row.now).row.constant <ℤ pos 0) }
 {
     row.constant < 0
-}
-
-// The forms, where so many rows come before theirs, with the same coefficients in memory.
-pub(crate) fn forms_after(
-    alloc: Global,
-    forms: &[NamedForm],
-    before: u32,
-) -> Result<Vec<NamedForm>, AllocError>
-    requires fits { All (λ f. before + f.row < 2 ^ 32) forms.now }
-    ensures { IfOk result (λ v. map plain_form v.items ≡ map (form_after before) forms.now) }
-{
-    let mut moved = Vec::with_capacity(alloc, forms.len())?;
-    for form in forms {
-        moved.push(form_after(form, before)?)?;
-    }
-    Ok(moved)
-}
-
-// The form, where so many rows come before its row.
-fn form_after(form: &NamedForm, before: u32) -> Result<NamedForm, AllocError>
-    requires { before + form.now.row < 2 ^ 32 }
-    ensures { IfOk result (λ f. plain_form f ≡ form_after before form.now) }
-{
-    let coeffs = form.coeffs.clone()?;
-    Ok(NamedForm {
-        form: form.form,
-        scale: form.scale,
-        coeffs,
-        low: form.low,
-        high: form.high,
-        row: row_after(form, before),
-        times: form.times,
-    })
-}
-
-// The number of the form's row, where so many rows come before it; 0 if the form is no row's.
-fn row_after(form: &NamedForm, before: u32) -> u32
-    requires { before + form.now.row < 2 ^ 32 }
-    ensures { result ≡ row_after before form.now.times form.now.row }
-{
-    if form.times == 0 {
-        0
-    } else {
-        before + form.row
-    }
 }

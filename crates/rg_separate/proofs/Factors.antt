@@ -18,7 +18,7 @@ use Rattle.rg_case_folds.specs.Rewriting.{CaseSystem}
 use Rattle.rg_case_folds.specs.Spreading.{share_fold, kept_at, name_of, side_at, named_at, split_factor, factor_of}
 use Rattle.rg_folds.proofs.FoldLemmas.{ratio_one, new_step, mul_step}
 use Rattle.rg_case_folds.proofs.Scaling.{whole_ratio}
-use Rattle.rg_rows.specs.declared.named_system.NamedSystem.{NamedSystem}
+use Rattle.rg_rows.specs.Shared.{NamedRows}
 use Rattle.rg_rows.specs.declared.named_form.NamedForm.{NamedForm}
 use Rattle.rg_rows.specs.Forms.{linear_form, split_of}
 use Rattle.rg_rows.specs.Shown.{ShowsCase}
@@ -62,27 +62,27 @@ whole_fraction f z is = ratio_one (ratio_of f) (whole z) z (pos 1) (new_step f z
 
 -- ---- the row of the system, its name and its factor
 
-module _ (named : NamedSystem) (case : CaseSystem) (shows : ShowsCase named case) where
+module _ (named : NamedRows) (case : CaseSystem) (shows : ShowsCase named case) where
   rows_are : length named.system.rows ≡ length case.kept
   rows_are = ap (λ (s : LinearSystem). length s.rows) shows.system ∙ length-map case.kept (λ k. k.row)
 
-  pub names_many : length named.names.items ≡ length named.system.rows
+  pub names_many : length named.names ≡ length named.system.rows
   names_many = ap length shows.names ∙ length-map case.kept (λ k. k.name) ∙ sym rows_are
 
-  pub factors_many : length named.factors.items ≡ length named.system.rows
-  factors_many = sym (length-map named.factors.items ratio_of) ∙ ap length shows.factors ∙ length-map case.kept (λ k. k.factor) ∙ sym rows_are
+  pub factors_many : length named.factors ≡ length named.system.rows
+  factors_many = sym (length-map named.factors ratio_of) ∙ ap length shows.factors ∙ length-map case.kept (λ k. k.factor) ∙ sym rows_are
 
-  pub own_name : (i : ℕ) (n : RowName) → i < length named.system.rows → get_or named.names.items i n ≡ name_of case i
+  pub own_name : (i : ℕ) (n : RowName) → i < length named.system.rows → get_or named.names i n ≡ name_of case i
   own_name i n lt =
       let kept : i < length case.kept = (let e = rows_are in omega arith) in
       ap (λ rs. get_or rs i n) shows.names
       ∙ get_or-map (λ k. k.name) case.kept i _ n kept
       ∙ sym (ap (λ b. if b then (kept_at case i).name else row_name.Above (i - length case.kept)) (lt-ltb i (length case.kept) kept))
 
-  pub own_factor : (sides : List SplitSide) (named_above : List Side) (i : ℕ) (f : Fraction) → i < length named.system.rows → ratio_of (get_or named.factors.items i f) ≡ factor_of case sides named_above i
+  pub own_factor : (sides : List SplitSide) (named_above : List Side) (i : ℕ) (f : Fraction) → i < length named.system.rows → ratio_of (get_or named.factors i f) ≡ factor_of case sides named_above i
   own_factor sides named_above i f lt =
       let kept : i < length case.kept = (let e = rows_are in omega arith) in
-      sym (get_or-map ratio_of named.factors.items i f (ratio_of f) (let e = factors_many in omega arith))
+      sym (get_or-map ratio_of named.factors i f (ratio_of f) (let e = factors_many in omega arith))
       ∙ ap (λ rs. get_or rs i (ratio_of f)) shows.factors
       ∙ get_or-map (λ k. k.factor) case.kept i _ (ratio_of f) kept
       ∙ sym (ap (λ b. if b then (kept_at case i).factor else split_factor (named_at named_above (i - length case.kept)).form (form_at case.forms (side_at sides (i - length case.kept)).form)) (lt-ltb i (length case.kept) kept))
@@ -93,27 +93,27 @@ module _ (named : NamedSystem) (case : CaseSystem) (shows : ShowsCase named case
   split_name i le = ap (λ n. row_name.Above (i - n)) rows_are ∙ sym (ap (λ b. if b then (kept_at case i).name else row_name.Above (i - length case.kept)) (not_below i (length case.kept) (let e = rows_are in omega arith)))
 
   abbrev among : List SplitSide → List Side
-  among sides = sides_among (map split_of named.forms.items) sides
+  among sides = sides_among (map split_of named.forms) sides
 
   -- the form by name of the side
-  form_named : (sides : List SplitSide) (d : ℕ) (side : SplitSide) (f : NamedForm) → d < length sides → side_at sides d ≡ side → side.form < length named.forms.items → get_or named.forms.items side.form f ≡ f → (named_at (among sides) d).form ≡ split_of f
+  form_named : (sides : List SplitSide) (d : ℕ) (side : SplitSide) (f : NamedForm) → d < length sides → side_at sides d ≡ side → side.form < length named.forms → get_or named.forms side.form f ≡ f → (named_at (among sides) d).form ≡ split_of f
   form_named sides d side f below at lt form =
-      let name : SplitSide → Side = λ s. record { form = get_or (map split_of named.forms.items) s.form (split_form.Tokens 0); at = s.at; high = s.high } in
+      let name : SplitSide → Side = λ s. record { form = get_or (map split_of named.forms) s.form (split_form.Tokens 0); at = s.at; high = s.high } in
       ap (λ (s : Side). s.form) (get_or-map name sides d (record { form = 0; at = pos 0; high = false }) (record { form = split_form.Tokens 0; at = pos 0; high = false }) below)
-      ∙ ap (λ (s : SplitSide). get_or (map split_of named.forms.items) s.form (split_form.Tokens 0)) at
-      ∙ get_or-map split_of named.forms.items side.form f (split_form.Tokens 0) lt
+      ∙ ap (λ (s : SplitSide). get_or (map split_of named.forms) s.form (split_form.Tokens 0)) at
+      ∙ get_or-map split_of named.forms side.form f (split_form.Tokens 0) lt
       ∙ ap split_of form
 
   pub factor_of_split : (sides : List SplitSide) (i : ℕ) (side : SplitSide) (f : NamedForm) (scale : Fraction) (z : ℤ) → length named.system.rows ≤ i
-      → i - length named.system.rows < length sides → side_at sides (i - length named.system.rows) ≡ side → side.form < length named.forms.items
-      → get_or named.forms.items side.form f ≡ f → IsValue scale z (pos 1) → whole z ≡ split_factor (split_of f) (linear_form f)
+      → i - length named.system.rows < length sides → side_at sides (i - length named.system.rows) ≡ side → side.form < length named.forms
+      → get_or named.forms side.form f ≡ f → IsValue scale z (pos 1) → whole z ≡ split_factor (split_of f) (linear_form f)
       → ratio_of scale ≡ factor_of case sides (among sides) i
   factor_of_split sides i side f scale z le below at lt form value factor =
       whole_fraction scale z value
       ∙ factor
       ∙ ap (λ g. split_factor g (linear_form f)) (sym (form_named sides (i - length named.system.rows) side f below at lt form))
       ∙ ap (λ (g : NamedForm). split_factor (named_at (among sides) (i - length named.system.rows)).form (linear_form g)) (sym form)
-      ∙ ap (split_factor (named_at (among sides) (i - length named.system.rows)).form) (sym (get_or-map linear_form named.forms.items side.form f (record { scale = pos 1; coeffs = []; low = pos 0; high = pos 0 }) lt))
+      ∙ ap (split_factor (named_at (among sides) (i - length named.system.rows)).form) (sym (get_or-map linear_form named.forms side.form f (record { scale = pos 1; coeffs = []; low = pos 0; high = pos 0 }) lt))
       ∙ ap (λ fs. split_factor (named_at (among sides) (i - length named.system.rows)).form (form_at fs side.form)) shows.forms
       ∙ ap (λ (s : SplitSide). split_factor (named_at (among sides) (i - length named.system.rows)).form (form_at case.forms s.form)) (sym at)
       ∙ ap (λ n. split_factor (named_at (among sides) (i - n)).form (form_at case.forms (side_at sides (i - n)).form)) rows_are

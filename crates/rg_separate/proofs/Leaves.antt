@@ -27,7 +27,7 @@ use Rattle.rg_branch_trees.specs.Trees.{TreeNode.leaf_node, TreeNode.split_node}
 use Rattle.rg_cert_data.specs.Certificates.{IsFormOf, IsNodeOf}
 use Rattle.rg_branch.specs.View.{TreeNode}
 use Rattle.rg_branch.specs.Asked.{IsSideOf}
-use Rattle.rg_rows.specs.declared.named_system.NamedSystem.{NamedSystem}
+use Rattle.rg_rows.specs.Shared.{NamedRows}
 use Rattle.rg_rows.specs.declared.named_form.NamedForm.{NamedForm}
 use Rattle.rg_rows.specs.Forms.{linear_form, split_of}
 use Rattle.rg_rows.specs.Shown.{ShowsCase}
@@ -63,7 +63,7 @@ sides_of_system lts class problem sides all =
 
 -- ---- what is shown where a leaf passes
 
-pub spread_shown : (c : CaseSetting) (named : NamedSystem) (whole : SplitTree) (sides : List SplitSide) (weights : List Weight) (w : Wide) → IsCase c
+pub spread_shown : (c : CaseSetting) (named : NamedRows) (whole : SplitTree) (sides : List SplitSide) (weights : List Weight) (w : Wide) → IsCase c
     → (system : IsNamedSystem c named) → Branching named.system (forms_in named) (tree whole) → HasLeaf [] whole sides weights
     → spread_fold (shown_case c) system.case sides (named_sides c.setting.lts.now c.setting.class c.problem sides) weights (Err w)
     → SpreadShown c.setting.lts.now c.setting.class (passed_at Spread c (named_sides c.setting.lts.now c.setting.class c.problem sides) w)
@@ -88,7 +88,7 @@ spread_shown c named whole sides weights w is system ends has fails = record {
   passes = fails;
 }
 
-pub leaf_shown : (c : CaseSetting) (named : NamedSystem) (nodes : List TreeNode) (i : ℕ) (above : List SplitSide) (made : List reasons.TreeNode) (n : TreeNode)
+pub leaf_shown : (c : CaseSetting) (named : NamedRows) (nodes : List TreeNode) (i : ℕ) (above : List SplitSide) (made : List reasons.TreeNode) (n : TreeNode)
     (w : Wide) → IsCase c → IsNamedSystem c named → IsWalk c named nodes i above made → i < length nodes → get_or nodes i n ≡ n → LeafPasses c named above n w
     → SpreadShown c.setting.lts.now c.setting.class (passed_at Spread c (named_sides c.setting.lts.now c.setting.class c.problem above) w)
 leaf_shown c named nodes i above made (leaf_node weights) w is system walk lt here fails =
@@ -98,16 +98,16 @@ leaf_shown c named nodes i above made (split_node f u) w is system walk lt here 
 -- ---- what a leaf is asked for
 
 -- the node of the case, its weights and its sides
-refuting_case : (c : CaseSetting) (named : NamedSystem) (system : IsNamedSystem c named) (sides : List SplitSide) (weights : List Weight) → AreRefuting (node_system named.system (forms_in named) sides) weights → AreRefuting (node_system (rows_of system.case) system.case.forms sides) weights
+refuting_case : (c : CaseSetting) (named : NamedRows) (system : IsNamedSystem c named) (sides : List SplitSide) (weights : List Weight) → AreRefuting (node_system named.system (forms_in named) sides) weights → AreRefuting (node_system (rows_of system.case) system.case.forms sides) weights
 refuting_case c named system sides weights are = subst (λ s. AreRefuting (node_system s system.case.forms sides) weights) system.shows.system (subst (λ fs. AreRefuting (node_system named.system fs sides) weights) system.shows.forms are)
 
 -- the shares with the sides by their names in the class
-pub shares_named : (c : CaseSetting) (named : NamedSystem) (system : IsNamedSystem c named) (sides : List SplitSide) (weights : List Weight)
+pub shares_named : (c : CaseSetting) (named : NamedRows) (system : IsNamedSystem c named) (sides : List SplitSide) (weights : List Weight)
     (result : Result (List Share) Wide) → SharesFold named sides weights result → (case : CaseSystem)
     → ShowsCase named case → each (share_fold case sides (named_sides c.setting.lts.now c.setting.class c.problem sides)) weights result
 shares_named c named system sides weights result fold case shows = subst (λ (ss : List Side). each (share_fold case sides ss) weights result) (ap (λ fs. sides_among fs sides) system.by_name) (fold case shows)
 
-pub leaf_asked : (c : CaseSetting) (named : NamedSystem) (sides : List SplitSide) (above : List Side) (weights : List Weight)
+pub leaf_asked : (c : CaseSetting) (named : NamedRows) (sides : List SplitSide) (above : List Side) (weights : List Weight)
     (shares : List (RowName × Fraction)) → IsCase c → IsNamedSystem c named
     → VisitStands named.system (forms_in named) (record { above = sides; node = leaf_node weights })
     → above ≡ named_sides c.setting.lts.now c.setting.class c.problem sides → length shares ≡ length weights
@@ -150,7 +150,7 @@ leaf_asked c named sides above weights shares is system stands by_name count fol
     refuting = refuting_case c named system sides weights stands.node
 
     forms_many : length (forms_in named) ≡ length (split_forms lts class problem)
-    forms_many = length-map named.forms.items linear_form ∙ sym (length-map named.forms.items split_of) ∙ ap length system.by_name
+    forms_many = length-map named.forms linear_form ∙ sym (length-map named.forms split_of) ∙ ap length system.by_name
 
     within : All (λ side. side.form < length system.case.forms) sides
     within = All-weaker (IsSideOf (forms_in named)) (λ (s : SplitSide). s.form < length system.case.forms) (λ s at. subst (λ fs. s.form < length fs) system.shows.forms at.form) sides stands.sides.each
@@ -160,7 +160,7 @@ leaf_asked c named sides above weights shares is system stands by_name count fol
 
 -- ---- the leaf that is made
 
-pub leaf_made : (c : CaseSetting) (named : NamedSystem) (sides : List SplitSide) (above : List Side) (weights : List Weight) (shares : List Share) (n : reasons.TreeNode)
+pub leaf_made : (c : CaseSetting) (named : NamedRows) (sides : List SplitSide) (above : List Side) (weights : List Weight) (shares : List Share) (n : reasons.TreeNode)
     → IsNamedSystem c named → above ≡ named_sides c.setting.lts.now c.setting.class c.problem sides → SharesFold named sides weights (Ok shares)
     → IsLeafWith (λ rows. leaf_fold c.setting.lts.now c.setting.tree.now.arcs (cycle_of c.setting.basis.now) (row_expression c.setting.lts.now c.setting.class c.problem c.number above) shares (Ok rows)) n
     → IsLeafWith (LeafRefutes (RowStands c.setting.lts.now c.setting.class c.problem c.number above) (row_expression c.setting.lts.now c.setting.class c.problem c.number above)) n → IsMadeOf c named sides (leaf_node weights) n
@@ -188,16 +188,16 @@ lows_of it (s ∷ splits) forms (x, (scaled, made, is), (more, rest, e)) =
     low (split_form.Effect t) = omega (arith, ints)
     low split_form.Start = omega (arith, ints)
 
-pub split_fits : (c : CaseSetting) (named : NamedSystem) (f : ℕ) (u : ℤ) (d : NamedForm) → IsNamedSystem c named → f < length (forms_in named) → (form_at (forms_in named) f).low ≤ℤ u → FitsSigned w64 u → IsNodeOf c.setting.lts.now (split_node (get_or named.forms.items f d).form u)
+pub split_fits : (c : CaseSetting) (named : NamedRows) (f : ℕ) (u : ℤ) (d : NamedForm) → IsNamedSystem c named → f < length (forms_in named) → (form_at (forms_in named) f).low ≤ℤ u → FitsSigned w64 u → IsNodeOf c.setting.lts.now (split_node (get_or named.forms f d).form u)
 split_fits c named f u d system lt le fits = (
-  subst (IsFormOf c.setting.lts.now) (ap (λ fs. get_or fs f (split_form.Tokens 0)) (sym system.by_name) ∙ get_or-map split_of named.forms.items f d (split_form.Tokens 0) within)
+  subst (IsFormOf c.setting.lts.now) (ap (λ fs. get_or fs f (split_form.Tokens 0)) (sym system.by_name) ∙ get_or-map split_of named.forms f d (split_form.Tokens 0) within)
       (forms_of_system c.setting.lts.now c.setting.class c.problem f (split_form.Tokens 0)
-      (let e = sym (length-map named.forms.items split_of) ∙ ap length system.by_name in let w = within in omega arith)),
+      (let e = sym (length-map named.forms split_of) ∙ ap length system.by_name in let w = within in omega arith)),
   above u fits (let l = least in omega (arith, ints)),
 )
   where
-    within : f < length named.forms.items
-    within = let e = length-map named.forms.items linear_form in omega arith
+    within : f < length named.forms
+    within = let e = length-map named.forms linear_form in omega arith
 
     all : All (λ g. negsuc 0 ≤ℤ g.low) system.case.forms
     all = let (rows, rows_made, (forms, forms_made, (columns, keeps, form_list))) = system.made in subst (All (λ (g : Form). negsuc 0 ≤ℤ g.low)) (sym form_list)
@@ -211,13 +211,13 @@ split_fits c named f u d system lt le fits = (
     above (negsuc n) fits le = (let e : n ≡ 0 = omega (arith, ints) in omega arith)
 
 -- the weights of a leaf that stands: their rows are those of its node, and their multipliers are in range
-pub leaf_rows : (c : CaseSetting) (named : NamedSystem) (sides : List SplitSide) (weights : List Weight) → AreRefuting (node_system named.system (forms_in named) sides) weights → All (λ w. w.row < length named.system.rows + length sides) weights
+pub leaf_rows : (c : CaseSetting) (named : NamedRows) (sides : List SplitSide) (weights : List Weight) → AreRefuting (node_system named.system (forms_in named) sides) weights → All (λ w. w.row < length named.system.rows + length sides) weights
 leaf_rows c named sides weights are = subst (All (λ (w : Weight). w.row < length named.system.rows + length sides)) (sym are.weights_are)
     (weights_are are.multiplier (λ (w : Weight). w.row < length named.system.rows + length sides) 0 (length (node_system named.system (forms_in named) sides).rows)
     (length named.system.rows + length sides)
     (let e = length-append named.system.rows (map (side_row (forms_in named)) sides) in let g = length-map sides (side_row (forms_in named)) in omega arith) (λ i lt. lt))
 
-pub leaf_not_negative : (c : CaseSetting) (named : NamedSystem) (sides : List SplitSide) (weights : List Weight) → AreRefuting (node_system named.system (forms_in named) sides) weights → All (λ w. pos 0 ≤ℤ w.multiplier) weights
+pub leaf_not_negative : (c : CaseSetting) (named : NamedRows) (sides : List SplitSide) (weights : List Weight) → AreRefuting (node_system named.system (forms_in named) sides) weights → All (λ w. pos 0 ≤ℤ w.multiplier) weights
 leaf_not_negative c named sides weights are = subst (All (λ (w : Weight). pos 0 ≤ℤ w.multiplier)) (sym are.weights_are)
     (weights_are are.multiplier (λ (w : Weight). pos 0 ≤ℤ w.multiplier) 0 (length (node_system named.system (forms_in named) sides).rows)
     (length (node_system named.system (forms_in named) sides).rows) (omega arith) are.refute.not_negative)

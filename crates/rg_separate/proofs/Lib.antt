@@ -15,5 +15,4 @@ pub mod Trying
 pub mod Coming
 pub mod Separating
 pub mod Ending
-mod Serving
 pub mod Refusing

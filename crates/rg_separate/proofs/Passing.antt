@@ -16,7 +16,7 @@ use Rattle.rg_cycles.specs.Refusal.{PassesAt, shown_term}
 use Rattle.rg_cycles.specs.View.{cycle_of}
 use Rattle.rg_feasible.specs.declared.settled.PivotWide.{PivotWide}
 use Rattle.rg_feasible.specs.Settling.{wide_at}
-use Rattle.rg_rows.specs.declared.named_system.NamedSystem.{NamedSystem}
+use Rattle.rg_rows.specs.Shared.{NamedRows}
 use Rattle.rg_cert_data.specs.declared.wide_at.Stage.TheVariants.{Row}
 use Rattle.rg_case_parts.specs.SettingViews.{shown_case}
 use Rattle.rg_case_parts.specs.declared.setting.CaseSetting.{CaseSetting}
@@ -24,7 +24,7 @@ use Rattle.rg_separate.specs.Casing.{IsCase, IsNamedSystem, forms_in}
 use Rattle.rg_separate.specs.Passing.{passed_at, pivot_at, cycle_passed}
 
 -- the term that an exchange of the case's descent shows
-pub pivot_shown : (c : CaseSetting) (named : NamedSystem) (sides : List SplitSide) (members : List ℕ) (at : PivotWide) → IsCase c → IsNamedSystem c named
+pub pivot_shown : (c : CaseSetting) (named : NamedRows) (sides : List SplitSide) (members : List ℕ) (at : PivotWide) → IsCase c → IsNamedSystem c named
     → Branching named.system (forms_in named) (stopped sides (wide_at members at))
     → PivotShown c.setting.lts.now c.setting.class (pivot_at c (named_sides c.setting.lts.now c.setting.class c.problem sides) members at)
 pivot_shown c named sides members at is system stops = record {
@@ -46,7 +46,7 @@ pivot_shown c named sides members at is system stops = record {
 }
 
 -- the case comes to that term
-pub pivot_comes : (c : CaseSetting) (named : NamedSystem) (sides : List SplitSide) (at : WideAt) → (system : IsNamedSystem c named)
+pub pivot_comes : (c : CaseSetting) (named : NamedRows) (sides : List SplitSide) (at : WideAt) → (system : IsNamedSystem c named)
     → Branching named.system (forms_in named) (stopped sides at)
     → CaseComes (shown_case c) (passes (term_at c.problem c.number (named_sides c.setting.lts.now c.setting.class c.problem sides) at))
 pivot_comes c named sides at system stops = pivot_passes system.case sides at system.made (subst (λ s. Branching s system.case.forms (stopped sides at)) system.shows.system (subst (λ fs. Branching named.system fs (stopped sides at)) system.shows.forms stops))

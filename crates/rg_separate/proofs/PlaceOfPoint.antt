@@ -29,7 +29,7 @@ use Rattle.rg_cycles.specs.View.{cycle_of}
 use Rattle.rg_theory.specs.Net.{Place}
 use Rattle.rg_outcome.specs.Casing.{CaseResult.makes, CaseResult.passes, CaseComes, CaseComes.place_is_made, CaseComes.place_passes}
 use Rattle.rg_branch.specs.Answer.{AreValuesAt, IsFoundPoint, IsWholeSolution}
-use Rattle.rg_rows.specs.declared.named_system.NamedSystem.{NamedSystem}
+use Rattle.rg_rows.specs.Shared.{NamedRows}
 use Rattle.rg_places.specs.PointValues.{ratios_of, point_start, point_value, SolvesCase}
 use Rattle.rg_places.proofs.PointPlaces.{point_of}
 use Rattle.rg_cert_data.specs.declared.wide_at.Stage.TheVariants.{Place as PlaceStage}
@@ -44,7 +44,7 @@ pub asked : (lts : System) (problem : Problem) → IsProblem lts problem → IsS
 asked lts (Event s t) h = h
 asked lts (States s s') (less, lt) = ((let l = less in omega arith), lt, λ e. (omega arith))
 
-pub case_over : (c : CaseSetting) (named : NamedSystem) → IsCase c → (system : IsNamedSystem c named) → IsCaseOver (shown_case c) system.case
+pub case_over : (c : CaseSetting) (named : NamedRows) → IsCase c → (system : IsNamedSystem c named) → IsCaseOver (shown_case c) system.case
 case_over c named is system = record {
   in_range = is.setting.in_range;
   reachable = is.setting.reachable;
@@ -56,7 +56,7 @@ case_over c named is system = record {
 }
 
 -- the system has as many columns as the class and the basis say
-pub case_columns : (c : CaseSetting) (named : NamedSystem) → (system : IsNamedSystem c named) → named.system.columns ≡ column_count c.setting.lts.now (cycle_of c.setting.basis.now) c.setting.class
+pub case_columns : (c : CaseSetting) (named : NamedRows) → (system : IsNamedSystem c named) → named.system.columns ≡ column_count c.setting.lts.now (cycle_of c.setting.basis.now) c.setting.class
 case_columns c named system = ap (λ s. s.columns) system.shows.system ∙ columns_of_case (shown_case c) system.case system.made
 
 -- the ratio of a column
@@ -65,7 +65,7 @@ ratio_is [] j P lt each = absurd (omega arith)
 ratio_is (f ∷ point) j P lt each = subst P (sym (get_or-map ratio_of (f ∷ point) j f (whole (pos 0)) lt)) (each f)
 
 -- the point solves the case
-pub solves : (c : CaseSetting) (named : NamedSystem) (point : List Fraction) → IsCase c → IsNamedSystem c named → IsWholeSolution named.system (forms_in named) point → SolvesCase (shown_setting c.setting) c.problem point
+pub solves : (c : CaseSetting) (named : NamedRows) (point : List Fraction) → IsCase c → IsNamedSystem c named → IsWholeSolution named.system (forms_in named) point → SolvesCase (shown_setting c.setting) c.problem point
 solves c named point is system at = record {
   number = c.number;
   case = system.case;
@@ -92,7 +92,7 @@ point_is lts basis class node members point has are count =
     point_of lts basis class point (are.one_each ∙ count) node members
     (λ j lt. ratio_is point j (IsValueAt node members j) lt (λ f. value_at node members has j (get_or point j f) (let e = are.one_each in omega arith) (λ scale v basic. are.each j f lt scale v basic)))
 
-module _ (c : CaseSetting) (named : NamedSystem) (sides : List SplitSide) (point : List Fraction) (system : IsNamedSystem c named) (at : IsFoundPoint named.system (forms_in named) sides point) where
+module _ (c : CaseSetting) (named : NamedRows) (sides : List SplitSide) (point : List Fraction) (system : IsNamedSystem c named) (at : IsFoundPoint named.system (forms_in named) sides point) where
   case_found : Branching (rows_of system.case) system.case.forms (found at.members sides)
   case_found = subst (λ s. Branching s system.case.forms (found at.members sides)) system.shows.system (subst (λ fs. Branching named.system fs (found at.members sides)) system.shows.forms at.outcome)
 
@@ -114,7 +114,7 @@ module _ (c : CaseSetting) (named : NamedSystem) (sides : List SplitSide) (point
   place_fails w fold = place_passes system.case at.members sides (point_start c.setting.class point) (point_value c.setting.lts.now (cycle_of c.setting.basis.now) c.setting.class point) w system.made case_found case_point fold
 
 -- the step that the place of the point shows
-pub place_shown : (c : CaseSetting) (named : NamedSystem) (sides : List SplitSide) (fractions : List Fraction) (w : Wide) → IsCase c → IsNamedSystem c named
+pub place_shown : (c : CaseSetting) (named : NamedRows) (sides : List SplitSide) (fractions : List Fraction) (w : Wide) → IsCase c → IsNamedSystem c named
     → IsFoundPoint named.system (forms_in named) sides fractions
     → place_fold (shown_setting c.setting) c.problem (point_start c.setting.class fractions) (point_value c.setting.lts.now (cycle_of c.setting.basis.now) c.setting.class fractions) (Err w)
     → PlaceShown c.setting.lts.now c.setting.class (passed_at PlaceStage c (named_sides c.setting.lts.now c.setting.class c.problem sides) w)

@@ -25,7 +25,7 @@ use Rattle.rg_cert_data.proofs.Trees.{tree_is}
 use Rattle.rg_branch.specs.View.{TreeNode}
 use Rattle.rg_branch.specs.Answer.{IsSplitTree}
 use Rattle.rg_outcome.specs.Casing.{spread_tree, CaseResult.passes, CaseComes, CaseComes.is_refuted, CaseComes.leaf_passes}
-use Rattle.rg_rows.specs.declared.named_system.NamedSystem.{NamedSystem}
+use Rattle.rg_rows.specs.Shared.{NamedRows}
 use Rattle.rg_rows.specs.Shown.{ShowsCase}
 use Rattle.rg_case_parts.specs.SettingViews.{shown_case}
 use Rattle.rg_separate.specs.declared.case.CaseAnswer.TheVariants as answer
@@ -57,7 +57,7 @@ form_stands lts class problem f = held_or (FormStands class) (split_forms lts cl
 
 -- ---- nodes beside the visits of which they are made
 
-module _ (c : CaseSetting) (named : NamedSystem) where
+module _ (c : CaseSetting) (named : NamedRows) where
   abbrev pub AreMadeOf : List Visit → List reasons.TreeNode → Type 0
   AreMadeOf [] [] = Unit {0}
   AreMadeOf [] (n ∷ nodes) = ⊥
@@ -154,7 +154,7 @@ module _ (c : CaseSetting) (named : NamedSystem) where
 -- ---- the loop
 
 -- the nodes before number i are made, and the way has gone on to the node below these sides
-pub record IsWalk (c : CaseSetting) (named : NamedSystem) (nodes : List TreeNode) (i : ℕ) (above : List SplitSide) (made : List reasons.TreeNode) : Type 0 where
+pub record IsWalk (c : CaseSetting) (named : NamedRows) (nodes : List TreeNode) (i : ℕ) (above : List SplitSide) (made : List reasons.TreeNode) : Type 0 where
   pub whole : SplitTree
   pub outcome : Branching named.system (forms_in named) (tree whole)
   pub done : List Visit
@@ -166,7 +166,7 @@ pub record IsWalk (c : CaseSetting) (named : NamedSystem) (nodes : List TreeNode
   pub made_are : AreMadeOf c named done made
   pub in_range : All (IsNodeOf c.setting.lts.now) made
 
-module _ (c : CaseSetting) (named : NamedSystem) (nodes : List TreeNode) where
+module _ (c : CaseSetting) (named : NamedRows) (nodes : List TreeNode) where
   pub walk_start : (above : List SplitSide) (made : List reasons.TreeNode) → IsSplitTree named.system (forms_in named) nodes → above ≡ [] → made ≡ [] → IsWalk c named nodes 0 above made
   walk_start above made t none empty = record {
     whole = t.whole;
@@ -260,7 +260,7 @@ module _ (c : CaseSetting) (named : NamedSystem) (nodes : List TreeNode) where
         (tree_fails c named [] w.whole w.done made h.v h.rest wide (w.visits_are ∙ ap (λ vs. w.done ++ vs) h.left_is) w.made_are (subst (λ sides. LeafPasses c named sides h.v.node wide) (sym h.sides) (subst (λ m. LeafPasses c named above m wide) (sym h.node) fails)) case shows)
 
 -- the case of the nodes that are made
-pub walk_refutes : (c : CaseSetting) (named : NamedSystem) (nodes : List TreeNode) (i : ℕ) (above : List SplitSide) (case : Case) → IsWalk c named nodes i above (nodes_of case) → length nodes ≤ i → RefutesCase c.setting.lts.now c.setting.class c.problem c.number case
+pub walk_refutes : (c : CaseSetting) (named : NamedRows) (nodes : List TreeNode) (i : ℕ) (above : List SplitSide) (case : Case) → IsWalk c named nodes i above (nodes_of case) → length nodes ≤ i → RefutesCase c.setting.lts.now c.setting.class c.problem c.number case
 walk_refutes c named nodes i above case w past =
     let end = walk_end c named nodes i above (nodes_of case) w past in
     let same = tree_is (nodes_of case) end.made end.nodes_are in
@@ -272,7 +272,7 @@ walk_refutes c named nodes i above case w past =
 
 -- ---- what a case with a tree comes to
 
-module _ (c : CaseSetting) (named : NamedSystem) (system : IsNamedSystem c named) (nodes : List TreeNode) (i : ℕ) (above : List SplitSide) where
+module _ (c : CaseSetting) (named : NamedRows) (system : IsNamedSystem c named) (nodes : List TreeNode) (i : ℕ) (above : List SplitSide) where
   case_branching : (whole : SplitTree) → Branching named.system (forms_in named) (tree whole) → Branching (rows_of system.case) system.case.forms (tree whole)
   case_branching whole b = subst (λ s. Branching s system.case.forms (tree whole)) system.shows.system (subst (λ fs. Branching named.system fs (tree whole)) system.shows.forms b)
 

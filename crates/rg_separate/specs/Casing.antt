@@ -11,16 +11,16 @@ use Rattle.rg_linear.specs.System.{LinearSystem, AreFarkasMultipliers}
 use Rattle.rg_branch_trees.specs.Trees as splits
 use Rattle.rg_branch_trees.specs.Trees.{low_side, TreeNode.leaf_node, TreeNode.split_node}
 use Rattle.rg_branch_trees.specs.Turning.{turned}
-use Rattle.rg_linear.specs.Branching.{Form, form_at, SplitSide, Weight, weights_from, node_system}
+use Rattle.rg_linear.specs.Branching.{Form, form_at, SplitSide, Weight, weights_from, node_system, AreBounded}
 use Rattle.rg_folds.specs.Fold.{each}
 use Rattle.rg_case_folds.specs.Rewriting.{CaseSystem, split_forms, system_fold}
 use Rattle.rg_case_folds.specs.Spreading.{Share, share_fold, spread_fold}
 use Rattle.rg_case_folds.specs.Shown.{IsLive, named_sides}
 use Rattle.rg_branch.specs.View.{TreeNode}
 use Rattle.rg_branch.specs.Asked.{AreSidesOf}
-use Rattle.rg_rows.specs.Forms.{linear_form, split_of, AreFormsOf}
+use Rattle.rg_rows.specs.Forms.{linear_form, split_of, forms_after, AreFormsOf}
 use Rattle.rg_rows.specs.Shown.{ShowsCase}
-use Rattle.rg_rows.specs.declared.named_system.NamedSystem.{NamedSystem}
+use Rattle.rg_rows.specs.Shared.{NamedRows}
 use Rattle.rg_cert_data.specs.Trees as reasons
 use Rattle.rg_case_parts.specs.declared.setting.CaseSetting.{CaseSetting}
 use Rattle.rg_separate.specs.Keeping.{IsSetting}
@@ -35,16 +35,17 @@ pub record IsCase (c : CaseSetting) : Type 0 where
   pub below : c.number < cases_of c.setting.lts.now c.setting.class c.problem
 
 -- the forms of the system over its columns
-abbrev pub forms_in : NamedSystem → List Form
-forms_in named = map linear_form named.forms.items
+abbrev pub forms_in : NamedRows → List Form
+forms_in named = map linear_form named.forms
 
 -- the named system is that of the case, and a branching on its forms may be asked for
-pub record IsNamedSystem (c : CaseSetting) (named : NamedSystem) : Type 0 where
+pub record IsNamedSystem (c : CaseSetting) (named : NamedRows) : Type 0 where
   pub case : CaseSystem
   pub made : system_fold (shown_case c) (Ok case)
   pub shows : ShowsCase named case
-  pub by_name : map split_of named.forms.items ≡ split_forms c.setting.lts.now c.setting.class c.problem
-  pub forms : AreFormsOf named.system named.forms.items
+  pub by_name : map split_of named.forms ≡ split_forms c.setting.lts.now c.setting.class c.problem
+  pub forms : AreFormsOf named.system (forms_after named.before named.forms)
+  pub bounded : AreBounded named.system (forms_in named)
 
 -- ---- the way through a tree of splits
 
@@ -92,22 +93,22 @@ abbrev pub said_in : CaseSetting → List SplitSide → RowName → Expression
 said_in c above = row_expression c.setting.lts.now c.setting.class c.problem c.number (sides_by_name c above)
 
 -- the rows refute the case below the sides, and are the leaf of the weights
-pub record IsLeafMade (c : CaseSetting) (named : NamedSystem) (above : List SplitSide) (weights : List Weight) (rows : List NamedRow) : Type 0 where
+pub record IsLeafMade (c : CaseSetting) (named : NamedRows) (above : List SplitSide) (weights : List Weight) (rows : List NamedRow) : Type 0 where
   pub refutes : LeafRefutes (RowStandsIn c above) (said_in c above) rows
   pub spreads : (case : CaseSystem) → ShowsCase named case → spread_fold (shown_case c) case above (sides_by_name c above) weights (Ok rows)
 
 -- the leaf is made; the split has its form's name
-abbrev pub IsMadeOf : CaseSetting → NamedSystem → List SplitSide → TreeNode → reasons.TreeNode → Type 0
+abbrev pub IsMadeOf : CaseSetting → NamedRows → List SplitSide → TreeNode → reasons.TreeNode → Type 0
 IsMadeOf c named above (leaf_node weights) (leaf_node rows) = IsLeafMade c named above weights rows
 IsMadeOf c named above (leaf_node weights) (split_node form at) = ⊥
 IsMadeOf c named above (split_node f u) (leaf_node rows) = ⊥
 IsMadeOf c named above (split_node f u) (split_node form at) = (form ≡ slice_index_or (split_forms c.setting.lts.now c.setting.class c.problem) f (split_form.Tokens 0)) × (at ≡ u)
 
 -- the shares of the weights below the sides: the fold's result
-abbrev pub SharesFold : NamedSystem → List SplitSide → List Weight → Result (List Share) Wide → Type 0
-SharesFold named above weights result = (case : CaseSystem) → ShowsCase named case → each (share_fold case above (sides_among (map split_of named.forms.items) above)) weights result
+abbrev pub SharesFold : NamedRows → List SplitSide → List Weight → Result (List Share) Wide → Type 0
+SharesFold named above weights result = (case : CaseSystem) → ShowsCase named case → each (share_fold case above (sides_among (map split_of named.forms) above)) weights result
 
 -- the first step of a leaf out of range
-abbrev pub LeafPasses : CaseSetting → NamedSystem → List SplitSide → TreeNode → Wide → Type 0
+abbrev pub LeafPasses : CaseSetting → NamedRows → List SplitSide → TreeNode → Wide → Type 0
 LeafPasses c named above (leaf_node weights) w = (case : CaseSystem) → ShowsCase named case → spread_fold (shown_case c) case above (sides_by_name c above) weights (Err w)
 LeafPasses c named above (split_node f u) w = ⊥

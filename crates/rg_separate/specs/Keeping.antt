@@ -1,8 +1,9 @@
 -- What is found on the way through the problems.
-use Rattle.std.specs.Prelude.{◌≡◌, List, All}
-use Rattle.rg_theory.specs.System.{System, labels, IsInRange, IsAllReachable}
+use Rattle.std.specs.Prelude.{◌≡◌, List, All, length}
+use Rattle.rg_theory.specs.System.{System, states, labels, IsInRange, IsAllReachable}
 use Rattle.rg_theory.specs.declared.Class.{Class}
 use Rattle.rg_theory.specs.ClassWords.{HasNumbersInRange}
+use Rattle.rg_theory.specs.Tree.{IsTree}
 use Rattle.rg_theory.specs.Net.{Place}
 use Rattle.rg_net.specs.Range.{IsPlaceInRange}
 use Rattle.rg_marks.specs.Tokens.{IsNarrow}
@@ -14,12 +15,13 @@ use Rattle.rg_spanning.specs.Spanning.{IsTreeOf}
 use Rattle.rg_case_folds.specs.Rewriting.{column_count}
 use Rattle.rg_case_folds.specs.Chords.{IsBasis}
 use Rattle.rg_cycles.specs.View.{labels_of, cycle_of}
-use Rattle.rg_rows.specs.Sharing.{IsCommonOf}
+use Rattle.rg_rows.specs.Sharing.{IsCommonOf, shared_forms}
+use Rattle.rg_separate.specs.Bounding.{AreBoundedOf}
 use Rattle.rg_marks.specs.declared.region_place.RegionPlace.{RegionPlace}
 use Rattle.rg_places.specs.RegionPlaces.{IsRegionPlace}
 use Rattle.rg_case_parts.specs.declared.setting.Setting.{Setting}
 use Rattle.rg_case_parts.specs.SettingViews.{shown_setting}
-use Rattle.rg_separate.specs.declared.workspace.Workspace.{Workspace}
+use Rattle.rg_separate.specs.declared.kept.Kept.{Kept}
 use Rattle.rg_separate.specs.declared.solving.Problems.{Problems}
 
 -- the tree is that of the system, all of whose states are reachable, the basis is that of its chords, and the class's numbers
@@ -32,20 +34,16 @@ pub record IsSetting (s : Setting) : Type 0 where
   pub basis : IsBasis s.lts.now s.tree.now.arcs (cycle_of s.basis.now)
   pub bound : HasNumbersInRange s.class
 
--- the rows and forms are those that all problems of the setting share, and the solver is for systems of so many columns
-pub record Serves (s : Setting) (w : Workspace) : Type 0 where
-  pub common : IsCommonOf (shown_setting s) w.common
-  pub columns : w.solver ≡ column_count s.lts.now (cycle_of s.basis.now) s.class
+-- the rows and forms are those that all problems of the setting share, also as a branching takes them, and there are so many columns
+pub record Serves (s : Setting) (p : Problems) : Type 0 where
+  pub common : IsCommonOf (shown_setting s) p.common.now
+  pub forms : AreBoundedOf (shared_forms p.common.now) p.forms.now
+  pub columns : p.columns ≡ column_count s.lts.now (cycle_of s.basis.now) s.class
 
--- the problems are of a setting, with the number of their columns
+-- the problems are of a setting, with what they share
 pub record CanSolve (p : Problems) : Type 0 where
   pub setting : IsSetting p.setting
-  pub columns : p.columns ≡ column_count p.setting.lts.now (cycle_of p.setting.basis.now) p.setting.class
-
--- the rows and forms are those that all problems of the setting share, and the solver is for systems of as many columns as they have
-pub record Works (p : Problems) (w : Workspace) : Type 0 where
-  pub common : IsCommonOf (shown_setting p.setting) w.common
-  pub columns : w.solver ≡ p.columns
+  pub serves : Serves p.setting p
 
 -- the place is a region, of some class, and its numbers fit
 abbrev pub MayKeep : System → RegionPlace → Type 0
@@ -62,3 +60,10 @@ pub record AreKept (lts : System) (places : List Place) (all : List Firsts) (sep
   pub each : All (IsKept lts) places
   pub firsts : AreAllFirsts lts places all
   pub so_much : SeparateSoMuch lts places separated
+
+-- such places are kept, with a tree of the system, and a number for each state
+pub record IsKeeping (lts : System) (k : Kept) : Type 0 where
+  pub kept : AreKept lts k.places.items k.firsts.items k.separated
+  pub in_range : IsInRange lts
+  pub tree : IsTree lts k.tree.now
+  pub one_each : length k.tokens.items ≡ states lts

@@ -6,3 +6,4 @@ pub mod Casing
 pub mod Deciding
 pub mod Points
 pub mod Refusals
+pub mod Bounding

@@ -1,11 +1,10 @@
 //! One case of a problem.
-ghost use Rattle.std.specs.Prelude.{◌≡◌, map, IfOk};
-ghost use Rattle.rg_linear.specs.Branching.{form_at};
+ghost use Rattle.std.specs.Prelude.{◌≡◌, map, IfOk, IfErr, IsTrue};
 ghost use Rattle.rg_cert_meaning.specs.Sides.{side_of};
-ghost use Rattle.rg_branch.specs.View.{forms_of};
-ghost use Rattle.rg_branch.specs.Asked.{CanBranch, AreSidesOf};
-ghost use Rattle.rg_rows.specs.Forms.{linear_form, split_of, AreFormsOf};
-ghost use Rattle.rg_separate.specs.Casing.{IsCase, IsNamedSystem, forms_in, sides_among};
+ghost use Rattle.rg_branch.specs.Answer.{IsAnswer, IsSound, IsStop};
+ghost use Rattle.rg_rows.specs.Forms.{forms_after, AreFormsOf};
+ghost use Rattle.rg_separate.specs.Casing.{IsCase, IsNamedSystem, forms_in};
+ghost use Rattle.rg_separate.specs.Bounding.{AreBoundedOf};
 ghost use Rattle.rg_separate.specs.Keeping.{Serves};
 ghost use Rattle.rg_separate.specs.Deciding.{CaseTells, CaseComesTo};
 ghost use Rattle.rg_separate.specs.View.{shown_of};
@@ -14,7 +13,7 @@ ghost use Rattle.rg_separate.specs.Passing.{passed_at, pivot_at};
 use crate::placing::place_answer;
 use crate::refuting::refutation_answer;
 use crate::sides::named_triples;
-use crate::workspace::Workspace;
+use crate::solving::Problems;
 use rg_branch::{Bounded, BranchStop, Solver, Whole};
 use rg_case_parts::CaseSetting;
 use rg_cert_data::{Case, Stage, WideAt};
@@ -23,7 +22,8 @@ use rg_feasible::PivotWide;
 use rg_fraction::FoldStop;
 use rg_integers::Wide;
 use rg_marks::RegionPlace;
-use rg_rows::{NamedForm, NamedSystem, system_with};
+use rg_memory::NoMemory;
+use rg_rows::{NamedCase, NamedForm, system_with};
 use std::alloc::{AllocError, Global};
 
 // What a case comes to.
@@ -36,42 +36,44 @@ pub(crate) enum CaseAnswer {
 
 // A place that separates the problem in this case, what refutes the case, or the first term out of range.
 pub(crate) fn solve_case(
-    alloc: Global,
-    workspace: &mut Workspace,
+    problems: Problems<'_>,
+    solver: &mut Solver,
     c: CaseSetting<'_>,
 ) -> Result<CaseAnswer, AllocError>
     requires case { IsCase c }
-    requires serves { Serves c.setting workspace.old }
+    requires serves { Serves c.setting problems }
+    requires columns { solver.old ≡ problems.columns }
     ensures tells { IfOk result (CaseTells c.entry.setting.lts.now c.entry.setting.class c.entry.problem c.entry.number) }
     ensures comes { IfOk result (CaseComesTo c.entry) }
-    ensures same { workspace.new ≡ workspace.old }
+    ensures same { solver.new ≡ solver.old }
 {
-    match system_with(alloc, &workspace.common, c) {
-        Ok(named) => branch_on_forms(alloc, &mut workspace.solver, c, &named),
+    match system_with(problems.alloc, problems.common, c) {
+        Ok(named) => answer_of_forms(problems, solver, c, &named),
         Err(FoldStop::Wide(wide)) => {
-            let above = Vec::new(alloc);
-            Ok(CaseAnswer::Wide(wide_case(alloc, Stage::Row, c, above, wide)))
+            let above = Vec::new(problems.alloc);
+            Ok(CaseAnswer::Wide(wide_case(problems.alloc, Stage::Row, c, above, wide)))
         }
         Err(FoldStop::NoMemory) => Err(AllocError),
     }
 }
 
 // What the branching on the case's forms comes to.
-fn branch_on_forms(
-    alloc: Global,
+fn answer_of_forms(
+    problems: Problems<'_>,
     solver: &mut Solver,
     c: CaseSetting<'_>,
-    named: &NamedSystem,
+    named: &NamedCase<'_>,
 ) -> Result<CaseAnswer, AllocError>
     requires case { IsCase c }
     requires system { IsNamedSystem c named.now }
+    requires forms { IsTrue named.now.joined → AreBoundedOf named.now.forms problems.forms.now }
     requires columns { solver.old ≡ named.now.system.columns }
     ensures tells { IfOk result (CaseTells c.entry.setting.lts.now c.entry.setting.class c.entry.problem c.entry.number) }
     ensures comes { IfOk result (CaseComesTo c.entry) }
     ensures columns { solver.new ≡ solver.old }
 {
-    let forms = bounded_forms(alloc, named)?;
-    match solver.solve_whole(alloc, &named.system, &forms) {
+    let alloc = problems.alloc;
+    match branch_on_forms(problems, solver, named) {
         Ok(Whole::Point(point, above)) => place_answer(alloc, c, named, &point, &above),
         Ok(Whole::Tree(nodes)) => refutation_answer(alloc, c, named, &nodes),
         Err(
@@ -81,22 +83,43 @@ fn branch_on_forms(
                 wide,
             },
         ) => {
-            let above = named_triples(alloc, &named.forms, &above)?;
+            let above = named_triples(alloc, named.forms(), &above)?;
             Ok(CaseAnswer::Wide(wide_pivot(c, above, members, wide)))
         }
         Err(BranchStop::NoMemory) => Err(AllocError),
     }
 }
 
-// The forms as a branching takes them.
-fn bounded_forms(alloc: Global, named: &NamedSystem) -> Result<Vec<Bounded>, AllocError>
-    requires { AreFormsOf named.now.system named.now.forms.items }
-    ensures forms { IfOk result (λ v. forms_of v.items ≡ forms_in named.now) }
-    ensures can { IfOk result (λ v. CanBranch named.now.system v.items) }
+// The branching on the forms that all cases share, or on forms of the case's own.
+fn branch_on_forms(
+    problems: Problems<'_>,
+    solver: &mut Solver,
+    named: &NamedCase<'_>,
+) -> Result<Whole, BranchStop>
+    requires are { AreFormsOf named.now.system (forms_after named.now.before named.now.forms) }
+    requires forms { IsTrue named.now.joined → AreBoundedOf named.now.forms problems.forms.now }
+    requires columns { solver.old ≡ named.now.system.columns }
+    ensures answer { IfOk result (IsAnswer named.now.system (forms_in named.now)) }
+    ensures sound { IfOk result (IsSound named.now.system (forms_in named.now)) }
+    ensures stop { IfErr result (IsStop named.now.system (forms_in named.now)) }
+    ensures columns { solver.new ≡ solver.old }
 {
-    let mut forms = Vec::with_capacity(alloc, named.forms.len())?;
-    for form in &named.forms {
-        forms.push(Bounded {
+    let alloc = problems.alloc;
+    let system = named.system();
+    if named.has_shared_rows() {
+        return solver.solve_whole(alloc, &system, problems.forms, named.before());
+    }
+    let forms = bounded_forms(alloc, named.forms())?;
+    solver.solve_whole(alloc, &system, &forms, named.before())
+}
+
+// The forms as a branching takes them.
+pub(crate) fn bounded_forms(alloc: Global, forms: &[NamedForm]) -> Result<Vec<Bounded>, NoMemory>
+    ensures { IfOk result (λ v. AreBoundedOf forms.now v.items) }
+{
+    let mut bounded = Vec::with_capacity(alloc, forms.len())?;
+    for form in forms {
+        bounded.push(Bounded {
             scale: form.scale,
             coeffs: form.coeffs.clone()?,
             low: form.low,
@@ -105,7 +128,7 @@ fn bounded_forms(alloc: Global, named: &NamedSystem) -> Result<Vec<Bounded>, All
             times: form.times,
         })?;
     }
-    Ok(forms)
+    Ok(bounded)
 }
 
 // The first step of a fold that is out of range, below these sides.

@@ -13,7 +13,6 @@ mod separation;
 mod shares;
 mod sides;
 mod solving;
-mod workspace;
 
 pub use place::make_place;
 pub use refusal::{Refusal, find_refusal};

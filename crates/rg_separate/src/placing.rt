@@ -11,14 +11,14 @@ use rg_case_parts::CaseSetting;
 use rg_cert_data::Stage;
 use rg_fraction::{FoldStop, Fraction};
 use rg_places::make_place;
-use rg_rows::NamedSystem;
+use rg_rows::NamedCase;
 use std::alloc::{AllocError, Global};
 
 // The place of the point at which the branching has ended, below these splits.
 pub(crate) fn place_answer(
     alloc: Global,
     c: CaseSetting<'_>,
-    named: &NamedSystem,
+    named: &NamedCase<'_>,
     point: &[Fraction],
     above: &[Side<u32>],
 ) -> Result<CaseAnswer, AllocError>
@@ -32,7 +32,7 @@ pub(crate) fn place_answer(
     match make_place(alloc, c.setting, c.problem, point) {
         Ok(region) => Ok(CaseAnswer::Place(region)),
         Err(FoldStop::Wide(wide)) => {
-            let above = named_triples(alloc, &named.forms, above)?;
+            let above = named_triples(alloc, named.forms(), above)?;
             Ok(CaseAnswer::Wide(wide_case(alloc, Stage::Place, c, above, wide)))
         }
         Err(FoldStop::NoMemory) => Err(AllocError),

@@ -8,19 +8,20 @@ ghost use Rattle.rg_theory.specs.ClassWords.{HasNumbersInRange};
 ghost use Rattle.rg_theory.specs.System.{IsAllReachable};
 ghost use Rattle.rg_theory.specs.Problem.{IsProblem};
 ghost use Rattle.rg_case_folds.specs.Shown.{IsLive};
-ghost use Rattle.rg_separate.specs.Keeping.{IsSetting, Serves};
+ghost use Rattle.rg_separate.specs.Keeping.{IsSetting, CanSolve};
 ghost use Rattle.rg_separate.specs.Deciding.{RefutesCase, AreTried, CasesCameTo, IsGoodReason, ProblemTells, ProblemComesTo};
 
 use crate::case::{CaseAnswer, solve_case};
 use crate::dead::{block_label, is_dead};
-use crate::workspace::Workspace;
+use crate::solving::Problems;
+use rg_branch::Solver;
 use rg_case_parts::{CaseSetting, Setting};
 use rg_cert_data::{Case, Reason, WideAt};
 use rg_lts::Lts;
 use rg_marks::RegionPlace;
 use rg_rows::cases;
 use rg_theory::{Class, Problem};
-use std::alloc::{AllocError, Global};
+use std::alloc::AllocError;
 
 // What a problem comes to.
 #[derive(Drop)]
@@ -40,44 +41,44 @@ struct Tried {
 // What a problem comes to: that of a label without an arc to the place that alone stops it, and each other one to what
 // its cases do.
 pub(crate) fn solve_problem(
-    alloc: Global,
-    workspace: &mut Workspace,
-    setting: Setting<'_>,
+    problems: Problems<'_>,
+    solver: &mut Solver,
     problem: Problem,
 ) -> Result<ProblemAnswer, AllocError>
-    requires setting { IsSetting setting }
-    requires serves { Serves setting workspace.old }
-    requires has { IsProblem setting.lts.now problem }
-    ensures tells { IfOk result (ProblemTells setting.entry.lts.now setting.entry.class problem) }
-    ensures comes { IfOk result (ProblemComesTo setting.entry problem) }
-    ensures same { workspace.new ≡ workspace.old }
+    requires can { CanSolve problems }
+    requires columns { solver.old ≡ problems.columns }
+    requires has { IsProblem problems.setting.lts.now problem }
+    ensures tells { IfOk result (ProblemTells problems.entry.setting.lts.now problems.entry.setting.class problem) }
+    ensures comes { IfOk result (ProblemComesTo problems.entry.setting problem) }
+    ensures same { solver.new ≡ solver.old }
 {
+    let lts = problems.setting.lts;
     match problem {
-        Problem::Event(_, t) if is_dead(setting.lts, t) => {
-            Ok(ProblemAnswer::Place(block_label(alloc, setting.lts, t)?))
+        Problem::Event(_, t) if is_dead(lts, t) => {
+            Ok(ProblemAnswer::Place(block_label(problems.alloc, lts, t)?))
         }
-        _ => solve_live(alloc, workspace, setting, problem),
+        _ => solve_live(problems, solver, problem),
     }
 }
 
 // The place of the first case that gives one; else, where no number passes, what refutes all cases; else the first
 // term that passes.
 fn solve_live(
-    alloc: Global,
-    workspace: &mut Workspace,
-    setting: Setting<'_>,
+    problems: Problems<'_>,
+    solver: &mut Solver,
     problem: Problem,
 ) -> Result<ProblemAnswer, AllocError>
-    requires setting { IsSetting setting }
-    requires serves { Serves setting workspace.old }
-    requires has { IsProblem setting.lts.now problem }
-    requires live { IsLive setting.lts.now problem }
-    ensures tells { IfOk result (ProblemTells setting.entry.lts.now setting.entry.class problem) }
-    ensures comes { IfOk result (ProblemComesTo setting.entry problem) }
-    ensures same { workspace.new ≡ workspace.old }
+    requires can { CanSolve problems }
+    requires columns { solver.old ≡ problems.columns }
+    requires has { IsProblem problems.setting.lts.now problem }
+    requires live { IsLive problems.setting.lts.now problem }
+    ensures tells { IfOk result (ProblemTells problems.entry.setting.lts.now problems.entry.setting.class problem) }
+    ensures comes { IfOk result (ProblemComesTo problems.entry.setting problem) }
+    ensures same { solver.new ≡ solver.old }
 {
+    let setting = problems.setting;
     let mut tried = Tried {
-        refuted: Vec::new(alloc),
+        refuted: Vec::new(problems.alloc),
         passed: None,
     };
     for case in 0..cases(setting.lts, setting.class, problem) {
@@ -86,7 +87,7 @@ fn solve_live(
             problem,
             number: case,
         };
-        match solve_case(alloc, workspace, c)? {
+        match solve_case(problems, solver, c)? {
             CaseAnswer::Place(region) => return Ok(ProblemAnswer::Place(region)),
             CaseAnswer::Refuted(case) => tried.refuted.push(case)?,
             CaseAnswer::Wide(at) => tried.note(at),

@@ -2,14 +2,15 @@
 ghost use Rattle.std.specs.Prelude.{◌≡◌, ◌≤◌, All, IfOk, IfSome, IfNone};
 ghost use Rattle.rg_theory.specs.System.{IsAllReachable};
 ghost use Rattle.rg_theory.specs.ClassWords.{no_condition};
-ghost use Rattle.rg_separate.specs.Keeping.{IsSetting, IsKept, AreKept};
+ghost use Rattle.rg_separate.specs.Keeping.{IsSetting, IsKept, IsKeeping};
 ghost use Rattle.rg_separate.specs.Refusals.{IsRefusedBy, IsNotRefused};
 
+use crate::case::bounded_forms;
 use crate::kept::Kept;
 use crate::separation::certify;
 use crate::solving::Problems;
-use crate::workspace::Workspace;
 use rg_blocks::{Progress, Search, find_refuted};
+use rg_branch::Solver;
 use rg_case_parts::{Setting, TreeChords};
 use rg_cert_data::Certificate;
 use rg_cycles::{Stop, reduce_rows};
@@ -28,7 +29,7 @@ use std::thread::Threads;
 pub struct Refusal {
     /// The certificate of the class of all nets.
     pub certificate: Certificate,
-    /// Regions of the system: those that were known, and after them those that were found.
+    /// Regions of the system that are known then.
     pub places: Vec<CompactPlace>,
 }
 
@@ -80,24 +81,25 @@ fn find_in_setting<R: Threads + Sync, G: Gate + Sync>(
     setting: Setting<'_>,
     jobs: u8,
     gate: &G,
-    kept: Kept,
+    kept: Kept<'_>,
 ) -> Result<Option<Refusal>, NoMemory>
     requires setting { IsSetting setting }
     requires all_nets { setting.class ≡ no_condition }
     requires some { 1 ≤ jobs }
-    requires kept { AreKept setting.lts.now kept.places.items kept.firsts.items kept.separated }
+    requires kept { IsKeeping setting.lts.now kept }
     ensures refused { IfOk result (λ r. IfSome r (IsRefusedBy setting.entry.lts.now)) }
     ensures not_refused { IfOk result (λ r. IfNone r (IsNotRefused setting.entry.lts.now)) }
 {
     let lts = setting.lts;
     lts.is_well_formed();
     let common = Common::new(alloc, setting)?;
-    let columns = common.column_count(setting.basis);
-    let workspace = Workspace::new(alloc, common, columns)?;
+    let forms = bounded_forms(alloc, common.shared_forms())?;
     let problems = Problems {
         alloc,
         setting,
-        columns,
+        columns: common.column_count(setting.basis),
+        common: &common,
+        forms: &forms,
     };
     let search = Search {
         alloc,
@@ -108,7 +110,7 @@ fn find_in_setting<R: Threads + Sync, G: Gate + Sync>(
     };
     let mut progress = Progress {
         kept,
-        workspace,
+        workspace: Solver::new(alloc, problems.columns)?,
         proof: None,
     };
     let found = find_refuted(rt, &search, &mut progress)?;

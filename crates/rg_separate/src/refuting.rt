@@ -19,14 +19,14 @@ use rg_case_parts::CaseSetting;
 use rg_cert_data::{Case, Node, Stage};
 use rg_farkas::spread_in;
 use rg_fraction::FoldStop;
-use rg_rows::NamedSystem;
+use rg_rows::NamedCase;
 use std::alloc::{AllocError, Global};
 
 // The tree with which the branching has ended, node by node in preorder.
 pub(crate) fn refutation_answer(
     alloc: Global,
     c: CaseSetting<'_>,
-    named: &NamedSystem,
+    named: &NamedCase<'_>,
     nodes: &[RawNode],
 ) -> Result<CaseAnswer, AllocError>
     requires case { IsCase c }
@@ -41,7 +41,7 @@ pub(crate) fn refutation_answer(
         match node_below(alloc, c, named, &above, node) {
             Ok(node) => made.push(node)?,
             Err(FoldStop::Wide(wide)) => {
-                let above = named_triples(alloc, &named.forms, &above)?;
+                let above = named_triples(alloc, named.forms(), &above)?;
                 return Ok(CaseAnswer::Wide(wide_case(alloc, Stage::Spread, c, above, wide)));
             }
             Err(FoldStop::NoMemory) => return Err(AllocError),
@@ -70,7 +70,7 @@ fn go_on(above: &mut Vec<Side<u32>>, node: &RawNode) -> Result<(), AllocError>
 fn node_below(
     alloc: Global,
     c: CaseSetting<'_>,
-    named: &NamedSystem,
+    named: &NamedCase<'_>,
     above: &[Side<u32>],
     node: &RawNode,
 ) -> Result<Node, FoldStop>
@@ -82,7 +82,7 @@ fn node_below(
     ensures wide { (w : Wide) → IsErrOf result (stop.Wide w) → LeafPasses c.entry named.now above.now (node_of node.now) w }
 {
     match node {
-        RawNode::Split(form, at) => Ok(Node::Split(named.forms[*form as usize].form, *at)),
+        RawNode::Split(form, at) => Ok(Node::Split(named.forms()[*form as usize].form, *at)),
         RawNode::Leaf(weights) => leaf(alloc, c, named, above, weights),
     }
 }
@@ -91,7 +91,7 @@ fn node_below(
 fn leaf(
     alloc: Global,
     c: CaseSetting<'_>,
-    named: &NamedSystem,
+    named: &NamedCase<'_>,
     above: &[Side<u32>],
     weights: &[(u32, i128)],
 ) -> Result<Node, FoldStop>
@@ -103,6 +103,6 @@ fn leaf(
     ensures wide { (w : Wide) → IsErrOf result (stop.Wide w) → LeafPasses c.entry named.now above.now (leaf_node (map weight_of weights.now)) w }
 {
     let shares = shares(alloc, named, above, weights)?;
-    let above = named_sides(alloc, &named.forms, above)?;
+    let above = named_sides(alloc, named.forms(), above)?;
     spread_in(alloc, c, &shares, &above)
 }

@@ -7,17 +7,16 @@ ghost use Rattle.rg_case_folds.specs.Shown.{ShownWide};
 ghost use Rattle.rg_marks.specs.Firsts.{AreAllFirsts};
 ghost use Rattle.rg_separate.specs.View.{shown_of};
 ghost use Rattle.rg_separate.specs.Passing.{cycle_passed};
-ghost use Rattle.rg_separate.specs.Keeping.{IsSetting, CanSolve, Works};
-ghost use Rattle.rg_rows.specs.Sharing.{IsCommonOf};
-ghost use Rattle.rg_case_parts.specs.SettingViews.{shown_setting};
+ghost use Rattle.rg_separate.specs.Keeping.{IsSetting, CanSolve};
 ghost use Rattle.rg_separate.specs.Deciding.{EndsRefuted, EndsWide, ProvesRefuted};
 ghost use Rattle.rg_separate.specs.Answer.{AreSeparating, IsGoodCertificate, Ending, Ending.unsolvable, Ending.too_wide, ending_of, ending_with_firsts, IfPlaces, IfFirsts, IfUnsolvable, IfTooWide, SeparationTells, IsSearched};
 
+use crate::case::bounded_forms;
 use crate::kept::Kept;
 use crate::problem::{ProblemAnswer, solve_problem};
 use crate::solving::Problems;
-use crate::workspace::Workspace;
 use rg_blocks::{Progress, Search, SeparationOutcome, separate_all};
+use rg_branch::Solver;
 use rg_case_parts::{Setting, TreeChords};
 use rg_cert_data::{Certificate, Reason, Stage, WideAt};
 use rg_cycles::{CycleWide, Stop, reduce_rows};
@@ -120,8 +119,7 @@ pub fn separate_with_firsts<R: Threads + Sync, G: Gate + Sync>(
                 basis: &basis,
                 class,
             };
-            let common = Common::new(alloc, setting)?;
-            separate_setting(rt, alloc, setting, common, jobs, gate)
+            separate_setting(rt, alloc, setting, jobs, gate)
         }
         Err(Stop::Wide(wide)) => Ok(SeparationWithFirsts::TooWide(wide_cycle(alloc, wide))),
         Err(Stop::NoMemory) => Err(NoMemory),
@@ -161,24 +159,24 @@ fn separate_setting<R: Threads + Sync, G: Gate + Sync>(
     rt: &R,
     alloc: Global,
     setting: Setting<'_>,
-    common: Common,
     jobs: u8,
     gate: &G,
 ) -> Result<SeparationWithFirsts, NoMemory>
     requires setting { IsSetting setting }
-    requires common { IsCommonOf (shown_setting setting) common }
     requires some { 1 ≤ jobs }
     ensures tells { IfOk result (SeparationTells setting.entry.lts.now setting.entry.class) }
     ensures searched { IfOk result (λ s. IsSearched setting.entry.lts.now setting.entry.class (ending_with_firsts s)) }
 {
     let lts = setting.lts;
     lts.is_well_formed();
-    let columns = common.column_count(setting.basis);
-    let workspace = Workspace::new(alloc, common, columns)?;
+    let common = Common::new(alloc, setting)?;
+    let forms = bounded_forms(alloc, common.shared_forms())?;
     let problems = Problems {
         alloc,
         setting,
-        columns,
+        columns: common.column_count(setting.basis),
+        common: &common,
+        forms: &forms,
     };
     let search = Search {
         alloc,
@@ -188,8 +186,8 @@ fn separate_setting<R: Threads + Sync, G: Gate + Sync>(
         gate,
     };
     let mut progress = Progress {
-        kept: Kept::nothing(alloc, lts)?,
-        workspace,
+        kept: Kept::nothing(alloc, lts, setting.tree.arcs())?,
+        workspace: Solver::new(alloc, problems.columns)?,
         proof: None,
     };
     let outcome = separate_all(rt, &search, &mut progress)?;
@@ -214,12 +212,12 @@ fn separate_setting<R: Threads + Sync, G: Gate + Sync>(
 // The certificate of a refuted problem: with the reason that was kept, where it is that of the problem.
 pub(crate) fn certify(
     problems: Problems<'_>,
-    workspace: &mut Workspace,
+    workspace: &mut Solver,
     problem: Problem,
     proof: Option<(Problem, Reason)>,
 ) -> Result<Certificate, NoMemory>
     requires can { CanSolve problems }
-    requires serves { Works problems workspace.old }
+    requires columns { workspace.old ≡ problems.columns }
     requires refuted { EndsRefuted problems.setting problem }
     requires proves { IfSome proof (λ p. ProvesRefuted problems.setting p.0 p.1) }
     ensures good { IfOk result (IsGoodCertificate problems.entry.setting.lts.now problems.entry.setting.class) }
@@ -237,16 +235,16 @@ pub(crate) fn certify(
 // The certificate of a refuted problem, which is solved once more and comes to the same.
 fn prove_again(
     problems: Problems<'_>,
-    workspace: &mut Workspace,
+    workspace: &mut Solver,
     problem: Problem,
 ) -> Result<Certificate, NoMemory>
     requires can { CanSolve problems }
-    requires serves { Works problems workspace.old }
+    requires columns { workspace.old ≡ problems.columns }
     requires refuted { EndsRefuted problems.setting problem }
     ensures good { IfOk result (IsGoodCertificate problems.entry.setting.lts.now problems.entry.setting.class) }
     ensures searched { IfOk result (λ c. IsSearched problems.entry.setting.lts.now problems.entry.setting.class (Ending.unsolvable c)) }
 {
-    match solve_problem(problems.alloc, workspace, problems.setting, problem)? {
+    match solve_problem(problems, workspace, problem)? {
         ProblemAnswer::Refuted(reason) => {
             let class = problems.setting.class;
             Ok(Certificate { class, reason })
@@ -259,16 +257,16 @@ fn prove_again(
 // The term that a problem shows, which is solved once more and comes to the same.
 fn show_again(
     problems: Problems<'_>,
-    workspace: &mut Workspace,
+    workspace: &mut Solver,
     problem: Problem,
 ) -> Result<WideAt, NoMemory>
     requires can { CanSolve problems }
-    requires serves { Works problems workspace.old }
+    requires columns { workspace.old ≡ problems.columns }
     requires wide { EndsWide problems.setting problem }
     ensures shown { IfOk result (λ at. ShownWide problems.entry.setting.lts.now problems.entry.setting.class (shown_of at)) }
     ensures searched { IfOk result (λ at. IsSearched problems.entry.setting.lts.now problems.entry.setting.class (Ending.too_wide at)) }
 {
-    match solve_problem(problems.alloc, workspace, problems.setting, problem)? {
+    match solve_problem(problems, workspace, problem)? {
         ProblemAnswer::Wide(at) => Ok(at),
         ProblemAnswer::Place(_) => unreachable!(),
         ProblemAnswer::Refuted(_) => unreachable!(),

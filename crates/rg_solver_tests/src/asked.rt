@@ -31,6 +31,16 @@ pub(crate) const PLAIN_NONBRANCHING: Class = Class {
     ..NONBRANCHING
 };
 
+pub(crate) const PURE_PLAIN_TWO_MARKING: Class = Class {
+    pure: true,
+    ..PLAIN_TWO_MARKING
+};
+
+pub(crate) const SAFE_NONBRANCHING: Class = Class {
+    bound: Some(1),
+    ..NONBRANCHING
+};
+
 pub(crate) const PURE_PLAIN_SAFE: Class = Class {
     bound: Some(1),
     ..PURE_PLAIN

@@ -18,4 +18,8 @@ mod refusals;
 #[cfg(test)]
 mod rows;
 #[cfg(test)]
+mod same_systems;
+#[cfg(test)]
 mod separations;
+#[cfg(test)]
+mod shared_rows;

@@ -3,19 +3,17 @@ ghost use Rattle.std.specs.Prelude.{◌≡◌};
 ghost use Rattle.rg_theory.specs.System.{labels};
 ghost use Rattle.rg_spanning.specs.Spanning.{IsTreeOf};
 ghost use Rattle.rg_cycles.specs.View.{labels_of};
-ghost use Rattle.rg_rows.specs.Sharing.{IsCommonOf};
-ghost use Rattle.rg_case_parts.specs.SettingViews.{shown_setting};
 
 use crate::asked::{
-    PLAIN_NONBRANCHING, PLAIN_TWO_MARKING, PURE_NONBRANCHING, PURE_PLAIN, PURE_PLAIN_SAFE,
-    TWO_BOUNDED_TWO_MARKING, is_asked,
+    PLAIN_TWO_MARKING, PURE_NONBRANCHING, PURE_PLAIN, PURE_PLAIN_SAFE, TWO_BOUNDED_TWO_MARKING,
+    is_asked,
 };
 use crate::bases::basis;
 use rg_case_parts::{CaseSetting, Setting};
 use rg_cert_meaning::RowName;
 use rg_fraction::Fraction;
 use rg_linear::Row;
-use rg_rows::{Common, NamedForm, NamedSystem, cases, system_with};
+use rg_rows::{NamedForm, NamedSystem, cases};
 use rg_samples::{
     ABA, CHOICE, CYCLE, IN_TURN, LOOP_AND_STEP, NONBRANCHING, PLAIN, PURE, SAFE, STEP, system,
 };
@@ -25,16 +23,17 @@ use rg_theory::{ALL_NETS, Class};
 use std::alloc::{AllocError, Global};
 use std::test::Fail;
 
-// Each of two users is idle, asks for the lock, gets it and puts it back. States and labels are in the order in which the arcs name them.
-const LOCK_BY_ARCS: &str =
+/// Each of two users is idle, asks for the lock, gets it and puts it back. States and labels are in the order in which the arcs name them.
+pub(crate) const LOCK_BY_ARCS: &str =
     ".type LTS .states ii[initial] wi iw ww ic wc ci cw .labels ask1 ask2 get2 put2 get1 put1 .arcs ii ask1 wi ii ask2 iw iw ask1 ww iw get2 ic ic ask1 wc ic put2 ii wi get1 ci wi ask2 ww ww get1 cw ww get2 wc wc put2 wi ci put1 ii ci ask2 cw cw put1 iw";
 
-// One a or two b lead from s0 to s1.
-const ONE_A_OR_TWO_B: &str =
+/// One a or two b lead from s0 to s1.
+pub(crate) const ONE_A_OR_TWO_B: &str =
     ".type LTS .states s0[initial] s1 s2 .labels a b .arcs s0 a s1 s0 b s2 s2 b s1";
 
-// The effect of a is 0, so s1 and s2 have equal tokens.
-const IDLE: &str = ".type LTS .states s0[initial] s1 s2 .labels a b .arcs s0 a s0 s0 b s1 s1 a s2";
+/// The effect of a is 0, so s1 and s2 have equal tokens.
+pub(crate) const IDLE: &str =
+    ".type LTS .states s0[initial] s1 s2 .labels a b .arcs s0 a s0 s0 b s1 s1 a s2";
 
 // What the system of a case says.
 fn text_of_case(
@@ -84,22 +83,8 @@ fn case_text(alloc: Global, c: CaseSetting<'_>) -> Option<String>
     text_of(alloc, count, &named).ok()
 }
 
-// The same over rows that are made already.
-fn text_over_common(alloc: Global, common: &Common, c: CaseSetting<'_>) -> Option<String>
-    requires tree { IsTreeOf c.setting.lts.now c.setting.tree.now }
-    requires labels { labels_of c.setting.basis.now ≡ labels c.setting.lts.now }
-    requires common { IsCommonOf (shown_setting c.setting) common.now }
-{
-    let count = cases(c.setting.lts, c.setting.class, c.problem);
-    if c.number >= count || !is_asked(c.setting.lts, c.problem) {
-        return None;
-    }
-    let named = system_with(alloc, common, c).ok()?;
-    text_of(alloc, count, &named).ok()
-}
-
-// Writes a row as its name, its coefficients, its constant and its factor.
-fn write_row(
+/// Writes a row as its name, its coefficients, its constant and its factor.
+pub(crate) fn write_row(
     text: &mut String,
     name: &RowName,
     factor: &Fraction,
@@ -113,12 +98,13 @@ fn write_row(
     )
 }
 
-// Writes a form as its name, its scale, its coefficients, its bounds, its row and how many times that it is.
-fn write_form(text: &mut String, form: &NamedForm) -> Result<(), AllocError> {
+/// Writes a form as its name, its scale, its coefficients, its bounds, the row of this number and how many times that it
+/// is.
+pub(crate) fn write_form(text: &mut String, form: &NamedForm, row: u64) -> Result<(), AllocError> {
     write!(
         text,
         "; {:?} {} {:?} {} {} {} {}",
-        form.form, form.scale, form.coeffs, form.low, form.high, form.row, form.times
+        form.form, form.scale, form.coeffs, form.low, form.high, row, form.times
     )
 }
 
@@ -131,7 +117,7 @@ fn text_of(alloc: Global, cases: u32, named: &NamedSystem) -> Result<String, All
         write_row(&mut text, name, factor, row)?;
     }
     for form in &named.forms {
-        write_form(&mut text, form)?;
+        write_form(&mut text, form, u64::from(form.row))?;
     }
     Ok(text)
 }
@@ -270,144 +256,6 @@ fn systems_of_cases(rt: HostRuntime) -> Result<(), Fail> {
     for (text, class, problem, number, rows) in SYSTEMS {
         let told = text_of_case(rt.alloc(), text, class, problem, number).ok_or("rows")?;
         assert!(rt; told.as_str() == rows, "{class:?} {problem:?} {text}");
-    }
-    Ok(())
-}
-
-// What the systems of several problems say, each made with the same rows that they share.
-fn texts_over_common(
-    alloc: Global,
-    common: &Common,
-    setting: Setting<'_>,
-    problems: &[(Problem, u32)],
-) -> Option<String>
-    requires tree { IsTreeOf setting.lts.now setting.tree.now }
-    requires labels { labels_of setting.basis.now ≡ labels setting.lts.now }
-    requires common { IsCommonOf (shown_setting setting) common.now }
-{
-    let mut told = String::new(alloc);
-    for &(problem, number) in problems {
-        let case = CaseSetting {
-            setting,
-            problem,
-            number,
-        };
-        let rows = text_over_common(alloc, common, case)?;
-        writeln!(told, "{rows}").ok()?;
-    }
-    Some(told)
-}
-
-// The same over the rows as they are made, and over a copy of them.
-fn both_texts(
-    alloc: Global,
-    setting: Setting<'_>,
-    problems: &[(Problem, u32)],
-) -> Option<(String, String)>
-    requires tree { IsTreeOf setting.lts.now setting.tree.now }
-    requires labels { labels_of setting.basis.now ≡ labels setting.lts.now }
-{
-    let Ok(common) = Common::new(alloc, setting) else {
-        return None;
-    };
-    let Ok(copy) = common.copied(alloc) else {
-        return None;
-    };
-    let made = texts_over_common(alloc, &common, setting, problems)?;
-    let copied = texts_over_common(alloc, &copy, setting, problems)?;
-    Some((made, copied))
-}
-
-// The same of the system that a text spells.
-fn all_told(
-    alloc: Global,
-    text: &str,
-    class: Class,
-    problems: &[(Problem, u32)],
-) -> Option<(String, String)> {
-    let lts = system(alloc, text)?;
-    let Ok(tree) = Tree::grow(alloc, &lts) else {
-        return None;
-    };
-    let Ok(basis) = basis(alloc, &lts, &tree) else {
-        return None;
-    };
-    let setting = Setting {
-        lts: &lts,
-        tree: &tree,
-        basis: &basis,
-        class,
-    };
-    both_texts(alloc, setting, problems)
-}
-
-// Texts, classes, problems, and what their systems say.
-const SHARED: [(&str, Class, [(Problem, u32); 3], &str); 6] = [
-    (
-        LOOP_AND_STEP,
-        PURE,
-        [(Event(1, 0), 0), (Event(1, 1), 0), (States(0, 1), 1)],
-        "1 2; Block [-1, -1] -1 1/1; Tokens(0) [1, 0] 0 1/1; Tokens(1) [1, 1] 0 1/1
-1 2; Block [-1, -2] -1 1/1; Tokens(0) [1, 0] 0 1/1; Tokens(1) [1, 1] 0 1/1
-2 2; Apart [0, -1] -1 1/1; Tokens(0) [1, 0] 0 1/1; Tokens(1) [1, 1] 0 1/1
-",
-    ),
-    (
-        CYCLE,
-        PLAIN,
-        [(Event(0, 1), 0), (Event(1, 1), 0), (States(0, 1), 0)],
-        "1 2; Empty [-1, 0] 0 1/1; Full(2) [1, -1] -1 1/1; Keep [0, -1] 0 1/1; Tokens(0) [1, 0] 0 1/1; Tokens(1) [2, -1] 0 2/1; Tokens(2) [1, -1] 0 1/1; Up(0) [0, 1] 2 2/1; Up(1) [0, -1] 1 1/1; Down(0) [0, -1] 2 2/1; Down(1) [0, 1] 1 1/1; Effect(0) 2 [0, -1] -1 1 8 1; Effect(1) 1 [0, 1] -1 1 9 1
-1 2; Empty [-2, 1] 0 2/1; Full(2) [1, -1] -1 1/1; Keep [0, -1] 0 1/1; Tokens(0) [1, 0] 0 1/1; Tokens(1) [2, -1] 0 2/1; Tokens(2) [1, -1] 0 1/1; Up(0) [0, 1] 2 2/1; Up(1) [0, -1] 1 1/1; Down(0) [0, -1] 2 2/1; Down(1) [0, 1] 1 1/1; Effect(0) 2 [0, -1] -1 1 8 1; Effect(1) 1 [0, 1] -1 1 9 1
-2 2; Apart [0, -1] -2 2/1; Tokens(0) [1, 0] 0 1/1; Tokens(1) [2, -1] 0 2/1; Tokens(2) [1, -1] 0 1/1; Up(0) [0, 1] 2 2/1; Up(1) [0, -1] 1 1/1; Down(0) [0, -1] 2 2/1; Down(1) [0, 1] 1 1/1; Effect(0) 2 [0, -1] -1 1 6 1; Effect(1) 1 [0, 1] -1 1 7 1
-",
-    ),
-    (
-        CYCLE,
-        SAFE,
-        [(Event(0, 1), 0), (States(0, 1), 1), (Event(0, 1), 0)],
-        "1 2; Stop(2) [0, -1] -1 1/1; Tokens(0) [1, 0] 0 1/1; Tokens(1) [2, -1] 0 2/1; Tokens(2) [1, -1] 0 1/1; Cap(0) [-1, 0] 1 1/1; Cap(1) [-2, 1] 2 2/1; Cap(2) [-1, 1] 1 1/1; Tokens(0) 1 [1, 0] 0 1 1 1; Tokens(1) 2 [2, -1] 0 1 2 1; Tokens(2) 1 [1, -1] 0 1 3 1
-2 2; Apart [0, 1] -2 2/1; Tokens(0) [1, 0] 0 1/1; Tokens(1) [2, -1] 0 2/1; Tokens(2) [1, -1] 0 1/1; Cap(0) [-1, 0] 1 1/1; Cap(1) [-2, 1] 2 2/1; Cap(2) [-1, 1] 1 1/1; Tokens(0) 1 [1, 0] 0 1 1 1; Tokens(1) 2 [2, -1] 0 1 2 1; Tokens(2) 1 [1, -1] 0 1 3 1
-1 2; Stop(2) [0, -1] -1 1/1; Tokens(0) [1, 0] 0 1/1; Tokens(1) [2, -1] 0 2/1; Tokens(2) [1, -1] 0 1/1; Cap(0) [-1, 0] 1 1/1; Cap(1) [-2, 1] 2 2/1; Cap(2) [-1, 1] 1 1/1; Tokens(0) 1 [1, 0] 0 1 1 1; Tokens(1) 2 [2, -1] 0 1 2 1; Tokens(2) 1 [1, -1] 0 1 3 1
-",
-    ),
-    // Down(1) differs from Apart by its constant alone
-    (
-        LOOP_AND_STEP,
-        PLAIN,
-        [(Event(1, 0), 0), (Event(1, 1), 0), (States(0, 1), 0)],
-        "1 2; Empty [-1, -1] 0 1/1; Full(0) [1, 0] -1 1/1; Tokens(0) [1, 0] 0 1/1; Tokens(1) [1, 1] 0 1/1; Up(1) [0, -1] 1 1/1; Down(1) [0, 1] 1 1/1; Effect(0) 1 [0, 0] -1 1 0 0; Effect(1) 1 [0, 1] -1 1 5 1
-1 2; Empty [-1, -1] 0 1/1; Full(0) [1, 0] -1 1/1; Keep [0, -1] 0 1/1; Tokens(0) [1, 0] 0 1/1; Tokens(1) [1, 1] 0 1/1; Up(1) [0, -1] 1 1/1; Down(1) [0, 1] 1 1/1; Effect(0) 1 [0, 0] -1 1 0 0; Effect(1) 1 [0, 1] -1 1 6 1
-2 2; Apart [0, 1] -1 1/1; Tokens(0) [1, 0] 0 1/1; Tokens(1) [1, 1] 0 1/1; Up(1) [0, -1] 1 1/1; Down(1) [0, 1] 1 1/1; Effect(0) 1 [0, 0] -1 1 0 0; Effect(1) 1 [0, 1] -1 1 4 1
-",
-    ),
-    // the consumer of each case has no row `makes`
-    (
-        CHOICE,
-        NONBRANCHING,
-        [(States(1, 2), 0), (States(1, 2), 3), (Event(1, 0), 0)],
-        "4 2; Apart [-1, 1] -1 1/1; Makes(1) [0, 1] 0 1/1
-4 2; Apart [1, -1] -1 1/1; Makes(0) [1, 0] 0 1/1
-1 2; Stop(0) [-1, 0] -1 1/1; Makes(1) [0, 1] 0 1/1
-",
-    ),
-    // `makes` is equal to Keep in the events, and no row of the states
-    (
-        IN_TURN,
-        PLAIN_NONBRANCHING,
-        [(Event(0, 1), 0), (Event(1, 0), 0), (States(0, 1), 1)],
-        "1 2; Empty [-1, 0] 0 1/1; Full(1) [1, -1] -1 1/1; Keep [0, -1] 0 1/1; Tokens(0) [1, 0] 0 1/1; Tokens(1) [1, -1] 0 1/1; Up(0) [0, 1] 1 1/1; Up(1) [0, -1] 1 1/1; Effect(0) 1 [0, -1] -1 1 6 1; Effect(1) 1 [0, 1] -1 1 5 1
-1 2; Empty [-1, 1] 0 1/1; Full(0) [1, 0] -1 1/1; Keep [0, 1] 0 1/1; Tokens(0) [1, 0] 0 1/1; Tokens(1) [1, -1] 0 1/1; Up(0) [0, 1] 1 1/1; Up(1) [0, -1] 1 1/1; Effect(0) 1 [0, -1] -1 1 6 1; Effect(1) 1 [0, 1] -1 1 5 1
-4 2; Apart [0, -1] -1 1/1; Tokens(0) [1, 0] 0 1/1; Tokens(1) [1, -1] 0 1/1; Up(0) [0, 1] 1 1/1; Up(1) [0, -1] 1 1/1; Makes(0) [0, -1] 0 1/1; Effect(0) 1 [0, -1] -1 1 4 1; Effect(1) 1 [0, 1] -1 1 3 1
-",
-    ),
-];
-
-#[test]
-fn problems_share_their_rows(rt: HostRuntime) -> Result<(), Fail> {
-    for (text, class, problems, rows) in SHARED {
-        let (made, copied) = all_told(rt.alloc(), text, class, &problems).ok_or("rows")?;
-        assert!(rt; made.as_str() == rows, "{class:?} {text}");
-        assert!(rt; copied.as_str() == rows, "copied: {class:?} {text}");
     }
     Ok(())
 }

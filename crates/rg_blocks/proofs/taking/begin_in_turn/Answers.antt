@@ -19,7 +19,7 @@ returns-in-Some-clause-begun g c =
     let comes = g.S.Solving.comes c.args.search.now.solving.now in
     let before = g.K.Keeping.places c.args.progress.now.kept in
     let now = g.K.Keeping.places c.loop-i.progress.kept in
-    let after = g.K.Keeping.places c.take_left.new.progress.kept in
+    let after = g.K.Keeping.places c.solve_left.new.progress.kept in
     turn_ends lts comes before now after c.in_ok-refuted.field-0 c.args.problems.now c.loop-i.i _ _
     c.in-Some.refuted c.loop-i-test.true refl c.in-Some.is c.loop-i.invariant.1 c.in_ok-refuted.ensures.taken
 
@@ -29,7 +29,7 @@ returns-then-not-follows_separated-clause-begun g c =
     let comes = g.S.Solving.comes c.args.search.now.solving.now in
     let before = g.K.Keeping.places c.args.progress.now.kept in
     let now = g.K.Keeping.places c.loop-i.progress.kept in
-    let after = g.K.Keeping.places c.take_left.new.progress.kept in
+    let after = g.K.Keeping.places c.solve_left.new.progress.kept in
     let lt = c.loop-i-test.true in (
       omega arith,
       turn_more lts comes before now after c.in_ok-refuted.field-0 c.args.problems.now c.loop-i.i _ _ lt refl c.in_default.is c.loop-i.invariant.1 c.in_ok-refuted.ensures.taken,
@@ -41,7 +41,7 @@ loop-i-preserved g c =
     let comes = g.S.Solving.comes c.args.search.now.solving.now in
     let before = g.K.Keeping.places c.args.progress.now.kept in
     let now = g.K.Keeping.places c.loop-i.progress.kept in
-    let after = g.K.Keeping.places c.take_left.new.progress.kept in (
+    let after = g.K.Keeping.places c.solve_left.new.progress.kept in (
       c.in_ok-refuted.ensures.searching,
       turn_more lts comes before now after c.in_ok-refuted.field-0 c.args.problems.now c.loop-i.i _ _ c.loop-i-test.true refl c.in_default.is c.loop-i.invariant.1 c.in_ok-refuted.ensures.taken,
     )

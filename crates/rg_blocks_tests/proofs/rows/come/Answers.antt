@@ -12,6 +12,6 @@ separate_all-requires-clause-can g c κs within =
       reachable = c.in-Ok.ensures.all_reachable;
       asked = λ problem has. dead;
       separating = separating lts;
-      keepable = record { each = λ r is. is.constant };
+      keepable = record { each = λ r is. is.constant; compact = λ r is. is.constant };
       notable = notable lts c.in-Ok.ensures.all_reachable;
     }

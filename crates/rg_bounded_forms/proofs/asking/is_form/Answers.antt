@@ -1,4 +1,4 @@
-use Rattle.std.proofs.Common.{rules, ◌≡◌, ◌<◌, length}
+use Rattle.std.proofs.Common.{rules, ◌≡◌, refl, length}
 use Rattle.std.specs.Prelude.{pos, ◌*ℤ◌, ◌≤ℤ◌, ◌<ℤ◌, All, FitsSigned}
 use Rattle.std.specs.Int.{w128}
 use Rattle.std.specs.Arc.{arc_slice_items}
@@ -11,7 +11,7 @@ use Rattle.rg_bounded_forms.proofs.asking.is_form.Goals as goal
 
 pub returns-then-is_in_range : goal.returns-then-is_in_range
 returns-then-is_in_range c = λ e.
-    let lt : c.args.form.now.row < length c.rows-rows.result.now = search rules in
+    let row = c.in-Some.ensures in
     let size : length (arc_slice_items c.args.form.now.coeffs) ≡ c.args.system.now.columns = search rules in
     let positive : pos 0 <ℤ c.args.form.now.scale = search (rules, casts) in
     let ordered : c.args.form.now.low ≤ℤ c.args.form.now.high = search (rules, casts) in
@@ -21,5 +21,5 @@ returns-then-is_in_range c = λ e.
     let low : InRange (c.args.form.now.scale *ℤ c.args.form.now.low) = search (rules, casts) in
     let high : InRange (c.args.form.now.scale *ℤ c.args.form.now.high) = search (rules, casts) in
     let coeffs : All InRange (arc_slice_items c.args.form.now.coeffs) = search rules in
-    let are : AreTimes (arc_slice_items c.args.form.now.coeffs) c.args.form.now.times (linear_row c.index-rows-form.result).coeffs = search (rules, casts) in
-    form_asked c.args.system.now c.args.form.now c.rows-rows.result.now c.index-rows-form.result c.rows-rows.ensures.value lt c.index-rows-form.is size positive ordered not_negative scale times low high coeffs are
+    let are : AreTimes (arc_slice_items c.args.form.now.coeffs) c.args.form.now.times (linear_row c.in-Some.row.now).coeffs = search (rules, casts) in
+    form_asked c.args.system.now c.args.form.now c.in-Some.row.now _ row.within row.value c.args.before refl size positive ordered not_negative scale times low high coeffs are

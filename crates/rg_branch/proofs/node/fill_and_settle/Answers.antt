@@ -13,7 +13,7 @@ pub renew-requires : goal.renew-requires
 renew-requires c =
     subst IsWellFormed (sym (node_is c.args.system.now (forms_of c.args.forms.now) c.args.splits.now.above.items c.args.splits.now.rows.items c.deref.result.now c.deref.ensures.value
     c.requires.rows))
-    (rows_well_formed c.args.system.now c.args.forms.now c.args.splits.now.above.items c.requires.can c.requires.sides c.columns-columns.ensures.well_formed)
+    (rows_well_formed c.args.system.now c.args.before c.args.forms.now c.args.splits.now.above.items c.requires.can c.requires.sides c.columns-columns.ensures.well_formed)
 
 pub weights-requires : goal.weights-requires
 weights-requires c =
@@ -23,9 +23,9 @@ weights-requires c =
     let left = c.in-Refuted.ensures.left _ filled in
     let refuted : IsRefutation c.settle.new.self c.in-Refuted.field-0 = record { system = _; dictionary = left.0; failing = left.1; outcome = outcome } in
     let shown = failing_relation _ c.settle.new.self.table outcome.0 c.in-Refuted.field-0 left.0 outcome.1 in
-    let count = row_count c.args.system.now (map (side_row (forms_of c.args.forms.now)) c.args.splits.now.above.items) c.rows.result.now c.args.splits.now.rows.items c.len.result
-    c.rows.ensures.value c.requires.rows (c.len.ensures ∙ c.args.splits.now.rows.ok.0) in
-    let well = rows_well_formed c.args.system.now c.args.forms.now c.args.splits.now.above.items c.requires.can c.requires.sides c.columns-columns.ensures.well_formed in
+    let count = row_count c.args.system.now (map (side_row (forms_of c.args.forms.now)) c.args.splits.now.above.items) c.args.splits.now.rows.items c.count.result c.len.result
+    c.count.ensures.value c.requires.rows (c.len.ensures ∙ c.args.splits.now.rows.ok.0) in
+    let well = rows_well_formed c.args.system.now c.args.before c.args.forms.now c.args.splits.now.above.items c.requires.can c.requires.sides c.columns-columns.ensures.well_formed in
     record {
       refuted = (
         node_system c.args.system.now (forms_of c.args.forms.now) c.args.splits.now.above.items,
@@ -58,8 +58,8 @@ returns-in_ok-weights-in-Refuted c =
     let left = c.in-Refuted.ensures.left _ filled in
     let refuted : IsRefutation c.settle.new.self c.in-Refuted.field-0 = record { system = _; dictionary = left.0; failing = left.1; outcome = outcome } in
     let shown = failing_relation _ c.settle.new.self.table outcome.0 c.in-Refuted.field-0 left.0 outcome.1 in
-    let count = row_count c.args.system.now (map (side_row (forms_of c.args.forms.now)) c.args.splits.now.above.items) c.rows.result.now c.args.splits.now.rows.items c.len.result
-    c.rows.ensures.value c.requires.rows (c.len.ensures ∙ c.args.splits.now.rows.ok.0) in
+    let count = row_count c.args.system.now (map (side_row (forms_of c.args.forms.now)) c.args.splits.now.above.items) c.args.splits.now.rows.items c.count.result c.len.result
+    c.count.ensures.value c.requires.rows (c.len.ensures ∙ c.args.splits.now.rows.ok.0) in
     refuted_told _ c.settle.new.self.table.members outcome.0 c.in-Refuted.field-0 shown.k _ _ outcome.1 shown.row count
     (c.in_ok-weights-in-Refuted.ensures _ c.in-Refuted.field-0 shown.k (left.0, refuted, shown.multipliers))
 

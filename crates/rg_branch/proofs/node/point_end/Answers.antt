@@ -11,21 +11,21 @@ use Rattle.rg_branch.proofs.node.point_end.Goals as goal
 pub first_fraction-requires-clause-forms : goal.first_fraction-requires-clause-forms
 first_fraction-requires-clause-forms c =
     let (above, members, is) = c.requires.point in
-    (map (side_row (forms_of c.args.forms.now)) above, members, forms_at c.args.system.now c.args.forms.now above c.requires.can members c.args.relations is.are is.outcome)
+    (map (side_row (forms_of c.args.forms.now)) above, members, forms_at c.args.system.now c.args.before c.args.forms.now above c.requires.can members c.args.relations is.are is.outcome)
 
 pub returns-in-Some : goal.returns-in-Some
 returns-in-Some c = λ above members is.
     let node = node_system c.args.system.now (forms_of c.args.forms.now) above in
     let fit : FitsSigned w64 c.in-Some.floor = search rules in
-    let at = forms_at c.args.system.now c.args.forms.now above c.requires.can members c.args.relations is.are is.outcome in
+    let at = forms_at c.args.system.now c.args.before c.args.forms.now above c.requires.can members c.args.relations is.are is.outcome in
     rw (to_z-of_z w64 c.in-Some.floor fit)
-    (fraction_told c.args.system.now c.args.forms.now above c.requires.can members c.in-Some.form c.in-Some.floor is.outcome
+    (fraction_told c.args.system.now c.args.before c.args.forms.now above c.requires.can members c.in-Some.form c.in-Some.floor is.outcome
     (point_feasible node members (relations_free node members c.args.relations is.are) is.outcome) (c.in-Some.ensures.first _ members at))
 
 pub returns-in_ok-values-in-None : goal.returns-in_ok-values-in-None
 returns-in_ok-values-in-None c = λ above members is.
     let node = node_system c.args.system.now (forms_of c.args.forms.now) above in
-    let at = forms_at c.args.system.now c.args.forms.now above c.requires.can members c.args.relations is.are is.outcome in
-    whole_told c.args.system.now c.args.forms.now above c.requires.can members c.in_ok-values-in-None.values.items is.outcome
+    let at = forms_at c.args.system.now c.args.before c.args.forms.now above c.requires.can members c.args.relations is.are is.outcome in
+    whole_told c.args.system.now c.args.before c.args.forms.now above c.requires.can members c.in_ok-values-in-None.values.items is.outcome
     (point_feasible node members (relations_free node members c.args.relations is.are) is.outcome) (c.in-None.ensures.none _ members at)
     (c.in_ok-values-in-None.ensures node members is.are c.columns.ensures.value)

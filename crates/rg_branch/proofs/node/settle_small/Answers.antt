@@ -13,7 +13,7 @@ pub settle-ended-requires-clause-well_formed : goal.settle-ended-requires-clause
 settle-ended-requires-clause-well_formed c =
     subst IsWellFormed (sym (node_is c.args.system.now (forms_of c.args.forms.now) c.args.splits.now.above.items c.args.splits.now.rows.items c.deref.result.now c.deref.ensures.value
     c.requires.rows))
-    (rows_well_formed c.args.system.now c.args.forms.now c.args.splits.now.above.items c.requires.can c.requires.sides c.rows.ensures.well_formed)
+    (rows_well_formed c.args.system.now c.args.before c.args.forms.now c.args.splits.now.above.items c.requires.can c.requires.sides c.count.ensures.well_formed)
 
 pub weights-requires : goal.weights-requires
 weights-requires c =
@@ -21,9 +21,9 @@ weights-requires c =
     let (members, at) = subst (λ n. IsDescent n c.settle-ended.new.self (Refuted c.in-Refuted.field-0)) node c.in-Refuted.ensures.outcome in
     let (fixed, outcome) = at.outcome in
     let (k, row) = failing_relation _ members fixed c.in-Refuted.field-0 outcome in
-    let count = row_count c.args.system.now (map (side_row (forms_of c.args.forms.now)) c.args.splits.now.above.items) c.rows.result.now c.args.splits.now.rows.items c.len.result
-    c.rows.ensures.value c.requires.rows (c.len.ensures ∙ c.args.splits.now.rows.ok.0) in
-    let well = rows_well_formed c.args.system.now c.args.forms.now c.args.splits.now.above.items c.requires.can c.requires.sides c.rows.ensures.well_formed in
+    let count = row_count c.args.system.now (map (side_row (forms_of c.args.forms.now)) c.args.splits.now.above.items) c.args.splits.now.rows.items c.count.result c.len.result
+    c.count.ensures.value c.requires.rows (c.len.ensures ∙ c.args.splits.now.rows.ok.0) in
+    let well = rows_well_formed c.args.system.now c.args.before c.args.forms.now c.args.splits.now.above.items c.requires.can c.requires.sides c.count.ensures.well_formed in
     record { refuted = (node_system c.args.system.now (forms_of c.args.forms.now) c.args.splits.now.above.items, c.in-Refuted.field-0, k, (members, at, row), count, well.few) }
 
 pub returns-in_ok-weights-in-Refuted-clause-node : goal.returns-in_ok-weights-in-Refuted-clause-node
@@ -32,6 +32,6 @@ returns-in_ok-weights-in-Refuted-clause-node c =
     let (members, at) = subst (λ n. IsDescent n c.settle-ended.new.self (Refuted c.in-Refuted.field-0)) node c.in-Refuted.ensures.outcome in
     let (fixed, outcome) = at.outcome in
     let (k, row) = failing_relation _ members fixed c.in-Refuted.field-0 outcome in
-    let count = row_count c.args.system.now (map (side_row (forms_of c.args.forms.now)) c.args.splits.now.above.items) c.rows.result.now c.args.splits.now.rows.items c.len.result
-    c.rows.ensures.value c.requires.rows (c.len.ensures ∙ c.args.splits.now.rows.ok.0) in
+    let count = row_count c.args.system.now (map (side_row (forms_of c.args.forms.now)) c.args.splits.now.above.items) c.args.splits.now.rows.items c.count.result c.len.result
+    c.count.ensures.value c.requires.rows (c.len.ensures ∙ c.args.splits.now.rows.ok.0) in
     refuted_told _ members fixed c.in-Refuted.field-0 k _ _ outcome row count (c.in_ok-weights-in-Refuted.ensures _ c.in-Refuted.field-0 k (members, at, row))

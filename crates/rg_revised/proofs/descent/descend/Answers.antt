@@ -1,4 +1,4 @@
-use Rattle.std.proofs.Common.{◌++◌, ◌≡◌, ◌<◌, ◌+◌, ◌-◌, ap, refl, subst, sym, ◌∙◌, arith, le_refl, length, reverse, slice_get, unwrap_or}
+use Rattle.std.proofs.Common.{◌≡◌, ◌<◌, ◌+◌, ◌-◌, ap, refl, subst, sym, ◌∙◌, arith, le_refl, length, reverse, slice_get, unwrap_or}
 use Rattle.std.proofs.lemmas.Bool.{false≢true}
 use Rattle.std.proofs.lemmas.List.{length-reverse, length-map}
 use Rattle.rg_linear.specs.System.{row_variable}
@@ -7,6 +7,7 @@ use Rattle.rg_linear.specs.Dictionary.{numbers_from}
 use Rattle.rg_linear.specs.View.{linear_row, linear_system}
 use Rattle.rg_linear.specs.Stack.{fixed_of, limit}
 use Rattle.rg_linear.proofs.Descending.{LeadsOn, leads_point, leads_refuted, leads_satisfied, leads_exchanged, leads_popped, popped_row, within_rows, stack_has_room, work_satisfied, work_pushed, limit_last}
+use Rattle.rg_revised.specs.Lists.{rows_of}
 use Rattle.rg_revised.proofs.Looping.{begins, work_kept, within_kept}
 use Rattle.rg_revised.proofs.descent.descend.Goals as goal
 
@@ -19,8 +20,8 @@ rows-init c =
         numbers_from 0 c.args.columns,
         c.requires.start,
         subst
-            (λ n. LeadsOn (linear_system c.args.columns (c.args.own.now ++ c.args.further.now)) (numbers_from 0 c.args.columns) c.args.stack.now.items n 0) (sym c.count_of-count.ensures)
-            (begins c.args.columns (c.args.own.now ++ c.args.further.now) c.args.stack.now.items c.requires.empty),
+            (λ n. LeadsOn (linear_system c.args.columns (rows_of c.args.rows)) (numbers_from 0 c.args.columns) c.args.stack.now.items n 0) (sym c.count-count.ensures)
+            (begins c.args.columns (rows_of c.args.rows) c.args.stack.now.items c.requires.empty),
       );
     }
 
@@ -42,12 +43,12 @@ rows-preserved-in-Some c =
       columns = c.rows.invariant.columns;
       room = rw c.in-Some.ensures.capacity c.rows.invariant.room;
       leads =
-          let below : c.unwrap_or-below.result ≡ limit (linear_system c.args.columns (c.args.own.now ++ c.args.further.now)) (reverse c.pop.new.self.items) =
+          let below : c.unwrap_or-below.result ≡ limit (linear_system c.args.columns (rows_of c.args.rows)) (reverse c.pop.new.self.items) =
           c.unwrap_or-below.ensures
-          ∙ ap (λ o. unwrap_or o c.count_of-count.result) (c.copied.ensures ∙ c.last.ensures.value)
-          ∙ ap (λ xs. unwrap_or (slice_get xs (length xs - 1)) c.count_of-count.result) c.deref.ensures.value
-          ∙ limit_last (linear_system c.args.columns (c.args.own.now ++ c.args.further.now)) c.pop.new.self.items c.count_of-count.result
-          (c.count_of-count.ensures ∙ sym (length-map (c.args.own.now ++ c.args.further.now) linear_row)) in (
+          ∙ ap (λ o. unwrap_or o c.count-count.result) (c.copied.ensures ∙ c.last.ensures.value)
+          ∙ ap (λ xs. unwrap_or (slice_get xs (length xs - 1)) c.count-count.result) c.deref.ensures.value
+          ∙ limit_last (linear_system c.args.columns (rows_of c.args.rows)) c.pop.new.self.items c.count-count.result
+          (c.count-count.ensures ∙ sym (length-map (rows_of c.args.rows) linear_row)) in (
             members,
             held,
             leads_popped _ _ _ _ _ leads c.pop.new.self.items
@@ -66,7 +67,7 @@ overflow_add-i c =
 pub take-requires-clause-row : goal.take-requires-clause-row
 take-requires-clause-row c =
     let (members, held, leads) = c.rows.invariant.leads in
-    let le = within_kept (c.args.own.now ++ c.args.further.now) c.rows.below
+    let le = within_kept (rows_of c.args.rows) c.rows.below
     (within_rows _ _ _ _ _ leads) in
     let lt = c.if-i-below.false in
     omega arith
@@ -82,7 +83,7 @@ overflow_add-i-in-Satisfied c =
 pub rows-smaller-in-Satisfied : goal.rows-smaller-in-Satisfied
 rows-smaller-in-Satisfied c =
     let (members, held, leads) = c.rows.invariant.leads in
-    work_kept c.args.columns (c.args.own.now ++ c.args.further.now) (reverse c.rows.stack.items) (reverse c.rows.stack.items) (c.rows.i + 1) c.rows.i
+    work_kept c.args.columns (rows_of c.args.rows) (reverse c.rows.stack.items) (reverse c.rows.stack.items) (c.rows.i + 1) c.rows.i
     (work_satisfied _ _ _ _ _ leads c.if-i-below.false)
 
 pub rows-preserved-in-Satisfied : goal.rows-preserved-in-Satisfied
@@ -107,7 +108,7 @@ returns-in-Stuck-clause-outcome c =
       record {
         held = told.1;
         outcome = (
-          fixed_of (linear_system c.args.columns (c.args.own.now ++ c.args.further.now)) (reverse c.rows.stack.items),
+          fixed_of (linear_system c.args.columns (rows_of c.args.rows)) (reverse c.rows.stack.items),
           leads_refuted _ _ _ _ _ leads c.if-i-below.false members (told.0, refl),
         );
         relation = told.2;
@@ -129,7 +130,7 @@ push-requires c =
 pub rows-smaller : goal.rows-smaller
 rows-smaller c =
     let (members, held, leads) = c.rows.invariant.leads in
-    work_kept c.args.columns (c.args.own.now ++ c.args.further.now) (reverse c.push.new.stack.items) (reverse c.rows.stack.items) 0 c.rows.i
+    work_kept c.args.columns (rows_of c.args.rows) (reverse c.push.new.stack.items) (reverse c.rows.stack.items) 0 c.rows.i
     (work_pushed _ _ _ _ _ leads c.if-i-below.false c.push.new.stack.items
     c.push.ensures.items)
 
@@ -141,7 +142,7 @@ rows-preserved c =
       columns = c.in-Exchanged.ensures.columns ∙ c.rows.invariant.columns;
       room = (let a = c.rows.invariant.room in let b = c.push.ensures.capacity in omega arith);
       leads = (
-        exchanged members (row_variable (linear_system c.args.columns (c.args.own.now ++ c.args.further.now)) c.rows.i) j,
+        exchanged members (row_variable (linear_system c.args.columns (rows_of c.args.rows)) c.rows.i) j,
         new,
         leads_exchanged _ _ _ _ _ leads c.if-i-below.false _ c.push.new.stack.items
             (j, chooses, fit, refl) c.push.ensures.items,

@@ -7,7 +7,7 @@ use Rattle.rg_fraction.specs.Fractions.{IsValue}
 use Rattle.rg_linear.specs.System.{row_variable}
 use Rattle.rg_revised.specs.Basis.{row_over}
 use Rattle.rg_revised.specs.Held.{column_relation}
-use Rattle.rg_revised.proofs.Rows.{row_follows}
+use Rattle.rg_revised.proofs.RowRelations.{row_follows}
 use Rattle.rg_revised.proofs.ConstantsHeld.{constant_at}
 use Rattle.rg_revised.proofs.BasicValues.{relation_value}
 use Rattle.rg_integers.proofs.Short.{short_in_range}

@@ -1,4 +1,4 @@
-use Rattle.std.proofs.Common.{◌≡◌, ◌≤◌, List, [], map, length, All, Ok, ap, subst, sym, ◌∙◌, arith}
+use Rattle.std.proofs.Common.{Vec, Global, ◌≡◌, ◌≤◌, List, [], map, length, All, Ok, ap, subst, sym, ◌∙◌, arith}
 use Rattle.std.specs.Prelude.{pos, ◌≤ℤ◌}
 use Rattle.std.proofs.lemmas.List.{length-map}
 use Rattle.rg_theory.specs.System.{states, labels}
@@ -12,10 +12,11 @@ use Rattle.rg_linear.specs.System.{LinearRow}
 use Rattle.rg_linear.specs.View.{linear_row}
 use Rattle.rg_rows.specs.Forms.{linear_form, forms_in}
 use Rattle.rg_rows.specs.Making.{IsMade}
-use Rattle.rg_rows.proofs.Copies.{of_mapped}
+use Rattle.rg_rows.proofs.FormsAfter.{of_mapped}
 use Rattle.rg_case_parts.specs.SettingViews.{shown_setting}
 use Rattle.rg_rows.specs.declared.held_row.HeldRow.{HeldRow}
-use Rattle.rg_rows.specs.View.{kept_row, row_in, columns_in, fold_of, AreNamesWithin, AreIndices}
+use Rattle.rg_linear.specs.declared.row.Row.{Row}
+use Rattle.rg_rows.specs.View.{ShowsRows, kept_row, row_in, columns_in, fold_of, AreNamesWithin, AreIndices}
 use Rattle.rg_rows.specs.Sharing.{shared_names}
 use Rattle.rg_rows.proofs.Forming.{shared_few}
 use Rattle.rg_rows.proofs.SharedNames.{shared_within, made_in_each}
@@ -70,7 +71,7 @@ returns c =
       made = λ problem number. made_in_each s (States 0 0) problem 0 number (Ok (map kept_row all)) made;
       one_each = c.in_ok-all.ensures.one_each;
       kept = kept;
-      shows = shows;
+      shows = subst (λ (rows : Vec Row Global). ShowsRows (record { rows = rows; names = c.in_ok-kept.kept.names; factors = c.in_ok-kept.kept.factors }) kept) (sym c.new.ensures) shows;
       firsts = subst (λ l. KeepsEqualRows (λ k. k.row) IsIdle [] (map kept_row (map row_in l)) kept) c.deref-2.ensures.value firsts;
       not_negative = of_mapped (λ (k : KeptRow). k.row) (λ (r : LinearRow). pos 0 ≤ℤ r.constant) kept
           (subst (All (λ (r : LinearRow). pos 0 ≤ℤ r.constant)) (ap (map linear_row) c.deref-3.ensures.value ∙ shows.rows) (c.none_negative.ensures c.if-not-none_negative.false));

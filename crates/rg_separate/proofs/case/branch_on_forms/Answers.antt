@@ -1,64 +1,71 @@
-use Rattle.std.proofs.Common.{◌<◌, List, [], All, length, map, ap, sym, subst, ◌∙◌}
-use Rattle.rg_cert_meaning.specs.Row.{Side}
-use Rattle.rg_linear.specs.Branching.{SplitSide, Branching, BranchOutcome.stopped}
-use Rattle.rg_linear.proofs.Endings.{splits_within}
-use Rattle.rg_case_folds.specs.Shown.{Shown, ShownWide}
-use Rattle.rg_feasible.specs.Settling.{wide_at}
-use Rattle.rg_outcome.specs.Casing.{CaseResult.passes, CaseComes}
-use Rattle.rg_branch.specs.View.{forms_of}
-use Rattle.rg_branch.specs.Answer.{IsStop}
+use Rattle.std.proofs.Common.{◌≡◌, ◌∙◌, List, ap, sym, subst}
+use Rattle.std.specs.Prelude.{IfOk, IfErr}
+use Rattle.rg_linear.specs.System.{LinearSystem}
+use Rattle.rg_linear.specs.Branching.{Form}
 use Rattle.rg_branch.specs.declared.bounded.Bounded.{Bounded}
+use Rattle.rg_branch.specs.View.{forms_of}
+use Rattle.rg_branch.specs.Asked.{CanBranch}
+use Rattle.rg_branch.specs.Answer.{IsAnswer, IsSound, IsStop}
 use Rattle.rg_rows.specs.declared.named_form.NamedForm.{NamedForm}
-use Rattle.rg_rows.specs.Forms.{split_of}
-use Rattle.rg_case_parts.specs.SettingViews.{shown_case}
-use Rattle.rg_separate.specs.Casing.{forms_in, sides_among}
-use Rattle.rg_separate.specs.Passing.{pivot_at}
-use Rattle.rg_separate.proofs.Passing.{pivot_shown, pivot_comes}
-use Rattle.rg_separate.proofs.Siding.{sides_on_forms, sides_on_named}
+use Rattle.rg_separate.specs.Bounding.{AreBoundedOf}
+use Rattle.rg_separate.specs.Casing.{forms_in}
+use Rattle.rg_separate.proofs.Branched.{bounded_linear, can_branch}
 use Rattle.rg_separate.proofs.case.branch_on_forms.Goals as goal
 
-pub named_triples-requires : goal.named_triples-requires
-named_triples-requires c =
-    let named = c.args.named.now in
-    let sides = c.in-Err-Wide.above.items in
-    let at = wide_at c.in-Err-Wide.members.items c.in-Err-Wide.wide in
-    let ends = subst (λ fs. Branching named.system fs (stopped sides at)) c.in_ok-forms.ensures.forms
-    (subst (λ (fs : List Bounded). Branching named.system (forms_of fs) (stopped sides at)) c.deref.ensures.value
-    (subst (IsStop named.system (forms_of c.deref.result.now)) c.in-Err-Wide.field-0-is c.in-Err-Wide.ensures.stop)) in
-    subst (λ above. All (λ (s : SplitSide). s.form < length c.deref-in-Err-Wide.result.now) above) (sym c.deref-in-Err-Wide-2.ensures.value)
-    (subst (λ (fs : List NamedForm). All (λ (s : SplitSide). s.form < length fs) sides) (sym c.deref-in-Err-Wide.ensures.value)
-    (sides_on_named named.forms.items sides (sides_on_forms (forms_in named) [] sides (splits_within named.system (forms_in named) (stopped sides at) c.requires.system.forms.bounded ends))))
+pub solve_whole-requires-clause-can : goal.solve_whole-requires-clause-can
+solve_whole-requires-clause-can c =
+    let are : AreBoundedOf c.args.named.now.forms c.args.problems.forms.now = c.requires.forms (sym c.has_shared_rows.ensures ∙ c.if-has_shared_rows.true) in
+    subst (λ (s : LinearSystem). CanBranch s c.before-then-has_shared_rows.result c.args.problems.forms.now) (sym c.system-system.ensures)
+    (subst (λ n. CanBranch c.args.named.now.system n c.args.problems.forms.now) (sym c.before-then-has_shared_rows.ensures) (can_branch c.args.named.now.system c.args.named.now.before c.args.named.now.forms c.args.problems.forms.now c.requires.are are))
 
-pub returns-in-Err-Wide-clause-tells : goal.returns-in-Err-Wide-clause-tells
-returns-in-Err-Wide-clause-tells c =
-    let lts = c.args.c.setting.lts.now in
-    let class = c.args.c.setting.class in
-    let named = c.args.named.now in
-    let sides = c.in-Err-Wide.above.items in
-    let at = wide_at c.in-Err-Wide.members.items c.in-Err-Wide.wide in
-    let ends = subst (λ fs. Branching named.system fs (stopped sides at)) c.in_ok-forms.ensures.forms
-    (subst (λ (fs : List Bounded). Branching named.system (forms_of fs) (stopped sides at)) c.deref.ensures.value
-    (subst (IsStop named.system (forms_of c.deref.result.now)) c.in-Err-Wide.field-0-is c.in-Err-Wide.ensures.stop)) in
-    let by_name = c.in_ok-above-in-Err-Wide.ensures
-    ∙ ap (λ (fs : List NamedForm). sides_among (map split_of fs) c.deref-in-Err-Wide-2.result.now) c.deref-in-Err-Wide.ensures.value
-    ∙ ap (λ above. sides_among (map split_of named.forms.items) above) c.deref-in-Err-Wide-2.ensures.value
-    ∙ ap (λ fs. sides_among fs sides) c.requires.system.by_name in
-    subst (λ (w : Shown). ShownWide lts class w) (sym (c.wide_pivot.ensures ∙ ap (λ (ss : List Side). pivot_at c.args.c ss c.in-Err-Wide.members.items c.in-Err-Wide.wide) by_name))
-    (pivot_shown c.args.c named sides c.in-Err-Wide.members.items c.in-Err-Wide.wide c.requires.case c.requires.system ends)
+pub returns-then-has_shared_rows-clause-answer : goal.returns-then-has_shared_rows-clause-answer
+returns-then-has_shared_rows-clause-answer c =
+    let are : AreBoundedOf c.args.named.now.forms c.args.problems.forms.now = c.requires.forms (sym c.has_shared_rows.ensures ∙ c.if-has_shared_rows.true) in
+    let linear = bounded_linear c.args.named.now.forms c.args.problems.forms.now are in
+    subst (λ (fs : List Form). IfOk c.solve_whole.result (IsAnswer c.args.named.now.system fs)) linear
+    (subst (λ (s : LinearSystem). IfOk c.solve_whole.result (IsAnswer s (forms_of c.args.problems.forms.now))) c.system-system.ensures c.solve_whole.ensures.answer)
 
-pub returns-in-Err-Wide-clause-comes : goal.returns-in-Err-Wide-clause-comes
-returns-in-Err-Wide-clause-comes c =
-    let lts = c.args.c.setting.lts.now in
-    let class = c.args.c.setting.class in
-    let named = c.args.named.now in
-    let sides = c.in-Err-Wide.above.items in
-    let at = wide_at c.in-Err-Wide.members.items c.in-Err-Wide.wide in
-    let ends = subst (λ fs. Branching named.system fs (stopped sides at)) c.in_ok-forms.ensures.forms
-    (subst (λ (fs : List Bounded). Branching named.system (forms_of fs) (stopped sides at)) c.deref.ensures.value
-    (subst (IsStop named.system (forms_of c.deref.result.now)) c.in-Err-Wide.field-0-is c.in-Err-Wide.ensures.stop)) in
-    let by_name = c.in_ok-above-in-Err-Wide.ensures
-    ∙ ap (λ (fs : List NamedForm). sides_among (map split_of fs) c.deref-in-Err-Wide-2.result.now) c.deref-in-Err-Wide.ensures.value
-    ∙ ap (λ above. sides_among (map split_of named.forms.items) above) c.deref-in-Err-Wide-2.ensures.value
-    ∙ ap (λ fs. sides_among fs sides) c.requires.system.by_name in
-    subst (λ (w : Shown). CaseComes (shown_case c.args.c) (passes w)) (sym (c.wide_pivot.ensures ∙ ap (λ (ss : List Side). pivot_at c.args.c ss c.in-Err-Wide.members.items c.in-Err-Wide.wide) by_name))
-    (pivot_comes c.args.c named sides at c.requires.system ends)
+pub returns-then-has_shared_rows-clause-sound : goal.returns-then-has_shared_rows-clause-sound
+returns-then-has_shared_rows-clause-sound c =
+    let are : AreBoundedOf c.args.named.now.forms c.args.problems.forms.now = c.requires.forms (sym c.has_shared_rows.ensures ∙ c.if-has_shared_rows.true) in
+    let linear = bounded_linear c.args.named.now.forms c.args.problems.forms.now are in
+    subst (λ (fs : List Form). IfOk c.solve_whole.result (IsSound c.args.named.now.system fs)) linear
+    (subst (λ (s : LinearSystem). IfOk c.solve_whole.result (IsSound s (forms_of c.args.problems.forms.now))) c.system-system.ensures c.solve_whole.ensures.sound)
+
+pub returns-then-has_shared_rows-clause-stop : goal.returns-then-has_shared_rows-clause-stop
+returns-then-has_shared_rows-clause-stop c =
+    let are : AreBoundedOf c.args.named.now.forms c.args.problems.forms.now = c.requires.forms (sym c.has_shared_rows.ensures ∙ c.if-has_shared_rows.true) in
+    let linear = bounded_linear c.args.named.now.forms c.args.problems.forms.now are in
+    subst (λ (fs : List Form). IfErr c.solve_whole.result (IsStop c.args.named.now.system fs)) linear
+    (subst (λ (s : LinearSystem). IfErr c.solve_whole.result (IsStop s (forms_of c.args.problems.forms.now))) c.system-system.ensures c.solve_whole.ensures.stop)
+
+pub solve_whole-requires-2-clause-can : goal.solve_whole-requires-2-clause-can
+solve_whole-requires-2-clause-can c =
+    let are : AreBoundedOf c.args.named.now.forms c.deref.result.now = subst (λ (bs : List Bounded). AreBoundedOf c.args.named.now.forms bs) (sym c.deref.ensures.value)
+    (subst (λ (fs : List NamedForm). AreBoundedOf fs c.in_ok-forms.forms.items) c.forms.ensures c.in_ok-forms.ensures) in
+    subst (λ (s : LinearSystem). CanBranch s c.before-2.result c.deref.result.now) (sym c.system-system.ensures)
+    (subst (λ n. CanBranch c.args.named.now.system n c.deref.result.now) (sym c.before-2.ensures) (can_branch c.args.named.now.system c.args.named.now.before c.args.named.now.forms c.deref.result.now c.requires.are are))
+
+pub returns-clause-answer : goal.returns-clause-answer
+returns-clause-answer c =
+    let are : AreBoundedOf c.args.named.now.forms c.deref.result.now = subst (λ (bs : List Bounded). AreBoundedOf c.args.named.now.forms bs) (sym c.deref.ensures.value)
+    (subst (λ (fs : List NamedForm). AreBoundedOf fs c.in_ok-forms.forms.items) c.forms.ensures c.in_ok-forms.ensures) in
+    let linear = bounded_linear c.args.named.now.forms c.deref.result.now are in
+    subst (λ (fs : List Form). IfOk c.solve_whole-2.result (IsAnswer c.args.named.now.system fs)) linear
+    (subst (λ (s : LinearSystem). IfOk c.solve_whole-2.result (IsAnswer s (forms_of c.deref.result.now))) c.system-system.ensures c.solve_whole-2.ensures.answer)
+
+pub returns-clause-sound : goal.returns-clause-sound
+returns-clause-sound c =
+    let are : AreBoundedOf c.args.named.now.forms c.deref.result.now = subst (λ (bs : List Bounded). AreBoundedOf c.args.named.now.forms bs) (sym c.deref.ensures.value)
+    (subst (λ (fs : List NamedForm). AreBoundedOf fs c.in_ok-forms.forms.items) c.forms.ensures c.in_ok-forms.ensures) in
+    let linear = bounded_linear c.args.named.now.forms c.deref.result.now are in
+    subst (λ (fs : List Form). IfOk c.solve_whole-2.result (IsSound c.args.named.now.system fs)) linear
+    (subst (λ (s : LinearSystem). IfOk c.solve_whole-2.result (IsSound s (forms_of c.deref.result.now))) c.system-system.ensures c.solve_whole-2.ensures.sound)
+
+pub returns-clause-stop : goal.returns-clause-stop
+returns-clause-stop c =
+    let are : AreBoundedOf c.args.named.now.forms c.deref.result.now = subst (λ (bs : List Bounded). AreBoundedOf c.args.named.now.forms bs) (sym c.deref.ensures.value)
+    (subst (λ (fs : List NamedForm). AreBoundedOf fs c.in_ok-forms.forms.items) c.forms.ensures c.in_ok-forms.ensures) in
+    let linear = bounded_linear c.args.named.now.forms c.deref.result.now are in
+    subst (λ (fs : List Form). IfErr c.solve_whole-2.result (IsStop c.args.named.now.system fs)) linear
+    (subst (λ (s : LinearSystem). IfErr c.solve_whole-2.result (IsStop s (forms_of c.deref.result.now))) c.system-system.ensures c.solve_whole-2.ensures.stop)

@@ -19,8 +19,8 @@ pub named_triples-requires : goal.named_triples-requires
 named_triples-requires c =
     let named = c.args.named.now in
     let sides = c.args.above.now in
-    subst (λ (fs : List NamedForm). All (λ (s : SplitSide). s.form < length fs) sides) (sym c.deref.ensures.value)
-    (sides_on_named named.forms.items sides (sides_on_forms (forms_in named) [] sides (splits_within named.system (forms_in named) (found c.requires.found.members sides) c.requires.system.forms.bounded c.requires.found.outcome)))
+    subst (λ (fs : List NamedForm). All (λ (s : SplitSide). s.form < length fs) sides) (sym c.forms.ensures)
+    (sides_on_named named.forms sides (sides_on_forms (forms_in named) [] sides (splits_within named.system (forms_in named) (found c.requires.found.members sides) c.requires.system.bounded c.requires.found.outcome)))
 
 pub returns-in-Ok-clause-tells : goal.returns-in-Ok-clause-tells
 returns-in-Ok-clause-tells c = c.in-Ok.ensures.region c.requires.case.live (solves c.args.c c.args.named.now c.args.point.now c.requires.case c.requires.system c.requires.solves)
@@ -30,7 +30,7 @@ returns-in_ok-above-in-Err-Wide-clause-tells c =
     let lts = c.args.c.setting.lts.now in
     let class = c.args.c.setting.class in
     let sides = c.args.above.now in
-    let by_name = c.in_ok-above-in-Err-Wide.ensures ∙ ap (λ (fs : List NamedForm). sides_among (map split_of fs) sides) c.deref.ensures.value ∙ ap (λ fs. sides_among fs sides) c.requires.system.by_name in
+    let by_name = c.in_ok-above-in-Err-Wide.ensures ∙ ap (λ (fs : List NamedForm). sides_among (map split_of fs) sides) c.forms.ensures ∙ ap (λ fs. sides_among fs sides) c.requires.system.by_name in
     subst (λ (w : Shown). ShownWide lts class w) (sym (c.wide_case.ensures ∙ ap (λ (ss : List Side). passed_at Place c.args.c ss c.in-Err-Wide.wide) by_name))
     (place_shown c.args.c c.args.named.now sides c.args.point.now c.in-Err-Wide.wide c.requires.case c.requires.system c.requires.found (rw c.in-Err-Wide.field-0-is at c.in-Err-Wide.ensures.comes))
 
@@ -42,6 +42,6 @@ returns-in_ok-above-in-Err-Wide-clause-comes c =
     let lts = c.args.c.setting.lts.now in
     let class = c.args.c.setting.class in
     let sides = c.args.above.now in
-    let by_name = c.in_ok-above-in-Err-Wide.ensures ∙ ap (λ (fs : List NamedForm). sides_among (map split_of fs) sides) c.deref.ensures.value ∙ ap (λ fs. sides_among fs sides) c.requires.system.by_name in
+    let by_name = c.in_ok-above-in-Err-Wide.ensures ∙ ap (λ (fs : List NamedForm). sides_among (map split_of fs) sides) c.forms.ensures ∙ ap (λ fs. sides_among fs sides) c.requires.system.by_name in
     subst (λ (w : Shown). CaseComes (shown_case c.args.c) (passes w)) (sym (c.wide_case.ensures ∙ ap (λ (ss : List Side). passed_at Place c.args.c ss c.in-Err-Wide.wide) by_name))
     (place_fails c.args.c c.args.named.now sides c.args.point.now c.requires.system c.requires.found c.in-Err-Wide.wide (rw c.in-Err-Wide.field-0-is at c.in-Err-Wide.ensures.comes))

@@ -15,7 +15,7 @@ use Rattle.rg_case_folds.specs.Setting.{case_at}
 
 pub returns-in-Place-clause-comes : goal.returns-in-Place-clause-comes
 returns-in-Place-clause-comes c =
-    let setting = c.args.setting in
+    let setting = c.args.problems.setting in
     let comes : ℕ → CaseResult → Type 0 = λ i. CaseComes (case_at (shown_setting setting) c.args.problem i) in
     let lt : c.loop-case.case < cases_of setting.lts.now setting.class c.args.problem = subst (λ (n : ℕ). c.loop-case.case < n) c.cases-case-end.ensures.value c.loop-case-test.true in
     live_comes (shown_setting setting) c.args.problem (placed (shown_place c.in-Place.region.place)) c.requires.live
@@ -24,9 +24,9 @@ returns-in-Place-clause-comes c =
 
 pub loop-case-preserved : goal.loop-case-preserved
 loop-case-preserved c =
-    let setting = c.args.setting in
-    let lts = c.args.setting.lts.now in
-    let class = c.args.setting.class in
+    let setting = c.args.problems.setting in
+    let lts = c.args.problems.setting.lts.now in
+    let class = c.args.problems.setting.class in
     let n = c.loop-case.case in
     let comes : ℕ → CaseResult → Type 0 = λ i. CaseComes (case_at (shown_setting setting) c.args.problem i) in
     let one : (i : ℕ) (r r' : CaseResult) → comes i r → comes i r' → r ≡ r' = λ i r r'. same_result (case_at (shown_setting setting) c.args.problem i) r r' in

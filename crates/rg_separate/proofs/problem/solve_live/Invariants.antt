@@ -4,7 +4,7 @@ use Rattle.rg_separate.proofs.problem.solve_live.Given as goal
 
 abbrev pub invariant-loop-case : goal.invariant-loop-case
 invariant-loop-case l = record {
-  tried : AreTried l.setting.lts.now l.setting.class l.problem l.case l.tried;
-  come : CasesCameTo l.setting l.problem l.case l.tried;
-  same : l.workspace ≡ l.initial.workspace;
+  tried : AreTried l.problems.setting.lts.now l.problems.setting.class l.problem l.case l.tried;
+  come : CasesCameTo l.problems.setting l.problem l.case l.tried;
+  same : l.solver ≡ l.initial.solver;
 }

@@ -15,7 +15,7 @@ use Rattle.rg_cert_data.specs.declared.wide_at.Stage.TheVariants.{Spread}
 use Rattle.rg_case_parts.specs.SettingViews.{shown_case}
 use Rattle.rg_separate.specs.Casing.{forms_in, sides_among, VisitStands, next_sides, IsMadeOf, LeafPasses}
 use Rattle.rg_separate.specs.Passing.{passed_at}
-use Rattle.rg_separate.proofs.Branched.{room_small}
+use Rattle.rg_separate.proofs.Branched.{room_after}
 use Rattle.rg_separate.proofs.Leaves.{leaf_shown}
 use Rattle.rg_separate.proofs.Siding.{sides_of_visit, sides_on_named}
 use Rattle.rg_separate.proofs.Walking.{IsWalk, walk_start, walk_stands, walk_next, walk_refutes, walk_comes, walk_passes}
@@ -38,8 +38,8 @@ node_below-requires-clause-node c =
     let i = c.loop-node.node-index in
     subst (λ above. VisitStands named.system (forms_in named) (record { above = above; node = node_of c.node-item.result })) (sym c.deref.ensures.value)
     (walk_stands c.args.c named (map node_of nodes) i c.loop-node.above.items
-    (map reasons.node_of c.loop-node.made.items) c.loop-node.invariant c.requires.system.forms.bounded
-    (room_small named.system named.forms.items c.requires.system.forms) (node_of c.node-item.result) (within nodes i c.loop-node-test.true)
+    (map reasons.node_of c.loop-node.made.items) c.loop-node.invariant c.requires.system.bounded
+    (room_after named.system named.before named.forms c.requires.system.forms) (node_of c.node-item.result) (within nodes i c.loop-node-test.true)
     (visited nodes i c.node-item.result c.loop-node-test.true c.node-item.is))
 
 pub named_triples-requires : goal.named_triples-requires
@@ -48,12 +48,12 @@ named_triples-requires c =
     let nodes = c.args.nodes.now in
     let i = c.loop-node.node-index in
     let stands = walk_stands c.args.c named (map node_of nodes) i c.loop-node.above.items
-    (map reasons.node_of c.loop-node.made.items) c.loop-node.invariant c.requires.system.forms.bounded
-    (room_small named.system named.forms.items c.requires.system.forms) (node_of c.node-item.result) (within nodes i c.loop-node-test.true)
+    (map reasons.node_of c.loop-node.made.items) c.loop-node.invariant c.requires.system.bounded
+    (room_after named.system named.before named.forms c.requires.system.forms) (node_of c.node-item.result) (within nodes i c.loop-node-test.true)
     (visited nodes i c.node-item.result c.loop-node-test.true c.node-item.is) in
-    subst (λ above. All (λ (s : SplitSide). s.form < length c.deref-in-Err-Wide.result.now) above) (sym c.deref-in-Err-Wide-2.ensures.value)
-    (subst (λ (fs : List NamedForm). All (λ (s : SplitSide). s.form < length fs) c.loop-node.above.items) (sym c.deref-in-Err-Wide.ensures.value)
-    (sides_on_named named.forms.items c.loop-node.above.items (sides_of_visit (forms_in named) c.loop-node.above.items stands.sides)))
+    subst (λ above. All (λ (s : SplitSide). s.form < length c.forms.result.now) above) (sym c.deref-in-Err-Wide.ensures.value)
+    (subst (λ (fs : List NamedForm). All (λ (s : SplitSide). s.form < length fs) c.loop-node.above.items) (sym c.forms.ensures)
+    (sides_on_named named.forms c.loop-node.above.items (sides_of_visit (forms_in named) c.loop-node.above.items stands.sides)))
 
 pub returns-in-Err-Wide-clause-tells : goal.returns-in-Err-Wide-clause-tells
 returns-in-Err-Wide-clause-tells c =
@@ -64,8 +64,8 @@ returns-in-Err-Wide-clause-tells c =
     let i = c.loop-node.node-index in
     let sides = c.loop-node.above.items in
     let by_name = c.in_ok-above-in-Err-Wide.ensures
-    ∙ ap (λ (fs : List NamedForm). sides_among (map split_of fs) c.deref-in-Err-Wide-2.result.now) c.deref-in-Err-Wide.ensures.value
-    ∙ ap (λ above. sides_among (map split_of named.forms.items) above) c.deref-in-Err-Wide-2.ensures.value
+    ∙ ap (λ (fs : List NamedForm). sides_among (map split_of fs) c.deref-in-Err-Wide.result.now) c.forms.ensures
+    ∙ ap (λ above. sides_among (map split_of named.forms) above) c.deref-in-Err-Wide.ensures.value
     ∙ ap (λ fs. sides_among fs sides) c.requires.system.by_name in
     let fails = subst (λ above. LeafPasses c.args.c named above (node_of c.node-item.result) c.in-Err-Wide.wide) c.deref.ensures.value (c.in-Err-Wide.ensures.wide c.in-Err-Wide.wide (ap Err c.in-Err-Wide.field-0-is)) in
     subst (λ (w : Shown). ShownWide lts class w) (sym (c.wide_case.ensures ∙ ap (λ (v : Wide). passed_at Spread c.args.c (map side_of c.in_ok-above-in-Err-Wide.above.items) v) c.in-Err-Wide.wide-is ∙ ap (λ (ss : List Side). passed_at Spread c.args.c ss c.in-Err-Wide.wide) by_name))
@@ -82,8 +82,8 @@ returns-in-Err-Wide-clause-comes c =
     let i = c.loop-node.node-index in
     let sides = c.loop-node.above.items in
     let by_name = c.in_ok-above-in-Err-Wide.ensures
-    ∙ ap (λ (fs : List NamedForm). sides_among (map split_of fs) c.deref-in-Err-Wide-2.result.now) c.deref-in-Err-Wide.ensures.value
-    ∙ ap (λ above. sides_among (map split_of named.forms.items) above) c.deref-in-Err-Wide-2.ensures.value
+    ∙ ap (λ (fs : List NamedForm). sides_among (map split_of fs) c.deref-in-Err-Wide.result.now) c.forms.ensures
+    ∙ ap (λ above. sides_among (map split_of named.forms) above) c.deref-in-Err-Wide.ensures.value
     ∙ ap (λ fs. sides_among fs sides) c.requires.system.by_name in
     let fails = subst (λ above. LeafPasses c.args.c named above (node_of c.node-item.result) c.in-Err-Wide.wide) c.deref.ensures.value (c.in-Err-Wide.ensures.wide c.in-Err-Wide.wide (ap Err c.in-Err-Wide.field-0-is)) in
     subst (λ (w : Shown). CaseComes (shown_case c.args.c) (passes w))

@@ -1,11 +1,7 @@
 use Rattle.std.proofs.Common.{subst}
 use Rattle.rg_separate.specs.Deciding.{ProblemComesTo}
 use Rattle.rg_separate.proofs.Ending.{shown_wide, wide_not_placed, wide_not_refuted}
-use Rattle.rg_separate.proofs.Serving.{serving}
 use Rattle.rg_separate.proofs.separation.show_again.Goals as goal
-
-pub solve_problem-requires-clause-serves : goal.solve_problem-requires-clause-serves
-solve_problem-requires-clause-serves c = serving c.args.problems c.args.workspace.now c.requires.can c.requires.serves
 
 pub unreachable-requires : goal.unreachable-requires
 unreachable-requires c = wide_not_placed c.args.problems.setting c.args.problem c.requires.wide c.in-Place.field-0 (subst (ProblemComesTo c.args.problems.setting c.args.problem) c.in-Place.is c.in_ok-at.ensures.comes)

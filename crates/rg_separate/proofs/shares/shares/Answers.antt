@@ -30,7 +30,7 @@ pub returns-in-Err-clause-comes : goal.returns-in-Err-clause-comes
 returns-in-Err-clause-comes c = λ case shows.
     let weights = c.args.weights.now in
     let i = c.loop-row.row-index in
-    let fold = share_fold case c.args.above.now (sides_among (map split_of c.args.named.now.forms.items) c.args.above.now) in
+    let fold = share_fold case c.args.above.now (sides_among (map split_of c.args.named.now.forms) c.args.above.now) in
     let fits : FitsSigned w128 (get_or weights i (0, pos 0)).1 = search rules in
     let one = subst (λ z. fold (record { row = (get_or weights i (0, pos 0)).0; multiplier = z }) (Err c.in-Err.wide)) (to_z-of_z w128 (get_or weights i (0, pos 0)).1 fits) (c.in-Err.ensures case shows) in
     let here = subst (λ (x : Weight). fold x (Err c.in-Err.wide)) (sym (get_or-map weight_of weights i (0, pos 0) none c.loop-row-test.true)) one in
@@ -41,7 +41,7 @@ loop-row-preserved c = record {
   so_far = λ case shows.
       (let weights = c.args.weights.now in
       let i = c.loop-row.row-index in
-      let fold = share_fold case c.args.above.now (sides_among (map split_of c.args.named.now.forms.items) c.args.above.now) in
+      let fold = share_fold case c.args.above.now (sides_among (map split_of c.args.named.now.forms) c.args.above.now) in
       let fits : FitsSigned w128 (get_or weights i (0, pos 0)).1 = search rules in
       let one = subst (λ z. fold (record { row = (get_or weights i (0, pos 0)).0; multiplier = z }) (Ok (share_of c.in-Ok.share))) (to_z-of_z w128 (get_or weights i (0, pos 0)).1 fits) (c.in-Ok.ensures case shows) in
       let here = subst (λ (x : Weight). fold x (Ok (share_of c.in-Ok.share))) (sym (get_or-map weight_of weights i (0, pos 0) none c.loop-row-test.true)) one in
@@ -53,6 +53,6 @@ loop-row-preserved c = record {
 
 pub returns-clause-comes : goal.returns-clause-comes
 returns-clause-comes c = λ case shows. items_end
-    (share_fold case c.args.above.now (sides_among (map split_of c.args.named.now.forms.items) c.args.above.now))
+    (share_fold case c.args.above.now (sides_among (map split_of c.args.named.now.forms) c.args.above.now))
     (map weight_of c.args.weights.now) c.loop-row.row-index none (map share_of c.loop-row.shares.items) (c.loop-row.invariant.so_far case shows)
     (let t = c.loop-row-test.false in let e = length-map c.args.weights.now weight_of in omega arith)

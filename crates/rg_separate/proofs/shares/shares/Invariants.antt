@@ -14,7 +14,7 @@ use Rattle.rg_separate.proofs.shares.shares.Given as goal
 abbrev pub invariant-loop-row : goal.invariant-loop-row
 invariant-loop-row l = record {
   so_far : (case : CaseSystem) → ShowsCase l.named case → (r : Result (List Share) Wide)
-      → each (share_fold case l.above (sides_among (map split_of l.named.forms.items) l.above)) (drop l.row-index (map weight_of l.weights)) r
-      → each (share_fold case l.above (sides_among (map split_of l.named.forms.items) l.above)) (map weight_of l.weights) (behind (map share_of l.shares.items) r);
+      → each (share_fold case l.above (sides_among (map split_of l.named.forms) l.above)) (drop l.row-index (map weight_of l.weights)) r
+      → each (share_fold case l.above (sides_among (map split_of l.named.forms) l.above)) (map weight_of l.weights) (behind (map share_of l.shares.items) r);
   one_each : length l.shares.items ≡ l.row-index;
 }

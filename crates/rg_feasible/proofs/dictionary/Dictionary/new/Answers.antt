@@ -1,5 +1,6 @@
-use Rattle.std.proofs.Common.{ap, subst, sym, ◌∙◌}
+use Rattle.std.proofs.Common.{ap, map, subst, sym, ◌∙◌}
 use Rattle.rg_linear.specs.Dictionary.{numbers_from}
+use Rattle.rg_linear.specs.View.{linear_row}
 use Rattle.rg_feasible.specs.Contents.{IsDictionary, columns_alone}
 use Rattle.rg_feasible.specs.View.{DescentState}
 use Rattle.rg_feasible.proofs.Filling.{all_rows}
@@ -10,7 +11,9 @@ start : (c : goal.After-add_rows) → IsDictionary (columns_alone c.columns.resu
 start c = subst (λ (d : DescentState). IsDictionary (columns_alone c.columns.result) d.table) (sym c.dictionary.view_is) (c.in_ok-dictionary.ensures {u = tt}).system
 
 pub returns-clause-dictionary : goal.returns-clause-dictionary
-returns-clause-dictionary c = all_rows c.args.system.now c.columns.result c.rows-rows.result.now c.add_rows.new.table c.columns.ensures.value c.rows-rows.ensures.value (c.add_rows.ensures.system _ (start c))
+returns-clause-dictionary c =
+    let rows = map linear_row c.rows-rows.result.now in
+    all_rows c.args.system.now c.columns.result rows c.add_rows.new.table c.columns.ensures.value c.rows-rows.ensures.value (c.add_rows.ensures.system _ (start c))
 
 pub returns-clause-fresh : goal.returns-clause-fresh
 returns-clause-fresh c =

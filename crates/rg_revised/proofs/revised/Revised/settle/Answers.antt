@@ -16,7 +16,7 @@ descend_twice-ended-requires-clause-room c =
     let fits : FitsSigned w64 c.in-Some.most = search rules in
     let (some, room) = c.in-Some.ensures.some in
     rw (to_z-of_z w64 c.in-Some.most fits) (short_room_in _ c.max-norm.result (unsigned_abs c.in-Some.most)
-    (has_norms c.args.system.now c.columns-columns.result c.rows-rows.result.now c.args.further.now c.columns-columns.ensures.value c.rows-rows.ensures.value c.norm.result
+    (has_norms c.args.system.now c.columns-columns.result c.lists.result.0.now c.lists.result.1.now c.args.further.now c.columns-columns.ensures.value c.lists.ensures.value c.norm.result
     c.largest_norm.result c.max-norm.result (unsigned_abs c.in-Some.most) c.norm.ensures.value c.largest_norm.ensures c.max-norm.ensures some room) some room)
 
 pub common_factor-self-inside-requires : goal.common_factor-self-inside-requires
@@ -24,7 +24,7 @@ common_factor-self-inside-requires c = let (members, told) = c.in-Refuted.ensure
 
 pub returns-in-Refuted-clause-outcome : goal.returns-in-Refuted-clause-outcome
 returns-in-Refuted-clause-outcome c =
-    let same = rows_behind c.args.system.now c.columns-columns.result c.rows-rows.result.now c.args.further.now c.columns-columns.ensures.value c.rows-rows.ensures.value in
+    let same = rows_behind c.args.system.now c.columns-columns.result c.lists.result.0.now c.lists.result.1.now c.args.further.now c.columns-columns.ensures.value c.lists.ensures.value in
     let told = subst (λ s. EndTells s c.descend_twice-ended.new.tableau (Refuted c.in-Refuted.row)) same c.in-Refuted.ensures.outcome in
     let factor = back c.common_factor-self-inside.result c.common_factor-self-inside.ensures.in_range in
     refuted_at (with_rows c.args.system.now (map linear_row c.args.further.now)) _ c.in-Refuted.row told refl
@@ -32,7 +32,7 @@ returns-in-Refuted-clause-outcome c =
 
 pub returns-in_default-ended : goal.returns-in_default-ended
 returns-in_default-ended c =
-    let same = rows_behind c.args.system.now c.columns-columns.result c.rows-rows.result.now c.args.further.now c.columns-columns.ensures.value c.rows-rows.ensures.value in
+    let same = rows_behind c.args.system.now c.columns-columns.result c.lists.result.0.now c.lists.result.1.now c.args.further.now c.columns-columns.ensures.value c.lists.ensures.value in
     let told = subst (λ s. EndTells s c.descend_twice-ended.new.tableau c.descend_twice-ended.result) same c.descend_twice-ended.ensures.outcome in
     record {
       outcome = other_end (with_rows c.args.system.now (map linear_row c.args.further.now)) _ c.descend_twice-ended.result c.in_default-ended.not-Refuted told;
