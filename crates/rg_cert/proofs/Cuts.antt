@@ -85,8 +85,5 @@ name_byte b is = (grind (arith, nat_tests), grind (arith, nat_tests))
 pub name_lacks : (c : ℕ) (name : List ℕ) → c ≤ 32 → IsName name → Lacks c name
 name_lacks c name few is = All-weaker (λ b. is_name_byte b ≡ true) (λ b. b ≢ c) (λ b h e. omega (arith, (name_byte b h).0, e, few)) name is.bytes
 
-pub name_ascii : (name : List ℕ) → IsName name → All (λ b. b < 128) name
-name_ascii name is = All-weaker (λ b. is_name_byte b ≡ true) (λ b. b < 128) (λ b h. (name_byte b h).1) name is.bytes
-
 pub name_above : (name : List ℕ) → IsName name → All (λ b. 32 < b) name
 name_above name is = All-weaker (λ b. is_name_byte b ≡ true) (λ b. 32 < b) (λ b h. (name_byte b h).0) name is.bytes

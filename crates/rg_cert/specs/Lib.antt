@@ -5,3 +5,4 @@ pub mod Lines
 pub mod Faults
 pub mod Drafts
 pub mod View
+pub mod NameTables
