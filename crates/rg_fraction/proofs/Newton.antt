@@ -122,7 +122,8 @@ pub share_is : (n size twos inverse : ℕ) → IsTakenApart size twos inverse �
 share_is n size twos inverse apart divides small =
     let m = n / size in
     let e : n ≡ m * size = sym (div-mul_cancel size divides) in
-    let halved : n / 2 ^ twos ≡ m * (size / 2 ^ twos) = ap (λ x. x / 2 ^ twos) (e ∙ ap (λ x. m * x) apart.parts ∙ regroup m (size / 2 ^ twos) (2 ^ twos)) ∙ mul-div_cancel (m * (size / 2 ^ twos)) (pow_pos twos) in
+    let halved : n / 2 ^ twos ≡ m * (size / 2 ^ twos) =
+    ap (λ x. x / 2 ^ twos) (e ∙ ap (λ x. m * x) apart.parts ∙ regroup m (size / 2 ^ twos) (2 ^ twos)) ∙ mul-div_cancel (m * (size / 2 ^ twos)) (pow_pos twos) in
     let below : m < 2 ^ 128 = smaller m n (div-le_self n size) small in
     ap (λ x. x * size) (ap (λ x. (x * inverse) % 2 ^ 128) halved ∙ turned m (size / 2 ^ twos) inverse below apart.inverse_is) ∙ sym e
   where

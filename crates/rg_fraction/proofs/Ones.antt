@@ -16,7 +16,7 @@ one_is_reduced n = IsGcd-from_mod n 1 1 (IsGcd-from_zero 1 (n % 1) (omega arith)
 gcd_with_one : (z : ℤ) → int_gcd z (pos 1) ≡ pos 1
 gcd_with_one z = ap pos (sym (gcd_of-only (unsigned_abs z) 1 1 (one_is_reduced (unsigned_abs z))))
 
-over_one : (z : ℤ) → int_div z (pos 1) ≡ z
+pub over_one : (z : ℤ) → int_div z (pos 1) ≡ z
 over_one z = by (exact z (pos 1) (one_is_reduced (unsigned_abs z)).0)
   where
     by : int_div z (pos 1) *ℤ pos 1 ≡ z → int_div z (pos 1) ≡ z

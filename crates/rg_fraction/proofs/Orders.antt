@@ -1,16 +1,13 @@
 -- The order of n/d and m/e, by Euclid's steps.
-use Rattle.std.proofs.Common.{◌≡◌, ◌≢◌, ℕ, zero, suc, ◌+◌, ◌*◌, ◌/◌, ◌%◌, ◌<◌, ◌≤◌, ◌⊎◌, ⊎_elim, ap₂, subst, sym, ◌∙◌, refl, arith}
-use Rattle.std.proofs.Common.{Less, Equal, Greater, true, false}
-use Rattle.std.specs.Prelude.{ℤ, pos, neg_ℤ, ◌*ℤ◌, ◌<ℤ◌, ◌≤ℤ◌, int_lt, unsigned_abs}
+use Rattle.std.proofs.Common.{◌≡◌, ◌≢◌, ℕ, zero, suc, ◌+◌, ◌*◌, ◌/◌, ◌%◌, ◌<◌, ◌≤◌, ◌⊎◌, ⊎_elim, ap₂, subst, sym, ◌∙◌, refl, arith, Less, Equal, Greater, false}
+use Rattle.std.specs.Prelude.{ℤ, pos, ◌*ℤ◌, ◌<ℤ◌, ◌≤ℤ◌, int_lt, unsigned_abs}
 use Rattle.std.specs.Ordering.{nat_cmp, int_cmp}
-use Rattle.std.specs.Cmp.{nat_cmp_is, int_cmp_is}
+use Rattle.std.specs.Cmp.{nat_cmp_is}
 use Rattle.std.proofs.lemmas.Int.{ints}
 use Rattle.std.proofs.lemmas.Bool.{cases_order}
 use Rattle.std.proofs.Math.Nat.{mul_comm, mul-le-mul_right, mul-lt-mul_of_pos_right}
-use Rattle.rg_integers.proofs.Ring.{neg-mul}
-use Rattle.rg_integers.proofs.Order.{mul_negative, mul_not_negative}
 use Rattle.rg_integers.proofs.Signs.{abs_is}
-use Rattle.rg_integers.proofs.Comparing.{cmp-shifted, cmp-pos, cmp-neg}
+use Rattle.rg_integers.proofs.Comparing.{cmp-shifted, cmp-pos}
 
 -- the quotients differ
 below : (p q r d e s : ℕ) → p < q → r < d → 0 < e → (d * p + r) * e < (e * q + s) * d
@@ -70,41 +67,12 @@ crossed r s d e = ap₂ nat_cmp (mul_comm e r) (mul_comm d s)
 up-is : (z : ℤ) → int_lt z (pos 0) ≡ false → z ≡ pos (unsigned_abs z)
 up-is z h = omega (arith, ints)
 
-down-is : (z : ℤ) → int_lt z (pos 0) ≡ true → z ≡ neg_ℤ (pos (unsigned_abs z))
-down-is z h = omega (arith, ints)
-
 ups : (n d m e : ℤ) (a x b y : ℕ) → n ≡ pos a → d ≡ pos x → m ≡ pos b → e ≡ pos y → nat_cmp (a * y) (b * x) ≡ int_cmp (n *ℤ e) (m *ℤ d)
 ups n d m e a x b y p q r s = rw (p, q, r, s) (cmp-pos (a * y) (b * x))
-
-downs : (n d m e : ℤ) (a x b y : ℕ) → n ≡ neg_ℤ (pos a) → d ≡ pos x → m ≡ neg_ℤ (pos b) → e ≡ pos y
-    → nat_cmp (b * x) (a * y) ≡ int_cmp (n *ℤ e) (m *ℤ d)
-downs n d m e a x b y p q r s = rw (p, q, r, s) (rw (neg-mul (pos a) (pos y), neg-mul (pos b) (pos x)) (cmp-neg (a * y) (b * x)))
 
 pub cmp-ups : (n d m e : ℤ) → pos 0 <ℤ d → pos 0 <ℤ e → int_lt n (pos 0) ≡ false → int_lt m (pos 0) ≡ false
     → nat_cmp (unsigned_abs n * unsigned_abs e) (unsigned_abs m * unsigned_abs d) ≡ int_cmp (n *ℤ e) (m *ℤ d)
 cmp-ups n d m e hd he hn hm = ups n d m e _ _ _ _ (up-is n hn) (abs_is d hd) (up-is m hm) (abs_is e he)
 
-pub cmp-downs : (n d m e : ℤ) → pos 0 <ℤ d → pos 0 <ℤ e → int_lt n (pos 0) ≡ true → int_lt m (pos 0) ≡ true
-    → nat_cmp (unsigned_abs m * unsigned_abs d) (unsigned_abs n * unsigned_abs e) ≡ int_cmp (n *ℤ e) (m *ℤ d)
-cmp-downs n d m e hd he hn hm = downs n d m e _ _ _ _ (down-is n hn) (abs_is d hd) (down-is m hm) (abs_is e he)
-
-at_least_zero : (z : ℤ) → int_lt z (pos 0) ≡ false → pos 0 ≤ℤ z
-at_least_zero z h = omega (arith, ints)
-
-below_zero : (z : ℤ) → int_lt z (pos 0) ≡ true → z <ℤ pos 0
-below_zero z h = omega (arith, ints)
-
-weak : (z : ℤ) → pos 0 <ℤ z → pos 0 ≤ℤ z
+pub weak : (z : ℤ) → pos 0 <ℤ z → pos 0 ≤ℤ z
 weak z h = omega (arith, ints)
-
-pub cmp-less : (n d m e : ℤ) → pos 0 <ℤ d → pos 0 <ℤ e → int_lt n (pos 0) ≡ true → int_lt m (pos 0) ≡ false → Less ≡ int_cmp (n *ℤ e) (m *ℤ d)
-cmp-less n d m e hd he hn hm =
-    let p = mul_negative n e (below_zero n hn) he in
-    let q = mul_not_negative m d (at_least_zero m hm) (weak d hd) in
-    int_cmp_is (n *ℤ e) (m *ℤ d) Less (omega (arith, ints))
-
-pub cmp-greater : (n d m e : ℤ) → pos 0 <ℤ d → pos 0 <ℤ e → int_lt n (pos 0) ≡ false → int_lt m (pos 0) ≡ true → Greater ≡ int_cmp (n *ℤ e) (m *ℤ d)
-cmp-greater n d m e hd he hn hm =
-    let p = mul_negative m d (below_zero m hm) hd in
-    let q = mul_not_negative n e (at_least_zero n hn) (weak e he) in
-    int_cmp_is (n *ℤ e) (m *ℤ d) Greater (omega (arith, ints))

@@ -1,6 +1,5 @@
 -- The terms a*b - c*d that are formed, and which of them passes.
-use Rattle.std.specs.Prelude.{◌≡◌, ◌⊎◌, ℤ, pos, neg_ℤ, ◌*ℤ◌, ◌-ℤ◌, int_div}
-use Rattle.rg_integers.specs.Range.{Fits}
+use Rattle.std.specs.Prelude.{◌≡◌, ◌⊎◌, ℤ, pos, neg_ℤ, ◌*ℤ◌, int_div}
 use Rattle.rg_integers.specs.Divisor.{int_gcd}
 use Rattle.rg_integers.specs.Value.{IsReducedForm}
 use Rattle.rg_integers.specs.declared.term.Wide.{Wide}

@@ -9,7 +9,8 @@ ghost use Rattle.rg_integers.specs.Term.{term_value};
 
 use crate::divisor::{quotient, split};
 use crate::order::compare;
-use rg_integers::{Wide, difference, negate, product};
+use crate::whole::{whole_product, whole_sum};
+use rg_integers::{Wide, negate};
 use std::cmp::Ordering;
 
 /// A rational number: a numerator and a denominator in range, without a common factor, the
@@ -59,6 +60,7 @@ impl Fraction {
     ghost use Rattle.rg_fraction.specs.Fractions.{numerator_of, denominator_of, IsValue, Shows, IsFormed, IsSum, IsProduct, ShowsProduct};
 
     /// The fraction with the value of `n` over `d`.
+    #[inline(always)]
     pub fn new(n: i128, d: i128) -> Fraction
         requires n_in_range { InRange n }
         requires d_in_range { InRange d }
@@ -68,6 +70,17 @@ impl Fraction {
         if d == 1 {
             return Fraction::whole(n);
         }
+        Fraction::divided(n, d)
+    }
+
+    // The fraction with the value of `n` over `d`: their common factor is taken out.
+    #[inline(never)]
+    fn divided(n: i128, d: i128) -> Fraction
+        requires n_in_range { InRange n }
+        requires d_in_range { InRange d }
+        requires nonzero { d ≢ pos 0 }
+        ensures { IsValue result n d }
+    {
         let (top, bottom) = split(n, d);
         from_reduced(top, bottom)
     }
@@ -109,6 +122,7 @@ impl Fraction {
     }
 
     // The whole number as a fraction.
+    #[inline(always)]
     fn whole(n: i128) -> Fraction
         requires { InRange n }
         ensures { Shows result n (pos 1) }
@@ -119,51 +133,47 @@ impl Fraction {
         }
     }
 
-    // The sum of two whole numbers: one difference, and no divisor is sought.
+    // The sum of two whole numbers: no divisor is sought.
+    #[inline(always)]
     fn whole_sum(n: i128, m: i128) -> Result<Fraction, Wide>
         requires first { InRange n }
         requires second { InRange m }
         ensures { IsSum n (pos 1) m (pos 1) result }
     {
-        let c = negate(m);
-        match difference(n, c) {
-            Some(z) => Ok(Fraction::whole(z)),
-            None => Err(Wide {
-                a: n,
-                b: 1,
-                c,
-                d: 1,
-            }),
-        }
+        let z = whole_sum(n, m)?;
+        Ok(Fraction::whole(z))
     }
 
     // The product of two whole numbers: no divisor is sought.
+    #[inline(always)]
     fn whole_product(n: i128, m: i128) -> Result<Fraction, Wide>
         requires first { InRange n }
         requires second { InRange m }
         ensures { IsProduct n (pos 1) m (pos 1) result }
     {
-        match product(n, m) {
-            Some(z) => Ok(Fraction::whole(z)),
-            None => Err(Wide {
-                a: n,
-                b: m,
-                c: 0,
-                d: 0,
-            }),
-        }
+        let z = whole_product(n, m)?;
+        Ok(Fraction::whole(z))
     }
 
     /// The sum `n/d + m/e`. With the greatest common divisor `g` of `d` and `e` it forms the
     /// numerator `n*(e/g) - (-m)*(d/g)` and the denominator `(d/g)*e`, and is refused exactly where
     /// one of them passes. A numerator that passes is shown as `n`, `e/g`, `-m`, `d/g`, a
     /// denominator that passes alone as `d/g`, `e`, 0, 0.
+    #[inline(always)]
     pub fn add(self, o: Fraction) -> Result<Fraction, Wide>
         ensures { IsSum (numerator_of self) (denominator_of self) (numerator_of o) (denominator_of o) result }
     {
         if self.is_whole() && o.is_whole() {
             return Fraction::whole_sum(self.numerator, o.numerator);
         }
+        self.sum(o)
+    }
+
+    // The sum of any two fractions, by the greatest common divisor of the denominators.
+    #[inline(never)]
+    fn sum(self, o: Fraction) -> Result<Fraction, Wide>
+        ensures { IsSum (numerator_of self) (denominator_of self) (numerator_of o) (denominator_of o) result }
+    {
         let (d, e) = split(self.denominator, o.denominator);
         let m = negate(o.numerator);
         Fraction::over(
@@ -274,6 +284,7 @@ impl Fraction {
     }
 
     /// Whether the value is a whole number.
+    #[inline(always)]
     pub fn is_whole(&self) -> bool
         ensures { IsTrue result ↔ (denominator_of self.now ≡ pos 1) }
     {

@@ -34,18 +34,26 @@ pub record AlongLeads (lts : System) (tree : List Arc) (found : List Ratio) (i :
   pub same : (s : ℕ) → s < states lts → ratio_at numbers s ≡ number s
   pub leads : (r : Result (ℕ → Ratio) Wide) → along_tree (ratio_at found) number (drop i tree) r → along_tree (ratio_at found) (λ s. ratio_at found (labels lts)) tree r
 
-pub along_start : (lts : System) (tree : List Arc) (found numbers : List Ratio) → length numbers ≡ states lts → ((s : ℕ) → s < states lts → ratio_at numbers s ≡ ratio_at found (labels lts)) → AlongLeads lts tree found 0 numbers
+pub along_start : (lts : System) (tree : List Arc) (found numbers : List Ratio) → length numbers ≡ states lts
+    → ((s : ℕ) → s < states lts → ratio_at numbers s ≡ ratio_at found (labels lts)) → AlongLeads lts tree found 0 numbers
 along_start lts tree found numbers count same = record { number = λ s. ratio_at found (labels lts); one_each = count; same = same; leads = λ r h. h }
 
 module _ (lts : System) (tree : List Arc) (found : List Ratio) (i : ℕ) (numbers : List Ratio) (so_far : AlongLeads lts tree found i numbers) where
   pub along_end : length tree ≤ i → IsAlongTree lts tree found numbers
-  along_end past = (so_far.number, so_far.leads (Ok so_far.number) (subst (λ l. along_tree (ratio_at found) so_far.number l (Ok so_far.number)) (sym (drop_all i tree past)) refl), ext_get_or (whole (pos 0)) numbers (map so_far.number (all_numbers (states lts))) lengths at)
+  along_end past = (
+    so_far.number,
+    so_far.leads (Ok so_far.number)
+        (subst (λ l. along_tree (ratio_at found) so_far.number l (Ok so_far.number)) (sym (drop_all i tree past)) refl),
+    ext_get_or
+        (whole (pos 0)) numbers (map so_far.number (all_numbers (states lts))) lengths at,
+  )
     where
       lengths : length numbers ≡ length (map so_far.number (all_numbers (states lts)))
       lengths = so_far.one_each ∙ sym (length-map (all_numbers (states lts)) so_far.number ∙ all_length (states lts))
 
       at : (s : ℕ) → s < length numbers → slice_index_or numbers s (whole (pos 0)) ≡ slice_index_or (map so_far.number (all_numbers (states lts))) s (whole (pos 0))
-      at s lt = so_far.same s (below lt) ∙ ap so_far.number (sym (all_at (states lts) s (below lt))) ∙ sym (get_or-map so_far.number (all_numbers (states lts)) s 0 (whole (pos 0)) (subst (λ n. s < n) (sym (all_length (states lts))) (below lt)))
+      at s lt = so_far.same s (below lt) ∙ ap so_far.number (sym (all_at (states lts) s (below lt)))
+          ∙ sym (get_or-map so_far.number (all_numbers (states lts)) s 0 (whole (pos 0)) (subst (λ n. s < n) (sym (all_length (states lts))) (below lt)))
         where
           below : s < length numbers → s < states lts
           below lt = subst (λ n. s < n) so_far.one_each lt
@@ -78,7 +86,8 @@ module _ (lts : System) (tree : List Arc) (found : List Ratio) (i : ℕ) (number
 
 -- the numbers before the first arc, and after the next
 module _ (lts : System) (tree : List Arc) (found numbers : List Fraction) where
-  pub along_first : (start : Fraction) → length found ≡ labels lts + 1 → start ≡ slice_index_or found (labels lts) start → numbers ≡ replicate (states lts) start → AlongLeads lts tree (ratios_of found) 0 (ratios_of numbers)
+  pub along_first : (start : Fraction) → length found ≡ labels lts + 1 → start ≡ slice_index_or found (labels lts) start
+      → numbers ≡ replicate (states lts) start → AlongLeads lts tree (ratios_of found) 0 (ratios_of numbers)
   along_first start count at are = along_start lts tree (ratios_of found) (ratios_of numbers) (length-map numbers ratio_of ∙ ap length are ∙ length-replicate (states lts) start) same
     where
       within : labels lts < length found
@@ -89,7 +98,8 @@ module _ (lts : System) (tree : List Arc) (found numbers : List Fraction) where
           (subst (λ n. s < n) (sym (length-replicate (states lts) start)) lt) ∙ ap ratio_of (get_or-replicate (states lts) s start start lt)
           ∙ ratio_there found (labels lts) start within at
 
-  module _ (i : ℕ) (d : Arc) (fine : IsInRange lts) (is : IsTree lts tree) (lt : i < length tree) (so_far : AlongLeads lts tree (ratios_of found) i (ratios_of numbers)) (count : length found ≡ labels lts + 1) where
+  module _ (i : ℕ) (d : Arc) (fine : IsInRange lts) (is : IsTree lts tree) (lt : i < length tree)
+      (so_far : AlongLeads lts tree (ratios_of found) i (ratios_of numbers)) (count : length found ≡ labels lts + 1) where
     abbrev next : Arc
     next = slice_index_or tree i d
 
@@ -103,10 +113,12 @@ module _ (lts : System) (tree : List Arc) (found numbers : List Fraction) where
         (r : Result Fraction Wide) (sum : IsSum (numerator_of source) (denominator_of source) (numerator_of effect) (denominator_of effect) r) where
       added : add (ratio_at (ratios_of numbers) next.from) (ratio_at (ratios_of found) next.label) (shown_result ratio_of r)
       added = subst (λ x. add x (ratio_at (ratios_of found) next.label) (shown_result ratio_of r)) (ratio_there numbers next.from source (subst (λ n. next.from < n) (sym many) ends.0) source_is)
-          (subst (λ y. add (ratio_of source) y (shown_result ratio_of r)) (ratio_there found next.label effect (let k = ends.1 in let e = count in omega arith) effect_is) (add_step source effect r sum))
+          (subst (λ y. add (ratio_of source) y (shown_result ratio_of r))
+          (ratio_there found next.label effect (let k = ends.1 in let e = count in omega arith) effect_is) (add_step source effect r sum))
 
       pub step_fails : (w : Wide) → r ≡ Err w → along_tree (ratio_at (ratios_of found)) (λ s. ratio_at (ratios_of found) (labels lts)) tree (Err w)
-      step_fails w e = along_fails lts tree (ratios_of found) i (ratios_of numbers) so_far next lt (get_or_default tree i d next lt) ends.0 w (subst (λ x. add (ratio_at (ratios_of numbers) next.from) (ratio_at (ratios_of found) next.label) (shown_result ratio_of x)) e added)
+      step_fails w e = along_fails lts tree (ratios_of found) i (ratios_of numbers) so_far next lt (get_or_default tree i d next lt) ends.0 w
+          (subst (λ x. add (ratio_at (ratios_of numbers) next.from) (ratio_at (ratios_of found) next.label) (shown_result ratio_of x)) e added)
 
       pub step_next : (m : Fraction) → r ≡ Ok m → AlongLeads lts tree (ratios_of found) (i + 1) (ratios_of (set numbers next.to m))
       step_next m e = subst (AlongLeads lts tree (ratios_of found) (i + 1)) (sym (map-set ratio_of numbers next.to m))

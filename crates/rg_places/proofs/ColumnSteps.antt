@@ -37,15 +37,18 @@ pub record ColumnsSoFar (lts : System) (basis : CycleBasis) (values : List Fract
 pub columns_start : (lts : System) (basis : CycleBasis) (values : List Fraction) → ColumnsSoFar lts basis values 0 []
 columns_start lts basis values = record { labels_are = sym (columns_are lts basis); placed = λ k d lt. absurd (omega arith); values_are = refl }
 
-module _ (lts : System) (basis : CycleBasis) (values : List Fraction) (index : ℕ) (columns : List Column) (so_far : ColumnsSoFar lts basis values index columns) (one_each : length values ≡ length (free_columns lts basis)) where
+module _ (lts : System) (basis : CycleBasis) (values : List Fraction) (index : ℕ) (columns : List Column)
+    (so_far : ColumnsSoFar lts basis values index columns) (one_each : length values ≡ length (free_columns lts basis)) where
   pub columns_end : length (free_labels (labels lts) basis) ≤ index → AreFreeColumns lts basis columns
   columns_end past = record { labels_are = all_labels; placed = so_far.placed }
     where
       all_labels : labels_in columns ≡ free_columns lts basis
-      all_labels = sym (append-nil (labels_in columns)) ∙ ap (λ l. labels_in columns ++ filter (λ t. has_label t lts.arcs) l) (sym (drop_all index (free_labels (labels lts) basis) past)) ∙ so_far.labels_are
+      all_labels = sym (append-nil (labels_in columns))
+          ∙ ap (λ l. labels_in columns ++ filter (λ t. has_label t lts.arcs) l) (sym (drop_all index (free_labels (labels lts) basis) past)) ∙ so_far.labels_are
 
   pub values_end : length (free_labels (labels lts) basis) ≤ index → map (λ c. c.value) columns ≡ values
-  values_end past = so_far.values_are ∙ take_all (length columns) values (let a = ap length (columns_end past).labels_are in let b = length-map columns (λ c. c.label) in let e = one_each in omega arith)
+  values_end past = so_far.values_are ∙ take_all (length columns) values
+      (let a = ap length (columns_end past).labels_are in let b = length-map columns (λ c. c.label) in let e = one_each in omega arith)
 
   module _ (label : ℕ) (within : index < length (free_labels (labels lts) basis)) (is : slice_index (free_labels (labels lts) basis) index ≡ label) where
     from_here : drop index (free_labels (labels lts) basis) ≡ label ∷ drop (index + 1) (free_labels (labels lts) basis)
@@ -58,14 +61,17 @@ module _ (lts : System) (basis : CycleBasis) (values : List Fraction) (index : �
 
     pub columns_passed : has_label label lts.arcs ≡ false → ColumnsSoFar lts basis values (index + 1) columns
     columns_passed none = record {
-      labels_are = ap (λ l. labels_in columns ++ l) (sym (by_test ∙ ap (λ b. cond b (label ∷ filter (λ t. has_label t lts.arcs) (drop (index + 1) (free_labels (labels lts) basis))) (filter (λ t. has_label t lts.arcs) (drop (index + 1) (free_labels (labels lts) basis)))) none)) ∙ so_far.labels_are;
+      labels_are = ap (λ l. labels_in columns ++ l)
+          (sym (by_test ∙ ap (λ b. cond b (label ∷ filter (λ t. has_label t lts.arcs) (drop (index + 1) (free_labels (labels lts) basis)))
+          (filter (λ t. has_label t lts.arcs) (drop (index + 1) (free_labels (labels lts) basis)))) none)) ∙ so_far.labels_are;
       placed = so_far.placed;
       values_are = so_far.values_are;
     }
 
     module _ (used : has_label label lts.arcs ≡ true) where
       taken_here : filter (λ t. has_label t lts.arcs) (drop index (free_labels (labels lts) basis)) ≡ label ∷ filter (λ t. has_label t lts.arcs) (drop (index + 1) (free_labels (labels lts) basis))
-      taken_here = by_test ∙ ap (λ b. cond b (label ∷ filter (λ t. has_label t lts.arcs) (drop (index + 1) (free_labels (labels lts) basis))) (filter (λ t. has_label t lts.arcs) (drop (index + 1) (free_labels (labels lts) basis)))) used
+      taken_here = by_test ∙ ap (λ b. cond b (label ∷ filter (λ t. has_label t lts.arcs) (drop (index + 1) (free_labels (labels lts) basis)))
+          (filter (λ t. has_label t lts.arcs) (drop (index + 1) (free_labels (labels lts) basis)))) used
 
       pub value_within : length columns < length values
       value_within =
@@ -76,7 +82,8 @@ module _ (lts : System) (basis : CycleBasis) (values : List Fraction) (index : �
           let e = one_each in
           omega arith
 
-      pub columns_taken : (value : Fraction) → value ≡ slice_index_or values (length columns) value → ColumnsSoFar lts basis values (index + 1) (columns ++ record { label = label; index = index; value = value } ∷ [])
+      pub columns_taken : (value : Fraction) → value ≡ slice_index_or values (length columns) value
+          → ColumnsSoFar lts basis values (index + 1) (columns ++ record { label = label; index = index; value = value } ∷ [])
       columns_taken value at = record {
         labels_are = ap (λ l. l ++ filter (λ t. has_label t lts.arcs) (drop (index + 1) (free_labels (labels lts) basis)))
             (map-append (λ c. c.label) columns (record { label = label; index = index; value = value } ∷ []))
@@ -91,4 +98,5 @@ module _ (lts : System) (basis : CycleBasis) (values : List Fraction) (index : �
           one (suc k) d lt = absurd (omega arith)
 
           more : take (length columns) values ++ value ∷ [] ≡ take (length (columns ++ record { label = label; index = index; value = value } ∷ [])) values
-          more = ap (λ v. take (length columns) values ++ v ∷ []) at ∙ sym (take_more values (length columns) value value_within) ∙ ap (λ n. take n values) (sym (length-append columns (record { label = label; index = index; value = value } ∷ [])))
+          more = ap (λ v. take (length columns) values ++ v ∷ []) at ∙ sym (take_more values (length columns) value value_within)
+              ∙ ap (λ n. take n values) (sym (length-append columns (record { label = label; index = index; value = value } ∷ [])))

@@ -5,7 +5,7 @@ use Rattle.std.proofs.Math.ListN.{get_or-map}
 use Rattle.std.proofs.Math.Seq.{drop-cons}
 use Rattle.rg_integers.specs.declared.term.Wide.{Wide}
 use Rattle.rg_folds.specs.Fold.{each, further, joined}
-use Rattle.rg_folds.proofs.Folding.{behind, each_start, each_next, each_fails, each_ends, further_next, further_unmade, further_unjoined}
+use Rattle.rg_folds.proofs.Folding.{behind, each_next, each_fails, each_ends, further_next, further_unmade, further_unjoined}
 
 -- what is left from a place on begins with its item
 pub left_at : {A : Type 0} (all : List A) (i : ℕ) (a : A) → i < length all → a ≡ slice_index_or all i a → drop i all ≡ a ∷ drop (i + 1) all
@@ -18,9 +18,6 @@ abbrev pub EachLeads : {A X : Type 0} → (A → Result X Wide → Type 0) → L
 EachLeads {A} {X} make all i xs = (r : Result (List X) Wide) → each make (drop i all) r → each make all (behind xs r)
 
 module _ {A X : Type 0} (make : A → Result X Wide → Type 0) (all : List A) where
-  pub all_lead : EachLeads make all 0 []
-  all_lead r h = each_start make all r h
-
   module _ (i : ℕ) (xs : List X) (leads : EachLeads make all i xs) where
     pub all_end : length all ≤ i → each make all (Ok xs)
     all_end past = each_ends make all xs (λ r h. leads r (subst (λ l. each make l r) (sym (drop_all i all past)) h))

@@ -16,7 +16,8 @@ use Rattle.rg_places.proofs.FoldSteps.{map_at}
 use Rattle.rg_folds.proofs.FoldLemmas.{new_step, mul_step}
 
 -- a difference is the sum with the negated number
-pub sub_step : (f g : Fraction) (r : Result Fraction Wide) → IsSum (numerator_of f) (denominator_of f) (neg_ℤ (numerator_of g)) (denominator_of g) r → add (ratio_of f) (negated (ratio_of g)) (shown_result ratio_of r)
+pub sub_step : (f g : Fraction) (r : Result Fraction Wide) → IsSum (numerator_of f) (denominator_of f) (neg_ℤ (numerator_of g)) (denominator_of g) r
+    → add (ratio_of f) (negated (ratio_of g)) (shown_result ratio_of r)
 sub_step f g (Ok h) (top, bottom, v) = (
   top,
   bottom,
@@ -38,7 +39,9 @@ add_step f g (Ok h) (top, bottom, v) = (
 add_step f g (Err w) passes = passes
 
 -- a value times a quotient
-pub share_step : (n d : ℤ) (value share : Fraction) (r : Result Fraction Wide) → d ≢ pos 0 → IsValue share n d → IsProduct (numerator_of value) (denominator_of value) (numerator_of share) (denominator_of share) r → and_then (quotient n d) (λ k. mul (ratio_of value) k) (shown_result ratio_of r)
+pub share_step : (n d : ℤ) (value share : Fraction) (r : Result Fraction Wide) → d ≢ pos 0 → IsValue share n d
+    → IsProduct (numerator_of value) (denominator_of value) (numerator_of share) (denominator_of share) r
+    → and_then (quotient n d) (λ k. mul (ratio_of value) k) (shown_result ratio_of r)
 share_step n d value share r ne v p = go r (mul_step value share r p)
   where
     go : (r : Result Fraction Wide) → mul (ratio_of value) (ratio_of share) (shown_result ratio_of r) → and_then (quotient n d) (λ k. mul (ratio_of value) k) (shown_result ratio_of r)
@@ -54,7 +57,8 @@ module _ (n d : ℤ) (value none : Fraction) (nonzero : d ≢ pos 0) where
   share_of_no_number e v = subst (λ r. and_then (quotient n d) (λ k. mul (ratio_of value) k) (Ok r)) (sym (whole_is none (pos 0) v)) (number_adds_nothing n d value nonzero e)
 
 -- of no items
-pub joined_none : {A X : Type 0} (join : X → X → Result X Wide → Type 0) (make : A → Result X Wide → Type 0) (none x : X) (items : List A) → length items ≡ 0 → x ≡ none → joined join make none items (Ok x)
+pub joined_none : {A X : Type 0} (join : X → X → Result X Wide → Type 0) (make : A → Result X Wide → Type 0) (none x : X) (items : List A)
+    → length items ≡ 0 → x ≡ none → joined join make none items (Ok x)
 joined_none join make none x [] e is = is
 joined_none join make none x (a ∷ rest) e is = absurd (omega arith)
 

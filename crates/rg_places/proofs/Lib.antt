@@ -3,10 +3,12 @@ pub mod FractionSteps
 pub mod ColumnLists
 pub mod Counting
 pub mod Leaving
+pub mod Kept
 pub mod AlongTree
 pub mod ColumnSteps
 pub mod ShareSteps
 pub mod LabelValues
+pub mod EffectSteps
 pub mod TakenSteps
 pub mod PlaceSteps
 pub mod PointPlaces

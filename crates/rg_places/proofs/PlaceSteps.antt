@@ -55,7 +55,8 @@ module _ (class : Class) (numbers : List Ratio) where
   pub multiple_fails : (w : Wide) → (class.plain || is_some class.bound) ≡ false → multiple_of_all (map (λ r. r.bottom) numbers) (Err w) → made_whole class numbers (Err w)
   multiple_fails w e h = made_by e (Err w) (inl h)
 
-  pub products_fail : (m : ℤ) (w : Wide) → (class.plain || is_some class.bound) ≡ false → multiple_of_all (map (λ r. r.bottom) numbers) (Ok m) → each (λ r. mul r (whole m)) numbers (Err w) → made_whole class numbers (Err w)
+  pub products_fail : (m : ℤ) (w : Wide) → (class.plain || is_some class.bound) ≡ false → multiple_of_all (map (λ r. r.bottom) numbers) (Ok m)
+      → each (λ r. mul r (whole m)) numbers (Err w) → made_whole class numbers (Err w)
   products_fail m w e h products = made_by e (Err w) (inr (m, h, inl products))
 
   pub multiple_makes : (m : ℤ) (products : List Ratio) → (class.plain || is_some class.bound) ≡ false → multiple_of_all (map (λ r. r.bottom) numbers) (Ok m)
@@ -76,13 +77,16 @@ abbrev pub Moved : Class → List Ratio → Result (List Ratio) Wide → Type 0
 Moved class numbers r = either (is_shifted class) (each (λ m. add m (negated (least_of numbers))) numbers) (gives numbers) r
 
 abbrev pub Lifted : System → Class → Problem → List Ratio → Result (List Ratio) Wide → Type 0
-Lifted lts class problem moved r = either (is_lifted class problem) (each (λ m. add m (whole (pos (missing (unwrap_or class.marking 1) (unsigned_abs (top_at moved lts.initial)))))) moved) (gives moved) r
+Lifted lts class problem moved r = either (is_lifted class problem)
+    (each (λ m. add m (whole (pos (missing (unwrap_or class.marking 1) (unsigned_abs (top_at moved lts.initial)))))) moved) (gives moved) r
 
 pub moved_kept : (class : Class) (numbers : List Ratio) → is_shifted class ≡ false → Moved class numbers (Ok numbers)
 moved_kept class numbers e = subst (λ b. either b (each (λ m. add m (negated (least_of numbers))) numbers) (gives numbers) (Ok numbers)) (sym e) refl
 
-pub moved_made : (class : Class) (numbers : List Ratio) (by : Ratio) → by ≡ least_of numbers → is_shifted class ≡ true → (r : Result (List Ratio) Wide) → each (λ m. add m (negated by)) numbers r → Moved class numbers r
-moved_made class numbers by least e r h = subst (λ b. either b (each (λ m. add m (negated (least_of numbers))) numbers) (gives numbers) r) (sym e) (subst (λ l. each (λ m. add m (negated l)) numbers r) least h)
+pub moved_made : (class : Class) (numbers : List Ratio) (by : Ratio) → by ≡ least_of numbers → is_shifted class ≡ true
+    → (r : Result (List Ratio) Wide) → each (λ m. add m (negated by)) numbers r → Moved class numbers r
+moved_made class numbers by least e r h = subst (λ b. either b (each (λ m. add m (negated (least_of numbers))) numbers) (gives numbers) r) (sym e)
+    (subst (λ l. each (λ m. add m (negated l)) numbers r) least h)
 
 pub moved_length : (class : Class) (numbers moved : List Ratio) → Moved class numbers (Ok moved) → length moved ≡ length numbers
 moved_length class numbers moved h = go (is_shifted class) h
@@ -92,18 +96,22 @@ moved_length class numbers moved h = go (is_shifted class) h
     go false e = ap length e
 
 pub lifted_kept : (lts : System) (class : Class) (problem : Problem) (moved : List Ratio) → is_lifted class problem ≡ false → Lifted lts class problem moved (Ok moved)
-lifted_kept lts class problem moved e = subst (λ b. either b (each (λ m. add m (whole (pos (missing (unwrap_or class.marking 1) (unsigned_abs (top_at moved lts.initial)))))) moved) (gives moved) (Ok moved)) (sym e) refl
+lifted_kept lts class problem moved e = subst
+    (λ b. either b (each (λ m. add m (whole (pos (missing (unwrap_or class.marking 1) (unsigned_abs (top_at moved lts.initial)))))) moved)
+    (gives moved) (Ok moved)) (sym e) refl
 
 pub lifted_made : (lts : System) (class : Class) (problem : Problem) (moved : List Ratio) (by : Ratio)
     → by ≡ whole (pos (missing (unwrap_or class.marking 1) (unsigned_abs (top_at moved lts.initial)))) → is_lifted class problem ≡ true → (r : Result (List Ratio) Wide)
     → each (λ m. add m by) moved r → Lifted lts class problem moved r
 lifted_made lts class problem moved by is e r h =
-    subst (λ b. either b (each (λ m. add m (whole (pos (missing (unwrap_or class.marking 1) (unsigned_abs (top_at moved lts.initial)))))) moved) (gives moved) r) (sym e) (subst (λ l. each (λ m. add m l) moved r) is h)
+    subst (λ b. either b (each (λ m. add m (whole (pos (missing (unwrap_or class.marking 1) (unsigned_abs (top_at moved lts.initial)))))) moved)
+    (gives moved) r) (sym e) (subst (λ l. each (λ m. add m l) moved r) is h)
 
 pub lifted_length : (lts : System) (class : Class) (problem : Problem) (moved lift : List Ratio) → Lifted lts class problem moved (Ok lift) → length lift ≡ length moved
 lifted_length lts class problem moved lift h = go (is_lifted class problem) h
   where
-    go : (b : Bool) → either b (each (λ m. add m (whole (pos (missing (unwrap_or class.marking 1) (unsigned_abs (top_at moved lts.initial)))))) moved) (gives moved) (Ok lift) → length lift ≡ length moved
+    go : (b : Bool) → either b (each (λ m. add m (whole (pos (missing (unwrap_or class.marking 1) (unsigned_abs (top_at moved lts.initial))))))
+        moved) (gives moved) (Ok lift) → length lift ≡ length moved
     go true e = each_length (λ m. add m (whole (pos (missing (unwrap_or class.marking 1) (unsigned_abs (top_at moved lts.initial)))))) moved lift e
     go false e = ap length e
 
@@ -122,22 +130,21 @@ module _ (lts : System) (class : Class) (problem : Problem) (numbers : List Rati
 
 module _ (lts : System) (basis : CycleBasis) (class : Class) (start : Ratio) (value : ℕ → Ratio) where
   pub found_length : (found : List Ratio) → found_fold lts basis class start value (Ok found) → length found ≡ labels lts + 1
-  found_length found (effects, made, whole_made) = made_length class (effects ++ start ∷ []) found whole_made ∙ length-append effects (start ∷ []) ∙ ap (λ n. n + 1) (each_length (effect_fold lts basis value) (all_numbers (labels lts)) effects made ∙ all_length (labels lts))
+  found_length found (effects, made, whole_made) =
+      made_length class (effects ++ start ∷ []) found whole_made ∙ length-append effects (start ∷ [])
+      ∙ ap (λ n. n + 1) (each_length (effect_fold lts basis value) (all_numbers (labels lts)) effects made ∙ all_length (labels lts))
 
   pub effects_fail : (w : Wide) → each (effect_fold lts basis value) (all_numbers (labels lts)) (Err w) → found_fold lts basis class start value (Err w)
   effects_fail w h = inl h
 
-  pub effects_make : (effects : List Ratio) → each (effect_fold lts basis value) (all_numbers (labels lts)) (Ok effects) → (r : Result (List Ratio) Wide) → made_whole class (effects ++ start ∷ []) r → found_fold lts basis class start value r
+  pub effects_make : (effects : List Ratio) → each (effect_fold lts basis value) (all_numbers (labels lts)) (Ok effects)
+      → (r : Result (List Ratio) Wide) → made_whole class (effects ++ start ∷ []) r → found_fold lts basis class start value r
   effects_make effects made (Ok found) h = (effects, made, h)
   effects_make effects made (Err w) h = inr (effects, made, h)
 
 -- ---- the place
 
 module _ (it : Setting) (problem : Problem) (start : Ratio) (value : ℕ → Ratio) where
-  pub found_fails : (w : Wide) → found_fold it.lts it.basis it.class start value (Err w) → place_fold it problem start value (Err w)
-  found_fails w (inl effects) = inl effects
-  found_fails w (inr (effects, made, h)) = inr (effects, made, inl h)
-
   module _ (found : List Ratio) (is_found : found_fold it.lts it.basis it.class start value (Ok found)) where
     along_passes : (w : Wide) → (effects : List Ratio) × each (effect_fold it.lts it.basis value) (all_numbers (labels it.lts)) (Ok effects)
         × made_whole it.class (effects ++ start ∷ []) (Ok found) → along_tree (ratio_at found) (λ s. ratio_at found (labels it.lts)) it.tree (Err w)
@@ -157,14 +164,16 @@ module _ (it : Setting) (problem : Problem) (start : Ratio) (value : ℕ → Rat
       pub shift_fails : (w : Wide) → shift_fold it.lts it.class problem before (Err w) → place_fold it problem start value (Err w)
       shift_fails w h = go is_found is_along
         where
-          go : (effects : List Ratio) × each (effect_fold it.lts it.basis value) (all_numbers (labels it.lts)) (Ok effects) × made_whole it.class (effects ++ start ∷ []) (Ok found) → IsAlongTree it.lts it.tree found before → place_fold it problem start value (Err w)
+          go : (effects : List Ratio) × each (effect_fold it.lts it.basis value) (all_numbers (labels it.lts)) (Ok effects)
+              × made_whole it.class (effects ++ start ∷ []) (Ok found) → IsAlongTree it.lts it.tree found before → place_fold it problem start value (Err w)
           go (effects, made, whole_made) (number, along, are) = inr (effects, made, inr (found, whole_made, inr (number, along, inl (subst (λ l. shift_fold it.lts it.class problem l (Err w)) are h))))
 
       module _ (numbers : List Ratio) (is_shift : shift_fold it.lts it.class problem before (Ok numbers)) where
         pub numbers_made : numbers_fold it problem start value (Ok numbers)
         numbers_made = go is_found is_along
           where
-            go : (effects : List Ratio) × each (effect_fold it.lts it.basis value) (all_numbers (labels it.lts)) (Ok effects) × made_whole it.class (effects ++ start ∷ []) (Ok found) → IsAlongTree it.lts it.tree found before → numbers_fold it problem start value (Ok numbers)
+            go : (effects : List Ratio) × each (effect_fold it.lts it.basis value) (all_numbers (labels it.lts)) (Ok effects)
+                × made_whole it.class (effects ++ start ∷ []) (Ok found) → IsAlongTree it.lts it.tree found before → numbers_fold it problem start value (Ok numbers)
             go (effects, made, whole_made) (number, along, are) = (effects, made, (found, whole_made, (number, along, subst (λ l. shift_fold it.lts it.class problem l (Ok numbers)) are is_shift)))
 
         pub place_made_by : (r : Result Place Wide) → weights_fold it.lts it.class problem found numbers r → place_fold it problem start value r
@@ -173,16 +182,30 @@ module _ (it : Setting) (problem : Problem) (start : Ratio) (value : ℕ → Rat
             go : (effects : List Ratio) × each (effect_fold it.lts it.basis value) (all_numbers (labels it.lts)) (Ok effects)
                 × made_whole it.class (effects ++ start ∷ []) (Ok found) → IsAlongTree it.lts it.tree found before → (r : Result Place Wide)
                 → weights_fold it.lts it.class problem found numbers r → place_fold it problem start value r
-            go (effects, made, whole_made) (number, along, are) (Ok place) h = (effects, made, (found, whole_made, (number, along, (numbers, subst (λ l. shift_fold it.lts it.class problem l (Ok numbers)) are is_shift, h))))
-            go (effects, made, whole_made) (number, along, are) (Err w) h = inr (effects, made, inr (found, whole_made, inr (number, along, inr (numbers, subst (λ l. shift_fold it.lts it.class problem l (Ok numbers)) are is_shift, h))))
+            go (effects, made, whole_made) (number, along, are) (Ok place) h =
+                (effects, made, (found, whole_made, (number, along, (numbers, subst (λ l. shift_fold it.lts it.class problem l (Ok numbers)) are is_shift, h))))
+            go (effects, made, whole_made) (number, along, are) (Err w) h =
+                inr (
+                  effects,
+                  made,
+                  inr (
+                    found,
+                    whole_made,
+                    inr
+                        (number, along, inr (numbers, subst (λ l. shift_fold it.lts it.class problem l (Ok numbers)) are is_shift, h)),
+                  ),
+                )
 
 -- ---- one list, and weights of all labels
 
 pub numbers_one : (s : Setting) (problem : Problem) (start : Ratio) (value : ℕ → Ratio) → IsOne (numbers_fold s problem start value)
-numbers_one s problem start value = and_then_one _ _ (each_one _ (effect_one s.lts s.basis value) _) (λ effects. and_then_one _ _ (whole_one s.class _) (λ found. and_then_one _ _ (along_one _ _ s.tree) (λ number. shift_one s.lts s.class problem _)))
+numbers_one s problem start value = and_then_one _ _ (each_one _ (effect_one s.lts s.basis value) _)
+    (λ effects. and_then_one _ _ (whole_one s.class _) (λ found. and_then_one _ _ (along_one _ _ s.tree) (λ number. shift_one s.lts s.class problem _)))
 
-pub weights_of_all : (s : Setting) (problem : Problem) (start : Ratio) (value : ℕ → Ratio) (place : Place) → place_fold s problem start value (Ok place) → (length place.pre ≡ labels s.lts) × (length place.post ≡ labels s.lts)
+pub weights_of_all : (s : Setting) (problem : Problem) (start : Ratio) (value : ℕ → Ratio) (place : Place)
+    → place_fold s problem start value (Ok place) → (length place.pre ≡ labels s.lts) × (length place.post ≡ labels s.lts)
 weights_of_all s problem start value place (effects, made, (found, whole_made, (number, along, (numbers, shift, (post, sums, e))))) = (
-  ap (λ (p : Place). length p.pre) e ∙ length-map (map (taken s.lts s.class problem numbers found) (all_numbers (labels s.lts))) unsigned_abs ∙ taken_length (taken s.lts s.class problem numbers found) (labels s.lts),
+  ap (λ (p : Place). length p.pre) e ∙ length-map (map (taken s.lts s.class problem numbers found) (all_numbers (labels s.lts))) unsigned_abs
+      ∙ taken_length (taken s.lts s.class problem numbers found) (labels s.lts),
   ap (λ (p : Place). length p.post) e ∙ length-map post unsigned_abs ∙ given_length (taken s.lts s.class problem numbers found) (top_at found) (labels s.lts) post sums,
 )

@@ -42,8 +42,11 @@ beside_in_order (x ∷ ls) (r ∷ rs) order (suc i) lt = ⊎_elim (λ same. absu
     differs e = let k = above in omega arith
 
 -- the value of a free label with an arc is that of its column
-pub value_at_column : (lts : System) (basis : CycleBasis) (class : Class) (point : List Fraction) (i : ℕ) → i < length (free_columns lts basis) → point_value lts basis class point (slice_index_or (free_columns lts basis) i 0) ≡ ratio_at (ratios_of point) (first_column class + i)
-value_at_column lts basis class point i lt = beside_in_order (free_columns lts basis) (drop (first_column class) (ratios_of point)) (where_order _ 0 (labels lts)) i lt ∙ get_or-drop (first_column class) (ratios_of point) i (whole (pos 0))
+pub value_at_column : (lts : System) (basis : CycleBasis) (class : Class) (point : List Fraction) (i : ℕ) → i < length (free_columns lts basis)
+    → point_value lts basis class point (slice_index_or (free_columns lts basis) i 0) ≡ ratio_at (ratios_of point) (first_column class + i)
+value_at_column lts basis class point i lt =
+    beside_in_order (free_columns lts basis) (drop (first_column class) (ratios_of point)) (where_order _ 0 (labels lts)) i lt
+    ∙ get_or-drop (first_column class) (ratios_of point) i (whole (pos 0))
 
 -- ---- how many columns there are
 
@@ -55,8 +58,10 @@ module _ (lts : System) (basis : CycleBasis) (class : Class) (point : List Fract
   start_is_there e = let a = count_is lts basis class in let b = columns in let c : first_column class ≡ 1 = ap (λ b. if b then 1 else 0) e in omega arith
 
 -- the columns of code with the point's values
-pub value_is : (lts : System) (basis : CycleBasis) (class : Class) (point : List Fraction) (columns : List Column) → AreFreeColumns lts basis columns → map (λ c. c.value) columns ≡ drop (first_column class) point → value_by columns ≡ point_value lts basis class point
-value_is lts basis class point columns are values = ap₂ ratio_beside are.labels_are (sym (map-map ratio_of (λ c. c.value) columns) ∙ ap ratios_of values ∙ sym (drop-map ratio_of (first_column class) point))
+pub value_is : (lts : System) (basis : CycleBasis) (class : Class) (point : List Fraction) (columns : List Column) → AreFreeColumns lts basis columns
+    → map (λ c. c.value) columns ≡ drop (first_column class) point → value_by columns ≡ point_value lts basis class point
+value_is lts basis class point columns are values =
+    ap₂ ratio_beside are.labels_are (sym (map-map ratio_of (λ c. c.value) columns) ∙ ap ratios_of values ∙ sym (drop-map ratio_of (first_column class) point))
 
 -- ---- a point of a system
 
@@ -89,7 +94,8 @@ module _ (lts : System) (basis : CycleBasis) (class : Class) (point : List Fract
     no_start = λ e. ap (λ b. if b then ratio_at (ratios_of point) 0 else whole (pos 0)) e;
     reduced = λ i lt. subst IsReduced (sym (value_at_column lts basis class point i lt)) (is_reduced (first_column class + i));
     bottoms = λ i lt. subst (λ (r : Ratio). pos 0 <ℤ r.bottom) (sym (value_at_column lts basis class point i lt)) (bottom_positive (first_column class + i));
-    values = λ i lt. subst (λ (r : Ratio). SameValue r.top r.bottom (v (first_column class + i)) scale) (sym (value_at_column lts basis class point i lt)) (values (first_column class + i) (within i lt));
+    values = λ i lt. subst (λ (r : Ratio). SameValue r.top r.bottom (v (first_column class + i)) scale)
+        (sym (value_at_column lts basis class point i lt)) (values (first_column class + i) (within i lt));
   }
     where
       start_there : has_start class ≡ true → 0 < length point
@@ -104,9 +110,12 @@ module _ (lts : System) (basis : CycleBasis) (class : Class) (point : List Fract
       start_reduced false = whole_reduced (pos 0)
 
   -- where they are the values of the columns at a set, so are Start and the values of the labels
-  pub point_of : (system : LinearSystem) (members : List ℕ) → ((j : ℕ) → j < length point → IsValueAt system members j (ratio_at (ratios_of point) j)) → PointOf lts basis class system members (point_start class point) (point_value lts basis class point)
+  pub point_of : (system : LinearSystem) (members : List ℕ)
+      → ((j : ℕ) → j < length point → IsValueAt system members j (ratio_at (ratios_of point) j))
+      → PointOf lts basis class system members (point_start class point) (point_value lts basis class point)
   point_of system members values = record {
     start_is = λ e. subst (IsValueAt system members 0) (sym (ap (λ b. if b then ratio_at (ratios_of point) 0 else whole (pos 0)) e)) (values 0 (start_is_there lts basis class point columns e));
     no_start = λ e. ap (λ b. if b then ratio_at (ratios_of point) 0 else whole (pos 0)) e;
-    values = λ i f lt e. subst (λ u. IsValueAt system members (first_column class + i) (point_value lts basis class point u)) e (subst (IsValueAt system members (first_column class + i)) (sym (value_at_column lts basis class point i lt)) (values (first_column class + i) (within i lt)));
+    values = λ i f lt e. subst (λ u. IsValueAt system members (first_column class + i) (point_value lts basis class point u)) e
+        (subst (IsValueAt system members (first_column class + i)) (sym (value_at_column lts basis class point i lt)) (values (first_column class + i) (within i lt)));
   }

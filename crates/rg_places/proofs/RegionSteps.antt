@@ -63,8 +63,10 @@ module _ (it : Setting) (problem : Problem) (point : List Fraction) (r : RegionP
       → numbers_fold it problem (point_start it.class point) (point_value it.lts it.basis it.class point) (Ok numbers)
       → place_fold it problem (point_start it.class point) (point_value it.lts it.basis it.class point) (Ok (shown_place r.place))
       → r.tokens.items ≡ map (λ n. unsigned_abs n.top) numbers → length numbers ≡ states it.lts → IsRegionPlace it.lts it.class r × PlaceSeparates problem r
-  region_made columns live s made fold tokens count = region_of made tokens count (weights_of_all it problem (point_start it.class point) (point_value it.lts it.basis it.class point) (shown_place r.place) fold)
-      (point_makes (case_at it problem s.number) s.case s.scale s.v (point_start it.class point) (point_value it.lts it.basis it.class point) (shown_place r.place) s.of_case live s.is_point s.meets s.whole (at_point it.lts it.basis it.class point columns s.scale s.v s.values) fold)
+  region_made columns live s made fold tokens count =
+      region_of made tokens count (weights_of_all it problem (point_start it.class point) (point_value it.lts it.basis it.class point) (shown_place r.place) fold)
+      (point_makes (case_at it problem s.number) s.case s.scale s.v (point_start it.class point) (point_value it.lts it.basis it.class point)
+      (shown_place r.place) s.of_case live s.is_point s.meets s.whole (at_point it.lts it.basis it.class point columns s.scale s.v s.values) fold)
 
 pub if_both : {X E : Type 0} (P Q R : X → Type 0) (r : Result X E) → ((x : X) → P x → Q x → R x) → IfOk r P → IfOk r Q → IfOk r R
 if_both P Q R (Ok x) f p q = f x p q

@@ -32,14 +32,16 @@ value_in_order (x ∷ rest) order (suc i) c lt at = value_past x rest c.label di
     differs : x.label ≢ c.label
     differs e = let k = above in omega arith
 
-pub column_value : (lts : System) (basis : CycleBasis) (columns : List Column) → labels_in columns ≡ free_columns lts basis → (i : ℕ) (c : Column) → i < length columns → c ≡ slice_index_or columns i c → value_by columns c.label ≡ ratio_of c.value
+pub column_value : (lts : System) (basis : CycleBasis) (columns : List Column) → labels_in columns ≡ free_columns lts basis → (i : ℕ) (c : Column)
+    → i < length columns → c ≡ slice_index_or columns i c → value_by columns c.label ≡ ratio_of c.value
 column_value lts basis columns are i c lt at = value_in_order columns (subst IsInOrder (sym are) (where_order _ 0 (labels lts))) i c lt at
 
 -- ---- a label that isn't free
 
 module _ (lts : System) (basis : CycleBasis) (columns : List Column) (t : ℕ) (relation : Relation) (are : AreFreeColumns lts basis columns) (shows : ShowsRelation (labels lts) basis t relation) where
   number_is : (c : Column) → IsPlaced (free_labels (labels lts) basis) c → number_at relation.free.items c.index ≡ (basis.relation t).coefficient c.label
-  number_is c placed = ap (λ l. number_at l c.index) shows.free ∙ get_or-map (basis.relation t).coefficient (free_labels (labels lts) basis) c.index 0 (pos 0) placed.within ∙ ap (basis.relation t).coefficient placed.label_is
+  number_is c placed = ap (λ l. number_at l c.index) shows.free
+      ∙ get_or-map (basis.relation t).coefficient (free_labels (labels lts) basis) c.index 0 (pos 0) placed.within ∙ ap (basis.relation t).coefficient placed.label_is
 
   share_is : (i : ℕ) (c : Column) → i < length columns → c ≡ slice_index_or columns i c → (r : Result Ratio Wide) → column_share relation c r → share_fold basis (value_by columns) t c.label r
   share_is i c lt at r h =
@@ -48,20 +50,25 @@ module _ (lts : System) (basis : CycleBasis) (columns : List Column) (t : ℕ) (
       (subst (λ z. and_then (quotient (number_at relation.free.items c.index) z) (λ k. mul (ratio_of c.value) k) r) shows.d h))
 
   pub dependent_made : ¬ Contains basis.members t → (r : Result Ratio Wide) → joined add (column_share relation) (whole (pos 0)) columns r → used_effect_fold lts basis (value_by columns) t r
-  dependent_made lacks r h = subst (λ b. either b (gives (value_by columns t)) (joined add (share_fold basis (value_by columns) t) (whole (pos 0)) (free_columns lts basis)) r) (sym (not_in_set basis.members t lacks))
+  dependent_made lacks r h = subst (λ b. either b (gives (value_by columns t))
+      (joined add (share_fold basis (value_by columns) t) (whole (pos 0)) (free_columns lts basis)) r) (sym (not_in_set basis.members t lacks))
       (subst (λ l. joined add (share_fold basis (value_by columns) t) (whole (pos 0)) l r) are.labels_are
-      (joined_same add (column_share relation) (share_fold basis (value_by columns) t) (λ c. c.label) (whole (pos 0)) columns (all_made add (column_share relation) (share_fold basis (value_by columns) t) (λ c. c.label) columns share_is) r h))
+      (joined_same add (column_share relation) (share_fold basis (value_by columns) t) (λ c. c.label) (whole (pos 0)) columns
+      (all_made add (column_share relation) (share_fold basis (value_by columns) t) (λ c. c.label) columns share_is) r h))
 
   pub indices_within : All (λ c. c.index < length relation.free.items) columns
-  indices_within k d lt = subst (λ n. (slice_index_or columns k d).index < n) (sym (ap length shows.free ∙ length-map (free_labels (labels lts) basis) (basis.relation t).coefficient)) (are.placed k d lt).within
+  indices_within k d lt = subst (λ n. (slice_index_or columns k d).index < n)
+      (sym (ap length shows.free ∙ length-map (free_labels (labels lts) basis) (basis.relation t).coefficient)) (are.placed k d lt).within
 
 pub free_made : (lts : System) (basis : CycleBasis) (value : ℕ → Ratio) (t : ℕ) (f : Ratio) → Contains basis.members t → f ≡ value t → used_effect_fold lts basis value t (Ok f)
-free_made lts basis value t f has is = subst (λ b. either b (gives (value t)) (joined add (share_fold basis value t) (whole (pos 0)) (free_columns lts basis)) (Ok f)) (sym (in_set basis.members t has)) is
+free_made lts basis value t f has is = subst
+    (λ b. either b (gives (value t)) (joined add (share_fold basis value t) (whole (pos 0)) (free_columns lts basis)) (Ok f)) (sym (in_set basis.members t has)) is
 
 -- ---- all labels
 
 pub unused_made : (lts : System) (basis : CycleBasis) (value : ℕ → Ratio) (t : ℕ) (f : Ratio) → has_label t lts.arcs ≡ false → f ≡ whole (pos 0) → effect_fold lts basis value t (Ok f)
 unused_made lts basis value t f none is = subst (λ b. either (not b) (gives (whole (pos 0))) (used_effect_fold lts basis value t) (Ok f)) (sym none) is
 
-pub used_made : (lts : System) (basis : CycleBasis) (value : ℕ → Ratio) (t : ℕ) (r : Result Ratio Wide) → has_label t lts.arcs ≡ true → used_effect_fold lts basis value t r → effect_fold lts basis value t r
+pub used_made : (lts : System) (basis : CycleBasis) (value : ℕ → Ratio) (t : ℕ) (r : Result Ratio Wide) → has_label t lts.arcs ≡ true
+    → used_effect_fold lts basis value t r → effect_fold lts basis value t r
 used_made lts basis value t r used h = subst (λ b. either (not b) (gives (whole (pos 0))) (used_effect_fold lts basis value t) r) (sym used) h

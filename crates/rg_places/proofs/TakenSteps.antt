@@ -45,12 +45,14 @@ module _ (lts : System) (class : Class) (numbers : List Ratio) (found : List Fra
       ∙ ap taken_by_effect (top_there found u (slice_index_or found u d) (let e = count in omega arith) (get_or_default found u d (slice_index_or found u d) (let e = count in omega arith)))
 
   pub states_taken : (s other : ℕ) → by_effects (take (labels lts) found) ≡ map (taken lts class (States s other) numbers (ratios_of found)) (all_numbers (labels lts))
-  states_taken s other = over_labels (labels lts) (taken lts class (States s other) numbers (ratios_of found)) (by_effects (take (labels lts) found)) effects_count (at_label (some_item found (let e = count in omega arith)))
+  states_taken s other = over_labels (labels lts) (taken lts class (States s other) numbers (ratios_of found))
+      (by_effects (take (labels lts) found)) effects_count (at_label (some_item found (let e = count in omega arith)))
 
   pub event_taken : (s t : ℕ) (effect : Fraction) (z : ℤ) → t < labels lts → effect ≡ slice_index_or found t effect
       → z ≡ taken_to_stop lts class numbers (numerator_of effect) t → set (by_effects (take (labels lts) found)) t z ≡ map
       (taken lts class (Event s t) numbers (ratios_of found)) (all_numbers (labels lts))
-  event_taken s t effect z below at is = over_labels (labels lts) (taken lts class (Event s t) numbers (ratios_of found)) (set (by_effects (take (labels lts) found)) t z) (length-set (by_effects (take (labels lts) found)) t z ∙ effects_count)
+  event_taken s t effect z below at is = over_labels (labels lts) (taken lts class (Event s t) numbers (ratios_of found))
+      (set (by_effects (take (labels lts) found)) t z) (length-set (by_effects (take (labels lts) found)) t z ∙ effects_count)
       (λ u lt. ⊎_elim (λ e. here u e) (λ e. other u lt e) (cases_Bool (u == t)))
     where
       here : (u : ℕ) → (u == t) ≡ true → slice_index_or (set (by_effects (take (labels lts) found)) t z) u (pos 0) ≡ taken lts class (Event s t) numbers (ratios_of found) u

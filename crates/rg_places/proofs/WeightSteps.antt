@@ -20,12 +20,17 @@ use Rattle.rg_case_folds.proofs.PlaceWeights.{taken_at, taken_length}
 use Rattle.rg_case_folds.proofs.Found.{all_at, all_length}
 
 -- where each item's results are those of another making, so are the list's
-each_same : {A X : Type 0} (make other : A → Result X Wide → Type 0) (items : List A) → ((i : ℕ) (a : A) → i < length items → a ≡ slice_index_or items i a → (r : Result X Wide) → make a r → other a r) → (r : Result (List X) Wide) → each make items r → each other items r
+each_same : {A X : Type 0} (make other : A → Result X Wide → Type 0) (items : List A)
+    → ((i : ℕ) (a : A) → i < length items → a ≡ slice_index_or items i a → (r : Result X Wide) → make a r → other a r) → (r : Result (List X) Wide)
+    → each make items r → each other items r
 each_same make other [] same r h = h
-each_same make other (a ∷ rest) same (Ok ys) (x, made, (xs, h, e)) = (x, same 0 a (omega arith) refl (Ok x) made, (xs, each_same make other rest (λ i b lt at. same (suc i) b (omega arith) at) (Ok xs) h, e))
+each_same make other (a ∷ rest) same (Ok ys) (x, made, (xs, h, e)) =
+    (x, same 0 a (omega arith) refl (Ok x) made, (xs, each_same make other rest (λ i b lt at. same (suc i) b (omega arith) at) (Ok xs) h, e))
 each_same make other (a ∷ rest) same (Err w) (inl made) = inl (same 0 a (omega arith) refl (Err w) made)
-each_same make other (a ∷ rest) same (Err w) (inr (x, made, inl h)) = inr (x, same 0 a (omega arith) refl (Ok x) made, inl (each_same make other rest (λ i b lt at. same (suc i) b (omega arith) at) (Err w) h))
-each_same make other (a ∷ rest) same (Err w) (inr (x, made, inr (xs, h, e))) = inr (x, same 0 a (omega arith) refl (Ok x) made, inr (xs, each_same make other rest (λ i b lt at. same (suc i) b (omega arith) at) (Ok xs) h, e))
+each_same make other (a ∷ rest) same (Err w) (inr (x, made, inl h)) =
+    inr (x, same 0 a (omega arith) refl (Ok x) made, inl (each_same make other rest (λ i b lt at. same (suc i) b (omega arith) at) (Err w) h))
+each_same make other (a ∷ rest) same (Err w) (inr (x, made, inr (xs, h, e))) =
+    inr (x, same 0 a (omega arith) refl (Ok x) made, inr (xs, each_same make other rest (λ i b lt at. same (suc i) b (omega arith) at) (Ok xs) h, e))
 
 -- the tokens of a state
 pub tokens_at : (numbers : List Fraction) (s : ℕ) → slice_index (map (λ n. unsigned_abs (numerator_of n)) numbers) s ≡ unsigned_abs (top_at (ratios_of numbers) s)
@@ -43,10 +48,14 @@ module _ (lts : System) (class : Class) (problem : Problem) (found numbers : Lis
   taken_by : (u : ℕ) → u < labels lts → number_at pre u ≡ taken lts class problem numbers found u
   taken_by u lt = ap (λ l. number_at l u) are ∙ taken_at (taken lts class problem numbers found) (labels lts) u lt
 
-  sums : (r : Result (List ℤ) Wide) → each (λ u. whole_sum (number_at pre u) (top_at found u)) (all_numbers (length pre)) r → each (λ u. whole_sum (taken lts class problem numbers found u) (top_at found u)) (all_numbers (labels lts)) r
-  sums r h = each_same (λ u. whole_sum (number_at pre u) (top_at found u)) (λ u. whole_sum (taken lts class problem numbers found u) (top_at found u)) (all_numbers (labels lts)) same r (subst (λ n. each (λ u. whole_sum (number_at pre u) (top_at found u)) (all_numbers n) r) pre_length h)
+  sums : (r : Result (List ℤ) Wide) → each (λ u. whole_sum (number_at pre u) (top_at found u)) (all_numbers (length pre)) r
+      → each (λ u. whole_sum (taken lts class problem numbers found u) (top_at found u)) (all_numbers (labels lts)) r
+  sums r h = each_same (λ u. whole_sum (number_at pre u) (top_at found u))
+      (λ u. whole_sum (taken lts class problem numbers found u) (top_at found u)) (all_numbers (labels lts)) same r
+      (subst (λ n. each (λ u. whole_sum (number_at pre u) (top_at found u)) (all_numbers n) r) pre_length h)
     where
-      same : (i u : ℕ) → i < length (all_numbers (labels lts)) → u ≡ slice_index_or (all_numbers (labels lts)) i u → (r : Result ℤ Wide) → whole_sum (number_at pre u) (top_at found u) r → whole_sum (taken lts class problem numbers found u) (top_at found u) r
+      same : (i u : ℕ) → i < length (all_numbers (labels lts)) → u ≡ slice_index_or (all_numbers (labels lts)) i u → (r : Result ℤ Wide)
+          → whole_sum (number_at pre u) (top_at found u) r → whole_sum (taken lts class problem numbers found u) (top_at found u) r
       same i u lt at r h = subst (λ z. whole_sum z (top_at found u) r) (taken_by u (subst (λ n. n < labels lts) (sym is) below)) h
         where
           below : i < labels lts

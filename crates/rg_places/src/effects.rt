@@ -31,20 +31,17 @@ pub(crate) fn effects(
     requires columns { AreFreeColumns lts.now (cycle_of basis.now) columns.now }
     ensures { Comes (each (effect_fold lts.now (cycle_of basis.now) (value_by columns.now)) (all_numbers (labels lts.now))) (λ effects. ratios_of effects.items) result }
 {
-    let values = values_by_label(alloc, lts, basis, columns)?;
-    let mut effects = Vec::with_capacity(alloc, used.len() + 1)?;
+    let mut effects = values_by_label(alloc, lts, basis, columns)?;
     for t in 0..lts.labels() {
-        let effect = if used[t as usize] {
-            effect(basis, columns, t, values[t as usize])?
-        } else {
-            Fraction::new(0, 1)
-        };
-        effects.push(effect)?;
+        if used[t as usize] {
+            effects[t as usize] = effect(basis, columns, t, effects[t as usize])?;
+        }
     }
     Ok(effects)
 }
 
-// The values of the labels, in order: those of the columns, and 0 of the other labels.
+// The values of the labels, in order: those of the columns, and 0 of the other labels. The list has room for one number
+// more.
 fn values_by_label(
     alloc: Global,
     lts: &Lts,
@@ -56,7 +53,9 @@ fn values_by_label(
     ensures one_each { IfOk result (λ values. length values.items ≡ labels lts.now) }
     ensures values { IfOk result (λ values. (t : ℕ) → t < labels lts.now → ratio_at (ratios_of values.items) t ≡ value_by columns.now t) }
 {
-    let mut values = vec![in alloc; Fraction::new(0, 1); lts.labels() as usize]?;
+    let labels = lts.labels() as usize;
+    let mut values = Vec::with_capacity(alloc, labels + 1)?;
+    values.resize(labels, Fraction::new(0, 1))?;
     for column in columns {
         values[column.label as usize] = column.value;
     }

@@ -7,11 +7,13 @@ ghost use Rattle.rg_folds.specs.Fold.{Comes, gives, either, each, add, whole, Ra
 ghost use Rattle.rg_case_folds.specs.Rewriting.{all_numbers};
 ghost use Rattle.rg_case_folds.specs.Placing.{along_tree, ratio_at, negated, lesser, least_of, is_shifted, is_lifted, missing, moved_fold, lifted_fold, shift_fold};
 ghost use Rattle.rg_fraction.specs.declared.fold_stop.FoldStop.TheVariants as stop;
+ghost use Rattle.rg_fraction.specs.Fractions.{numerator_of, denominator_of, IsSum};
 ghost use Rattle.rg_places.specs.PointValues.{ratios_of};
 ghost use Rattle.rg_places.specs.Steps.{IsAlongTree};
 
 use crate::whole::widen;
 use rg_fraction::{FoldStop, Fraction};
+use rg_integers::Wide;
 use rg_lts::{Arc, Lts};
 use rg_theory::{Class, Problem};
 use std::alloc::Global;
@@ -33,10 +35,20 @@ pub(crate) fn along_tree(
     let start = found[lts.labels() as usize];
     let mut numbers = vec![in alloc; start; lts.states() as usize]?;
     for a in tree {
-        let number = numbers[a.from as usize].add(found[a.label as usize])?;
+        let number = after_effect(numbers[a.from as usize], found[a.label as usize])?;
         numbers[a.to as usize] = number;
     }
     Ok(numbers)
+}
+
+// The number and the effect. An effect of 0 leaves the number as it is.
+fn after_effect(number: Fraction, effect: Fraction) -> Result<Fraction, Wide>
+    ensures { IsSum (numerator_of number) (denominator_of number) (numerator_of effect) (denominator_of effect) result }
+{
+    if effect.numerator() == 0 {
+        return Ok(number);
+    }
+    number.add(effect)
 }
 
 // The numbers, moved so that the least is 0 where the class asks that, and then moved back where the start has to be a
@@ -68,7 +80,7 @@ fn shift_by_least(
         return Ok(numbers);
     }
     let by = least(&numbers);
-    subtract_from_each(alloc, &numbers, by)
+    subtract_from_each(alloc, numbers, by)
 }
 
 // In a problem of two states of a plain class without bound the numbers and what is missing at the start, which is to
@@ -88,7 +100,7 @@ fn lift(
     }
     let start = numbers[lts.initial() as usize].numerator().unsigned_abs();
     let by = missing(class.marking.unwrap_or(1), start);
-    add_to_each(alloc, &numbers, whole_number(by))
+    add_to_each(alloc, numbers, whole_number(by))
 }
 
 // Whether the start has to be moved back to a multiple: in a problem of two states of a plain class without bound.
@@ -126,28 +138,38 @@ fn is_shifted(class: Class) -> bool
     class.bound.is_none() && (class.plain || !class.pure)
 }
 
-// Each number less so much.
+// Each number less so much; the numbers as they are where that is 0.
 fn subtract_from_each(
     alloc: Global,
-    numbers: &[Fraction],
+    numbers: Vec<Fraction>,
     by: Fraction,
 ) -> Result<Vec<Fraction>, FoldStop>
-    ensures { Comes (each (λ m. add m (negated (ratio_of by))) (ratios_of numbers.now)) (λ lowered. ratios_of lowered.items) result }
+    ensures { Comes (each (λ m. add m (negated (ratio_of by))) (ratios_of numbers.items)) (λ lowered. ratios_of lowered.items) result }
 {
+    if by.numerator() == 0 {
+        return Ok(numbers);
+    }
     let mut lowered = Vec::with_capacity(alloc, numbers.len())?;
-    for number in numbers {
+    for number in &numbers {
         let difference = number.sub(by)?;
         lowered.push(difference)?;
     }
     Ok(lowered)
 }
 
-// Each number and so much.
-fn add_to_each(alloc: Global, numbers: &[Fraction], by: Fraction) -> Result<Vec<Fraction>, FoldStop>
-    ensures { Comes (each (λ m. add m (ratio_of by)) (ratios_of numbers.now)) (λ raised. ratios_of raised.items) result }
+// Each number and so much; the numbers as they are where that is 0.
+fn add_to_each(
+    alloc: Global,
+    numbers: Vec<Fraction>,
+    by: Fraction,
+) -> Result<Vec<Fraction>, FoldStop>
+    ensures { Comes (each (λ m. add m (ratio_of by)) (ratios_of numbers.items)) (λ raised. ratios_of raised.items) result }
 {
+    if by.numerator() == 0 {
+        return Ok(numbers);
+    }
     let mut raised = Vec::with_capacity(alloc, numbers.len())?;
-    for number in numbers {
+    for number in &numbers {
         let sum = number.add(by)?;
         raised.push(sum)?;
     }

@@ -2,7 +2,7 @@
 ghost use Rattle.std.specs.Prelude.{◌≡◌, ◌||◌, is_some, pos};
 ghost use Rattle.rg_integers.specs.Range.{InRange};
 ghost use Rattle.rg_folds.specs.Fold.{Comes};
-ghost use Rattle.rg_case_folds.specs.Placing.{made_whole, marked_fold};
+ghost use Rattle.rg_case_folds.specs.Placing.{made_whole, times_each, marked_fold};
 ghost use Rattle.rg_places.specs.PointValues.{ratios_of};
 
 use rg_case_parts::{common_denominator, products};
@@ -23,8 +23,19 @@ pub(crate) fn make_whole(
         return Ok(numbers);
     }
     let multiple = common_denominator(&numbers)?;
-    let whole = products(alloc, &numbers, multiple)?;
+    let whole = times_each(alloc, numbers, multiple)?;
     times_marking(alloc, class, whole)
+}
+
+// The numbers times so much; the numbers as they are where that is 1.
+fn times_each(alloc: Global, numbers: Vec<Fraction>, by: i128) -> Result<Vec<Fraction>, FoldStop>
+    requires { InRange by }
+    ensures { Comes (times_each by (ratios_of numbers.items)) (λ found. ratios_of found.items) result }
+{
+    if by == 1 {
+        return Ok(numbers);
+    }
+    products(alloc, &numbers, by)
 }
 
 // The numbers times the marking that the class asks, if it asks one.
@@ -36,7 +47,7 @@ fn times_marking(
     ensures { Comes (marked_fold class (ratios_of numbers.items)) (λ found. ratios_of found.items) result }
 {
     match class.marking {
-        Some(n) => products(alloc, &numbers, widen(n)),
+        Some(n) => times_each(alloc, numbers, widen(n)),
         None => Ok(numbers),
     }
 }

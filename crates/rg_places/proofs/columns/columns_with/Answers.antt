@@ -38,18 +38,24 @@ loop-index-preserved c =
           let used = sym (c.requires.used.each label below) ∙ (rw free at w.if-used-label.true) in
           let count : w.len.result ≡ length c.loop-index.columns.items = omega (arith, w.len.ensures, c.loop-index.columns.ok.0) in
           let at = rw count at w.index-values-len.is in
-          rw (w.columns-is, w.in_ok-push.ensures.items, free) (columns_taken c.args.lts.now (cycle_of c.args.basis.now) c.args.values.now c.loop-index.index c.loop-index.columns.items c.loop-index.invariant c.requires.one_each label within refl used w.index-values-len.result at)
+          rw (w.columns-is, w.in_ok-push.ensures.items, free)
+          (columns_taken c.args.lts.now (cycle_of c.args.basis.now) c.args.values.now c.loop-index.index c.loop-index.columns.items
+          c.loop-index.invariant c.requires.one_each label within refl used w.index-values-len.result at)
       | else-used-label w ↦
           let unused = sym (c.requires.used.each label below) ∙ (rw free at w.if-used-label.false) in
-          rw w.columns-is (columns_passed c.args.lts.now (cycle_of c.args.basis.now) c.args.values.now c.loop-index.index c.loop-index.columns.items c.loop-index.invariant c.requires.one_each label within refl unused)
+          rw w.columns-is (columns_passed c.args.lts.now
+          (cycle_of c.args.basis.now) c.args.values.now c.loop-index.index c.loop-index.columns.items c.loop-index.invariant c.requires.one_each
+          label within refl unused)
     ]
 
 pub returns-clause-columns : goal.returns-clause-columns
 returns-clause-columns c =
     let free = c.free-label-items.ensures ∙ ap (λ n. free_labels n (cycle_of c.args.basis.now)) c.requires.labels in
-    columns_end c.args.lts.now (cycle_of c.args.basis.now) c.args.values.now c.loop-index.index c.loop-index.columns.items c.loop-index.invariant c.requires.one_each (subst (λ l. length l ≤ c.loop-index.index) free c.loop-index-test.false)
+    columns_end c.args.lts.now (cycle_of c.args.basis.now) c.args.values.now c.loop-index.index c.loop-index.columns.items c.loop-index.invariant
+    c.requires.one_each (subst (λ l. length l ≤ c.loop-index.index) free c.loop-index-test.false)
 
 pub returns-clause-values : goal.returns-clause-values
 returns-clause-values c =
     let free = c.free-label-items.ensures ∙ ap (λ n. free_labels n (cycle_of c.args.basis.now)) c.requires.labels in
-    values_end c.args.lts.now (cycle_of c.args.basis.now) c.args.values.now c.loop-index.index c.loop-index.columns.items c.loop-index.invariant c.requires.one_each (subst (λ l. length l ≤ c.loop-index.index) free c.loop-index-test.false)
+    values_end c.args.lts.now (cycle_of c.args.basis.now) c.args.values.now c.loop-index.index c.loop-index.columns.items c.loop-index.invariant
+    c.requires.one_each (subst (λ l. length l ≤ c.loop-index.index) free c.loop-index-test.false)

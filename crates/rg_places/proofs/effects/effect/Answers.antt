@@ -9,7 +9,8 @@ use Rattle.rg_places.proofs.effects.effect.Goals as goal
 pub sum_of_shares-requires-clause-indices : goal.sum_of_shares-requires-clause-indices
 sum_of_shares-requires-clause-indices c =
     let (lts, same, are) = c.requires.columns in
-    indices_within lts (cycle_of c.args.basis.now) c.args.columns.now c.args.t c.in-Some.relation.now are (subst (λ n. ShowsRelation n (cycle_of c.args.basis.now) c.args.t c.in-Some.relation.now) (sym same) c.in-Some.ensures.exact.1)
+    indices_within lts (cycle_of c.args.basis.now) c.args.columns.now c.args.t c.in-Some.relation.now are
+    (subst (λ n. ShowsRelation n (cycle_of c.args.basis.now) c.args.t c.in-Some.relation.now) (sym same) c.in-Some.ensures.exact.1)
 
 pub returns-in-Some : goal.returns-in-Some
 returns-in-Some c = λ lts same are. dependent_made lts (cycle_of c.args.basis.now) c.args.columns.now c.args.t c.in-Some.relation.now are

@@ -15,7 +15,8 @@ use Rattle.rg_places.proofs.effects.sum_of_shares.Goals as goal
 use Rattle.rg_places.proofs.effects.sum_of_shares.Goals.{then-numerator-ne0+in_ok-sum-2, else-numerator-ne0}
 
 pub returns-in_default : goal.returns-in_default
-returns-in_default c = joined_none add (column_share c.args.relation.now) (whole (pos 0)) (ratio_of c.new.result) c.args.columns.now c.in_default.ensures.cases (whole_is c.new.result (pos 0) c.new.ensures)
+returns-in_default c = joined_none add (column_share c.args.relation.now) (whole (pos 0))
+    (ratio_of c.new.result) c.args.columns.now c.in_default.ensures.cases (whole_is c.new.result (pos 0) c.new.ensures)
 
 pub returns-in_err-sum : goal.returns-in_err-sum
 returns-in_err-sum c =
@@ -41,7 +42,8 @@ loop-column-preserved-then-numerator-eq0 c =
     let none = sym c.numerator.ensures.value ∙ zero_of_bits c.numerator.result c.numerator.ensures.in_range c.if-numerator-eq0.true in
     sum_next add (column_share relation) (joined add (column_share relation) (whole (pos 0)) c.args.columns.now) c.in-Some.rest.now c.loop-column.column-index
     (ratio_of c.loop-column.sum) c.loop-column.invariant column c.loop-column-test.true c.column-item.is (whole (pos 0)) (ratio_of c.loop-column.sum)
-    (value_adds_nothing (number_at relation.free.items column.index) relation.d column.value (positive_differs _ c.requires.in_range.positive) (c.requires.in_range.free column.index) c.requires.in_range.d none)
+    (value_adds_nothing (number_at relation.free.items column.index) relation.d column.value (positive_differs _ c.requires.in_range.positive)
+    (c.requires.in_range.free column.index) c.requires.in_range.d none)
     (plus_zero (ratio_of c.loop-column.sum) (fraction_within c.loop-column.sum))
 
 pub returns-in_err-share : goal.returns-in_err-share
@@ -76,4 +78,6 @@ loop-column-preserved c =
     ]
 
 pub returns : goal.returns
-returns c = sum_ends add (column_share c.args.relation.now) (joined add (column_share c.args.relation.now) (whole (pos 0)) c.args.columns.now) c.in-Some.rest.now c.loop-column.column-index (ratio_of c.loop-column.sum) c.loop-column.invariant c.loop-column-test.false
+returns c = sum_ends add (column_share c.args.relation.now)
+    (joined add (column_share c.args.relation.now) (whole (pos 0)) c.args.columns.now) c.in-Some.rest.now c.loop-column.column-index
+    (ratio_of c.loop-column.sum) c.loop-column.invariant c.loop-column-test.false

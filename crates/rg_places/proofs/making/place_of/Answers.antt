@@ -19,8 +19,10 @@ post_weights-requires-clause-lengths c =
 pub returns-in_err-put-clause-comes : goal.returns-in_err-put-clause-comes
 returns-in_err-put-clause-comes c =
     let same : c.from_residual-in_err-put.result ≡ Err c.in_err-put.field-0.0 = search rules in
-    rw same (comes_unless (weights_fold c.args.lts.now c.args.class c.args.problem (ratios_of c.args.found.now) (ratios_of c.args.numbers.now)) (λ (r : RegionPlace). shown_place r.place) c.in_err-put.field-0.0
-    (λ w is. put_fails c.args.lts.now c.args.class c.args.problem (ratios_of c.args.found.now) (ratios_of c.args.numbers.now) c.in_ok-taken.taken.items c.in_ok-taken.ensures.value w (rw (is, c.deref.ensures.value) at c.in_err-put.ensures)))
+    rw same (comes_unless (weights_fold c.args.lts.now c.args.class c.args.problem (ratios_of c.args.found.now) (ratios_of c.args.numbers.now))
+    (λ (r : RegionPlace). shown_place r.place) c.in_err-put.field-0.0
+    (λ w is. put_fails c.args.lts.now c.args.class c.args.problem (ratios_of c.args.found.now)
+    (ratios_of c.args.numbers.now) c.in_ok-taken.taken.items c.in_ok-taken.ensures.value w (rw (is, c.deref.ensures.value) at c.in_err-put.ensures)))
 
 pub returns-clause-comes : goal.returns-clause-comes
 returns-clause-comes c =

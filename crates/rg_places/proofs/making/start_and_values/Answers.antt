@@ -7,4 +7,5 @@ use Rattle.rg_places.specs.PointValues.{ratios_of}
 use Rattle.rg_places.proofs.making.start_and_values.Goals as goal
 
 pub returns-else-has_start-clause-start : goal.returns-else-has_start-clause-start
-returns-else-has_start-clause-start c = whole_is c.new.result (pos 0) c.new.ensures ∙ sym (ap (λ b. if b then ratio_at (ratios_of c.args.point.now) 0 else whole (pos 0)) (sym c.has_start.ensures ∙ c.if-has_start.false))
+returns-else-has_start-clause-start c = whole_is c.new.result (pos 0) c.new.ensures
+    ∙ sym (ap (λ b. if b then ratio_at (ratios_of c.args.point.now) 0 else whole (pos 0)) (sym c.has_start.ensures ∙ c.if-has_start.false))

@@ -4,4 +4,4 @@ use Rattle.rg_places.proofs.FoldSteps.{EachLeads}
 use Rattle.rg_places.proofs.numbers.add_to_each.Given as goal
 
 abbrev pub invariant-loop-number : goal.invariant-loop-number
-invariant-loop-number l = EachLeads (λ m. add m (ratio_of l.by)) (ratios_of l.numbers) l.number-index (ratios_of l.raised.items)
+invariant-loop-number l = EachLeads (λ m. add m (ratio_of l.by)) (ratios_of l.number-items) l.number-index (ratios_of l.raised.items)

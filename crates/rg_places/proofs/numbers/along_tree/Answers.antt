@@ -16,7 +16,8 @@ pub loop-a-init : goal.loop-a-init
 loop-a-init c =
     let start = subst (λ n. c.index-found-labels.result ≡ slice_index_or c.args.found.now n c.index-found-labels.result) c.labels.ensures.value c.index-found-labels.is in
     let items : c.in_ok-numbers.numbers.items ≡ replicate c.states.result c.index-found-labels.result = search rules in
-    along_first c.args.lts.now c.args.tree.now c.args.found.now c.in_ok-numbers.numbers.items c.index-found-labels.result c.requires.found start (items ∙ ap (λ n. replicate n c.index-found-labels.result) c.states.ensures.value)
+    along_first c.args.lts.now c.args.tree.now c.args.found.now c.in_ok-numbers.numbers.items c.index-found-labels.result c.requires.found start
+    (items ∙ ap (λ n. replicate n c.index-found-labels.result) c.states.ensures.value)
 
 pub index-requires : goal.index-requires
 index-requires c =
@@ -42,13 +43,13 @@ returns-in_err-number-clause-wide c = λ w e.
     let is : c.in_err-number.field-0.0 ≡ w = cc in
     subst (λ v. along_tree (ratio_at (ratios_of c.args.found.now)) (λ s. ratio_at (ratios_of c.args.found.now) (labels c.args.lts.now)) c.args.tree.now (Err v)) is
     (step_fails c.args.lts.now c.args.tree.now c.args.found.now c.loop-a.numbers.items c.loop-a.a-index no_arc c.labels.ensures.well_formed.in_range c.requires.tree
-    c.loop-a-test.true c.loop-a.invariant c.requires.found c.index.result.now c.index-found-a.result c.index.ensures c.index-found-a.is c.add.result c.add.ensures
+    c.loop-a-test.true c.loop-a.invariant c.requires.found c.index.result.now c.index-found-a.result c.index.ensures c.index-found-a.is c.after_effect.result c.after_effect.ensures
     c.in_err-number.field-0.0 c.in_err-number.was)
 
 pub loop-a-preserved : goal.loop-a-preserved
 loop-a-preserved c = step_next c.args.lts.now c.args.tree.now c.args.found.now c.loop-a.numbers.items c.loop-a.a-index no_arc c.labels.ensures.well_formed.in_range
-    c.requires.tree c.loop-a-test.true c.loop-a.invariant c.requires.found c.index.result.now c.index-found-a.result c.index.ensures c.index-found-a.is c.add.result
-    c.add.ensures c.in_ok-number.number c.in_ok-number.was
+    c.requires.tree c.loop-a-test.true c.loop-a.invariant c.requires.found c.index.result.now c.index-found-a.result c.index.ensures c.index-found-a.is c.after_effect.result
+    c.after_effect.ensures c.in_ok-number.number c.in_ok-number.was
 
 pub returns-clause-value : goal.returns-clause-value
 returns-clause-value c = along_end c.args.lts.now c.args.tree.now (ratios_of c.args.found.now) c.loop-a.a-index (ratios_of c.loop-a.numbers.items) c.loop-a.invariant c.loop-a-test.false

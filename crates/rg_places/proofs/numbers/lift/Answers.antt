@@ -23,5 +23,5 @@ returns c =
     (subst (λ k. c.args.lts.now.initial < k) (sym c.requires) (subst (λ k. k < states c.args.lts.now) c.initial.ensures.value c.initial.ensures.in_range)))
     c.index.ensures ∙ ap (top_at (ratios_of numbers)) c.initial.ensures.value) in
     let by = c.whole_number.ensures ∙ ap (λ n. whole (pos n)) (c.missing-by.ensures ∙ ap₂ missing c.unwrap_or.ensures start) in
-    let made = rw c.deref.ensures.value at c.add_to_each.ensures in
-    comes_by _ _ (λ (v : Vec Fraction Global). ratios_of v.items) c.add_to_each.result made (lifted_made c.args.lts.now c.args.class c.args.problem (ratios_of numbers) (ratio_of c.whole_number.result) by (sym c.is_lifted.ensures ∙ c.if-not-is_lifted.false))
+    comes_by _ _ (λ (v : Vec Fraction Global). ratios_of v.items) c.add_to_each.result c.add_to_each.ensures
+    (lifted_made c.args.lts.now c.args.class c.args.problem (ratios_of numbers) (ratio_of c.whole_number.result) by (sym c.is_lifted.ensures ∙ c.if-not-is_lifted.false))

@@ -16,8 +16,11 @@ returns-in_err-moved c =
 
 pub lift-requires : goal.lift-requires
 lift-requires c =
-    sym (length-map c.in_ok-moved.moved.items ratio_of) ∙ moved_length c.args.class (ratios_of c.args.numbers.items) (ratios_of c.in_ok-moved.moved.items) c.in_ok-moved.ensures ∙ length-map c.args.numbers.items ratio_of ∙ c.requires
+    sym (length-map c.in_ok-moved.moved.items ratio_of)
+    ∙ moved_length c.args.class (ratios_of c.args.numbers.items) (ratios_of c.in_ok-moved.moved.items) c.in_ok-moved.ensures
+    ∙ length-map c.args.numbers.items ratio_of ∙ c.requires
 
 pub returns : goal.returns
 returns c =
-    comes_by _ _ (λ (v : Vec Fraction Global). ratios_of v.items) c.lift.result c.lift.ensures (shift_made c.args.lts.now c.args.class c.args.problem (ratios_of c.args.numbers.items) (ratios_of c.in_ok-moved.moved.items) c.in_ok-moved.ensures)
+    comes_by _ _ (λ (v : Vec Fraction Global). ratios_of v.items) c.lift.result c.lift.ensures
+    (shift_made c.args.lts.now c.args.class c.args.problem (ratios_of c.args.numbers.items) (ratios_of c.in_ok-moved.moved.items) c.in_ok-moved.ensures)

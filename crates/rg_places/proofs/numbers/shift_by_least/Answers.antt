@@ -12,5 +12,5 @@ returns-then-not-is_shifted c = moved_kept c.args.class (ratios_of c.args.number
 pub returns : goal.returns
 returns c =
     let least = rw c.deref.ensures.value at c.least-by.ensures in
-    let made = rw c.deref-2.ensures.value at c.subtract_from_each.ensures in
-    comes_by _ _ (λ (v : Vec Fraction Global). ratios_of v.items) c.subtract_from_each.result made (moved_made c.args.class (ratios_of c.args.numbers.items) (ratio_of c.least-by.result) least (sym c.is_shifted.ensures ∙ c.if-not-is_shifted.false))
+    comes_by _ _ (λ (v : Vec Fraction Global). ratios_of v.items) c.subtract_from_each.result c.subtract_from_each.ensures
+    (moved_made c.args.class (ratios_of c.args.numbers.items) (ratio_of c.least-by.result) least (sym c.is_shifted.ensures ∙ c.if-not-is_shifted.false))

@@ -20,11 +20,13 @@ pub loop-s-preserved : goal.loop-s-preserved
 loop-s-preserved c =
     let found = c.deref-s-items.ensures.value ∙ c.in_ok-states.ensures in
     let items = c.deref-s-items.result.now in
-    let below = subst (λ l. slice_index l c.loop-s.s-index < states c.args.lts.now) (sym found) (state_below c.args.lts.now c.args.t c.loop-s.s-index (subst (λ l. c.loop-s.s-index < length l) found c.loop-s-test.true)) in
+    let below = subst (λ l. slice_index l c.loop-s.s-index < states c.args.lts.now) (sym found)
+    (state_below c.args.lts.now c.args.t c.loop-s.s-index (subst (λ l. c.loop-s.s-index < length l) found c.loop-s-test.true)) in
     ap ratios_of c.in_ok-push.ensures.items
     ∙ left_next c.args.numbers.now c.loop-s.left.items items c.loop-s.s-index c.index-numbers-s.result c.loop-s.invariant c.loop-s-test.true
     (subst (λ n. slice_index items c.loop-s.s-index < n) (sym c.requires.numbers) below) c.index-numbers-s.is
 
 pub returns : goal.returns
 returns c =
-    c.loop-s.invariant ∙ ap (map (ratio_at (ratios_of c.args.numbers.now))) (take_all c.loop-s.s-index c.deref-s-items.result.now c.loop-s-test.false ∙ c.deref-s-items.ensures.value ∙ c.in_ok-states.ensures)
+    c.loop-s.invariant ∙ ap (map (ratio_at (ratios_of c.args.numbers.now)))
+    (take_all c.loop-s.s-index c.deref-s-items.result.now c.loop-s-test.false ∙ c.deref-s-items.ensures.value ∙ c.in_ok-states.ensures)

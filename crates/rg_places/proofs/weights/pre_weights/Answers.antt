@@ -16,8 +16,11 @@ returns-clause-value c =
       | in-Event+in_ok-taken-2 w ↦
           let asked = rw w.in-Event.is at c.requires.asked in
           let z = back w.in_ok-taken-2.field-0 w.in_ok-taken-2.ensures.in_range in
-          rw (w.taken-is, w.in-Event.is, z, first) (event_taken c.args.lts.now c.args.class (ratios_of c.args.numbers.now) c.args.found.now c.requires.found w.in-Event.field-0 w.in-Event.t w.index-found-t.result w.in_ok-taken-2.field-0 asked.1 w.index-found-t.is w.in_ok-taken-2.ensures.value)
-      | in_default w ↦ rw (w.taken-is, w.in_default.is, first) (states_taken c.args.lts.now c.args.class (ratios_of c.args.numbers.now) c.args.found.now c.requires.found w.in_default.field-0 w.in_default.field-1)
+          rw (w.taken-is, w.in-Event.is, z, first) (event_taken c.args.lts.now c.args.class
+          (ratios_of c.args.numbers.now) c.args.found.now c.requires.found w.in-Event.field-0 w.in-Event.t w.index-found-t.result
+          w.in_ok-taken-2.field-0 asked.1 w.index-found-t.is w.in_ok-taken-2.ensures.value)
+      | in_default w ↦ rw (w.taken-is, w.in_default.is, first)
+          (states_taken c.args.lts.now c.args.class (ratios_of c.args.numbers.now) c.args.found.now c.requires.found w.in_default.field-0 w.in_default.field-1)
     ]
 
 pub returns-clause-in_range : goal.returns-clause-in_range

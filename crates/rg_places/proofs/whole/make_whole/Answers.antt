@@ -1,12 +1,11 @@
-use Rattle.std.proofs.Common.{rules, ◌≡◌, List, Err, Ok, map, ap, sym, subst, ◌∙◌, Vec, Global}
-use Rattle.std.specs.Int.{w128, cast_signed, cast_unsigned}
+use Rattle.std.proofs.Common.{rules, ◌≡◌, Err, Ok, map, ap, sym, subst, ◌∙◌, Vec, Global}
 use Rattle.rg_integers.proofs.Casts.{back}
 use Rattle.rg_fraction.specs.declared.fraction.Fraction.{Fraction}
 use Rattle.rg_fraction.specs.Fractions.{denominator_of}
-use Rattle.rg_folds.specs.Fold.{each, mul, whole, ratio_of, multiple_of_all}
+use Rattle.rg_folds.specs.Fold.{multiple_of_all}
 use Rattle.rg_fraction.specs.declared.fold_stop.FoldStop.TheVariants as stop
 use Rattle.rg_case_parts.proofs.Multiples.{bottoms}
-use Rattle.rg_case_folds.specs.Placing.{made_whole}
+use Rattle.rg_case_folds.specs.Placing.{made_whole, times_each}
 use Rattle.rg_case_folds.proofs.Comes.{comes_by, comes_unless}
 use Rattle.rg_places.specs.PointValues.{ratios_of}
 use Rattle.rg_places.proofs.PlaceSteps.{made_kept, multiple_fails, products_fail, multiple_makes}
@@ -28,9 +27,9 @@ returns-in_err-whole c =
     let m = c.in_ok-multiple.multiple in
     let same : c.from_residual-in_err-whole.result ≡ Err c.in_err-whole.field-0.0 = search rules in
     let multiple = subst (λ l. multiple_of_all l (Ok m)) (ap (map denominator_of) c.deref.ensures.value ∙ sym (bottoms numbers)) c.in_ok-multiple.ensures.value in
-    rw same (comes_unless (made_whole c.args.class (ratios_of numbers)) (λ (v : Vec Fraction Global). ratios_of v.items) c.in_err-whole.field-0.0 (λ w is. products_fail c.args.class (ratios_of numbers) m w (sym c.has_whole_points.ensures ∙ c.if-has_whole_points.false) multiple
-    (subst (λ z. each (λ f. mul f (whole z)) (ratios_of numbers) (Err w)) (back m c.in_ok-multiple.ensures.in_range)
-    (subst (λ (l : List Fraction). each (λ f. mul f (whole (cast_signed w128 (cast_unsigned w128 m)))) (map ratio_of l) (Err w)) c.deref-2.ensures.value (rw is at c.in_err-whole.ensures)))))
+    rw same (comes_unless (made_whole c.args.class (ratios_of numbers)) (λ (v : Vec Fraction Global). ratios_of v.items) c.in_err-whole.field-0.0
+    (λ w is. products_fail c.args.class (ratios_of numbers) m w (sym c.has_whole_points.ensures ∙ c.if-has_whole_points.false) multiple
+    (subst (λ z. times_each z (ratios_of numbers) (Err w)) (back m c.in_ok-multiple.ensures.in_range) (rw is at c.in_err-whole.ensures))))
 
 pub returns : goal.returns
 returns c =
@@ -38,6 +37,6 @@ returns c =
     let m = c.in_ok-multiple.multiple in
     let products = ratios_of c.in_ok-whole.whole.items in
     let multiple = subst (λ l. multiple_of_all l (Ok m)) (ap (map denominator_of) c.deref.ensures.value ∙ sym (bottoms numbers)) c.in_ok-multiple.ensures.value in
-    let are = subst (λ z. each (λ f. mul f (whole z)) (ratios_of numbers) (Ok products)) (back m c.in_ok-multiple.ensures.in_range)
-    (subst (λ (l : List Fraction). each (λ f. mul f (whole (cast_signed w128 (cast_unsigned w128 m)))) (map ratio_of l) (Ok products)) c.deref-2.ensures.value c.in_ok-whole.ensures) in
-    comes_by _ _ (λ (v : Vec Fraction Global). ratios_of v.items) c.times_marking.result c.times_marking.ensures (multiple_makes c.args.class (ratios_of numbers) m products (sym c.has_whole_points.ensures ∙ c.if-has_whole_points.false) multiple are)
+    let are = subst (λ z. times_each z (ratios_of numbers) (Ok products)) (back m c.in_ok-multiple.ensures.in_range) c.in_ok-whole.ensures in
+    comes_by _ _ (λ (v : Vec Fraction Global). ratios_of v.items) c.times_marking.result c.times_marking.ensures
+    (multiple_makes c.args.class (ratios_of numbers) m products (sym c.has_whole_points.ensures ∙ c.if-has_whole_points.false) multiple are)

@@ -2,7 +2,7 @@ use Rattle.rg_integers.proofs.Casts.{back}
 use Rattle.rg_integers.proofs.Order.{positive_differs}
 use Rattle.rg_fraction.proofs.Forms.{sum-positive}
 use Rattle.rg_fraction.proofs.Outcomes.{sum_formed}
-use Rattle.rg_fraction.proofs.fraction.Fraction.add.Goals as goal
+use Rattle.rg_fraction.proofs.fraction.Fraction.sum.Goals as goal
 
 pub over-requires : goal.over-requires
 over-requires c =

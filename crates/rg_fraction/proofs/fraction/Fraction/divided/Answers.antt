@@ -1,6 +1,6 @@
 use Rattle.rg_integers.proofs.Casts.{back}
 use Rattle.rg_fraction.proofs.Forms.{from_reduced-value}
-use Rattle.rg_fraction.proofs.fraction.Fraction.new.Goals as goal
+use Rattle.rg_fraction.proofs.fraction.Fraction.divided.Goals as goal
 
 pub from_reduced-requires-clause-reduced : goal.from_reduced-requires-clause-reduced
 from_reduced-requires-clause-reduced c =
