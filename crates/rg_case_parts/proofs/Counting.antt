@@ -1,6 +1,6 @@
 -- Counts of labels and of Start, and coefficients, in a sum of terms, term by term.
-use Rattle.std.proofs.Common.{◌≡◌, ℕ, ◌+◌, ◌^◌, ◌<◌, ◌≤◌, zero, suc, if◌then◌else◌, List, [], ◌∷◌, drop, length, All, Option, Some, None, refl, ap, sym, subst, ◌∙◌, arith, add-one}
-use Rattle.std.specs.Prelude.{ℤ, pos, negsuc, neg_ℤ, ◌+ℤ◌, ◌*ℤ◌, ◌≤ℤ◌, slice_index_or}
+use Rattle.std.proofs.Common.{◌≡◌, ℕ, ◌+◌, ◌*◌, ◌^◌, ◌<◌, ◌≤◌, zero, suc, if◌then◌else◌, List, [], ◌∷◌, drop, length, All, Option, Some, None, refl, ap, sym, subst, ◌∙◌, arith, add-one}
+use Rattle.std.specs.Prelude.{ℤ, pos, negsuc, neg_ℤ, ◌+ℤ◌, ◌*ℤ◌, ◌≤ℤ◌, unsigned_abs, slice_index_or}
 use Rattle.std.proofs.lemmas.Int.{ints}
 use Rattle.std.proofs.lemmas.List.Elements.{All-head, All-tail}
 use Rattle.std.proofs.lemmas.Option.{same_Some, none-some}
@@ -18,13 +18,13 @@ part a b c = omega (arith, ints)
 -- ---- the terms at the entries of a list
 
 -- where a term stands, the terms from there on are it and those after it
-term_here : (entries : List (Option Term)) (i : ℕ) (t : Term) → slice_index_or entries i None ≡ Some t → terms_in (drop i entries) ≡ term_of t ∷ terms_in (drop (suc i) entries)
+pub term_here : (entries : List (Option Term)) (i : ℕ) (t : Term) → slice_index_or entries i None ≡ Some t → terms_in (drop i entries) ≡ term_of t ∷ terms_in (drop (suc i) entries)
 term_here [] i t is = absurd (none-some t is)
 term_here (o ∷ more) zero t is = ap (λ o. terms_in (o ∷ more)) is
 term_here (o ∷ more) (suc i) t is = term_here more i t is
 
 -- where none stands, they are those after it
-none_here : (entries : List (Option Term)) (i : ℕ) → slice_index_or entries i None ≡ None → terms_in (drop i entries) ≡ terms_in (drop (suc i) entries)
+pub none_here : (entries : List (Option Term)) (i : ℕ) → slice_index_or entries i None ≡ None → terms_in (drop i entries) ≡ terms_in (drop (suc i) entries)
 none_here [] zero is = refl
 none_here [] (suc i) is = refl
 none_here (o ∷ more) zero is = ap (λ o. terms_in (o ∷ more)) is
@@ -58,14 +58,21 @@ module _ (entries : List (Option Term)) (i : ℕ) where
   here t is = term_here entries i t is ∙ ap (λ l. term_of t ∷ l) next
 
   module _ (t : Term) (is : slice_index_or entries i None ≡ Some t) where
-    pub count_next : (tree : List Arc) (u : ℕ) (sum more total : ℤ) → more ≡ sum +ℤ ((term_of t).coefficient *ℤ variable_count tree (term_of t).variable u) → sum +ℤ count_of tree (terms_in (drop i entries)) u ≡ total → more +ℤ count_of tree rest u ≡ total
+    pub count_next : (tree : List Arc) (u : ℕ) (sum more total : ℤ)
+        → more ≡ sum +ℤ ((term_of t).coefficient *ℤ variable_count tree (term_of t).variable u)
+        → sum +ℤ count_of tree (terms_in (drop i entries)) u ≡ total → more +ℤ count_of tree rest u ≡ total
     count_next tree u sum more total m e = ap (λ z. z +ℤ count_of tree rest u) m ∙ part sum _ _ ∙ sym (ap (λ l. sum +ℤ count_of tree l u) (here t is)) ∙ e
 
-    pub start_next : (sum more total : ℤ) → more ≡ sum +ℤ ((term_of t).coefficient *ℤ variable_start (term_of t).variable) → sum +ℤ start_of (terms_in (drop i entries)) ≡ total → more +ℤ start_of rest ≡ total
+    pub start_next : (sum more total : ℤ) → more ≡ sum +ℤ ((term_of t).coefficient *ℤ variable_start (term_of t).variable)
+        → sum +ℤ start_of (terms_in (drop i entries)) ≡ total → more +ℤ start_of rest ≡ total
     start_next sum more total m e = ap (λ z. z +ℤ start_of rest) m ∙ part sum _ _ ∙ sym (ap (λ l. sum +ℤ start_of l) (here t is)) ∙ e
 
-    pub coefficient_next : (v : Variable) (sum more total : ℤ) → more ≡ sum +ℤ (if same_variable (term_of t).variable v then (term_of t).coefficient else pos 0) → sum +ℤ coefficient_in (terms_in (drop i entries)) v ≡ total → more +ℤ coefficient_in rest v ≡ total
-    coefficient_next v sum more total m e = ap (λ z. z +ℤ coefficient_in rest v) m ∙ part sum (if same_variable (term_of t).variable v then (term_of t).coefficient else pos 0) (coefficient_in rest v) ∙ sym (ap (λ l. sum +ℤ coefficient_in l v) (here t is)) ∙ e
+    pub coefficient_next : (v : Variable) (sum more total : ℤ)
+        → more ≡ sum +ℤ (if same_variable (term_of t).variable v then (term_of t).coefficient else pos 0)
+        → sum +ℤ coefficient_in (terms_in (drop i entries)) v ≡ total → more +ℤ coefficient_in rest v ≡ total
+    coefficient_next v sum more total m e = ap (λ z. z +ℤ coefficient_in rest v) m
+        ∙ part sum (if same_variable (term_of t).variable v then (term_of t).coefficient else pos 0) (coefficient_in rest v)
+        ∙ sym (ap (λ l. sum +ℤ coefficient_in l v) (here t is)) ∙ e
 
   -- where no term stands, nothing is added
   pub nothing_next : (f : List SumTerm → ℤ) (sum more total : ℤ) → more ≡ sum → slice_index_or entries i None ≡ None → sum +ℤ f (terms_in (drop i entries)) ≡ total → more +ℤ f rest ≡ total
@@ -83,3 +90,9 @@ module _ (entries : List (Option Term)) (i : ℕ) where
 pub in_range_between : (z : ℤ) (n : ℕ) → n < 2 ^ 127 → neg_ℤ (pos n) ≤ℤ z → z ≤ℤ pos n → InRange z
 in_range_between (pos m) n lt low high = omega (arith, ints)
 in_range_between (negsuc m) n lt low high = omega (arith, ints)
+
+-- ---- the counts of all labels
+
+-- a small number and one below 2 ^ 32
+pub small_next : (sum z more : ℤ) (i : ℕ) → more ≡ sum +ℤ z → unsigned_abs sum ≤ i * 2 ^ 32 → unsigned_abs z < 2 ^ 32 → unsigned_abs more ≤ (i + 1) * 2 ^ 32
+small_next sum z more i e small below = omega (arith, ints)

@@ -8,20 +8,21 @@ use Rattle.rg_integers.specs.Divisor.{int_gcd}
 use Rattle.rg_integers.specs.Range.{InRange}
 use Rattle.rg_integers.specs.Term.{FitsTerm}
 use Rattle.rg_integers.specs.declared.term.Wide.{Wide}
-use Rattle.rg_integers.proofs.Divisors.{gcd_of-only, exact}
+use Rattle.rg_integers.proofs.Divisors.{gcd_of-only}
 use Rattle.rg_integers.proofs.Order.{positive_differs}
 use Rattle.rg_integers.proofs.Ring.{mul-one}
 use Rattle.rg_fraction.specs.declared.fraction.Fraction.{Fraction}
 use Rattle.rg_fraction.specs.Fractions.{numerator_of, denominator_of}
 use Rattle.rg_fraction.specs.Terms.{product_term, product_top, product_bottom}
-use Rattle.rg_fraction.proofs.Ones.{first_part, second_part, one_is_reduced}
+use Rattle.rg_fraction.proofs.Ones.{first_part, second_part, one_is_reduced, over_one}
 use Rattle.rg_folds.specs.Fold.{gives, each, further, common_multiple, multiple_of_all, IsRatio, IsWithin, Ratio, ratio_of, whole, mul, term}
 use Rattle.rg_case_folds.specs.Rewriting.{scaled_fold}
 use Rattle.rg_folds.proofs.Folding.{further_next, further_unjoined}
 use Rattle.rg_folds.proofs.Zeros.{fraction_within}
 
 -- the multiple so far, and the numbers from i on
-module _ (all : List ℤ) (i : ℕ) (d : ℤ) (lt : i < length all) (sum : ℤ) (target : Result ℤ Wide → Type 0) (so_far : (r : Result ℤ Wide) → further common_multiple gives sum (drop i all) r → target r) where
+module _ (all : List ℤ) (i : ℕ) (d : ℤ) (lt : i < length all) (sum : ℤ) (target : Result ℤ Wide → Type 0)
+    (so_far : (r : Result ℤ Wide) → further common_multiple gives sum (drop i all) r → target r) where
   at : (r : Result ℤ Wide) → further common_multiple gives sum (slice_index_or all i d ∷ drop (i + 1) all) r → target r
   at r h = so_far r (subst (λ l. further common_multiple gives sum l r) (sym (drop-cons all i d lt ∙ ap (λ n. slice_index_or all i d ∷ drop n all) (sym (add-one i)))) h)
 
@@ -74,9 +75,6 @@ multiple_with_one x h = subst (λ z. term (product_term z (pos 1)) (Ok x)) (sym 
 
 one_divides : (d : ℤ) → int_gcd (pos 1) d ≡ pos 1
 one_divides d = ap pos (sym (gcd_of-only 1 _ 1 (one-dvd _, one-dvd _, λ k p q. p)))
-
-over_one : (z : ℤ) → int_div z (pos 1) ≡ z
-over_one z = sym (mul-one (int_div z (pos 1))) ∙ exact z (pos 1) (one-dvd _)
 
 -- a number times 1
 times_one : (f : Ratio) → IsWithin f → mul f (whole (pos 1)) (Ok f)

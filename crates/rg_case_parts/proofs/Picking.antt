@@ -18,8 +18,10 @@ use Rattle.rg_case_parts.specs.ColumnViews.{AreColumns}
 
 module _ (test : ℕ → Bool) (fs : List ℕ) (rs done all : List Ratio) (i : ℕ) (so_far : done ++ pick test (drop i fs) (drop i rs) ≡ all) where
   module _ (d : Ratio) (lt : i < length fs) (lt' : i < length rs) where
-    at : pick test (drop i fs) (drop i rs) ≡ (if test (slice_index fs i) then (slice_index_or rs i d ∷ pick test (drop (i + 1) fs) (drop (i + 1) rs)) else pick test (drop (i + 1) fs) (drop (i + 1) rs))
-    at = ap (λ l. pick test l (drop i rs)) (drop-cons fs i 0 lt ∙ ap (λ n. slice_index fs i ∷ drop n fs) (sym (add-one i))) ∙ ap (pick test (slice_index fs i ∷ drop (i + 1) fs)) (drop-cons rs i d lt' ∙ ap (λ n. slice_index_or rs i d ∷ drop n rs) (sym (add-one i)))
+    at : pick test (drop i fs) (drop i rs) ≡ (if test (slice_index fs i) then
+        (slice_index_or rs i d ∷ pick test (drop (i + 1) fs) (drop (i + 1) rs)) else pick test (drop (i + 1) fs) (drop (i + 1) rs))
+    at = ap (λ l. pick test l (drop i rs)) (drop-cons fs i 0 lt ∙ ap (λ n. slice_index fs i ∷ drop n fs) (sym (add-one i)))
+        ∙ ap (pick test (slice_index fs i ∷ drop (i + 1) fs)) (drop-cons rs i d lt' ∙ ap (λ n. slice_index_or rs i d ∷ drop n rs) (sym (add-one i)))
 
     pick_taken : test (slice_index fs i) ≡ true → (done ++ slice_index_or rs i d ∷ []) ++ pick test (drop (i + 1) fs) (drop (i + 1) rs) ≡ all
     pick_taken e = append_assoc done (slice_index_or rs i d ∷ []) (pick test (drop (i + 1) fs) (drop (i + 1) rs))
@@ -30,7 +32,8 @@ module _ (test : ℕ → Bool) (fs : List ℕ) (rs done all : List Ratio) (i : �
     pick_pushed r is e = subst (λ x. (done ++ x ∷ []) ++ pick test (drop (i + 1) fs) (drop (i + 1) rs) ≡ all) is (pick_taken e)
 
     pub pick_left : test (slice_index fs i) ≡ false → done ++ pick test (drop (i + 1) fs) (drop (i + 1) rs) ≡ all
-    pick_left e = ap (λ l. done ++ l) (sym (at ∙ ap (λ b. if b then (slice_index_or rs i d ∷ pick test (drop (i + 1) fs) (drop (i + 1) rs)) else pick test (drop (i + 1) fs) (drop (i + 1) rs)) e)) ∙ so_far
+    pick_left e = ap (λ l. done ++ l) (sym (at
+        ∙ ap (λ b. if b then (slice_index_or rs i d ∷ pick test (drop (i + 1) fs) (drop (i + 1) rs)) else pick test (drop (i + 1) fs) (drop (i + 1) rs)) e)) ∙ so_far
 
   pub pick_ends : length fs ≤ i → done ≡ all
   pick_ends past = sym (append-nil done) ∙ ap (λ l. done ++ l) (sym (ap (λ l. pick test l (drop i rs)) (drop_all i fs past))) ∙ so_far
@@ -62,36 +65,39 @@ pick_length test (f ∷ fs) (r ∷ rs) e = go (test f) (pick_length test fs rs (
     go false h = h
 
 -- the columns are counted by the free labels with an arc
-pub columns_count : (lts : System) (basis : CycleBasis) (class : Class) → column_count lts basis class ≡ (if has_start class then 1 else 0) + length (chosen (λ t. has_label t lts.arcs) (free_labels (labels lts) basis))
+pub columns_count : (lts : System) (basis : CycleBasis) (class : Class)
+    → column_count lts basis class ≡ (if has_start class then 1 else 0) + length (chosen (λ t. has_label t lts.arcs) (free_labels (labels lts) basis))
 columns_count lts basis class = go (has_start class)
   where
     same : length (map pos (free_columns lts basis)) ≡ length (chosen (λ t. has_label t lts.arcs) (free_labels (labels lts) basis))
     same = length-map (free_columns lts basis) pos ∙ ap length (where_chosen (λ t. is_in basis.members t) (λ t. has_label t lts.arcs) 0 (labels lts))
 
-    go : (b : Bool) → length ((if b then (pos 0 ∷ []) else []) ++ map pos (free_columns lts basis)) ≡ (if b then 1 else 0) + length (chosen (λ t. has_label t lts.arcs) (free_labels (labels lts) basis))
+    go : (b : Bool) → length ((if b then (pos 0 ∷ []) else []) ++ map pos (free_columns lts basis))
+        ≡ (if b then 1 else 0) + length (chosen (λ t. has_label t lts.arcs) (free_labels (labels lts) basis))
     go true = let e = same in omega arith
     go false = let e = same in omega arith
 
-pub columns_length : (lts : System) (basis : CycleBasis) (class : Class) (start : ℤ) (counts : ℕ → ℤ) (free : List Ratio) → substitute_fold (labels lts) basis counts (Ok free) → length (columns_of lts basis class start free) ≡ column_count lts basis class
+pub columns_length : (lts : System) (basis : CycleBasis) (class : Class) (start : ℤ) (counts : ℕ → ℤ) (free : List Ratio)
+    → substitute_fold (labels lts) basis counts (Ok free) → length (columns_of lts basis class start free) ≡ column_count lts basis class
 columns_length lts basis class start counts free h = go (has_start class) ∙ sym (columns_count lts basis class)
   where
     same : length (pick (λ t. has_label t lts.arcs) (free_labels (labels lts) basis) free) ≡ length (chosen (λ t. has_label t lts.arcs) (free_labels (labels lts) basis))
     same = pick_length (λ t. has_label t lts.arcs) (free_labels (labels lts) basis) free (each_length (coefficient_fold (labels lts) basis counts) (free_labels (labels lts) basis) free h)
 
-    go : (b : Bool) → length ((if b then (whole start ∷ []) else []) ++ pick (λ t. has_label t lts.arcs) (free_labels (labels lts) basis) free) ≡ (if b then 1 else 0) + length (chosen (λ t. has_label t lts.arcs) (free_labels (labels lts) basis))
+    go : (b : Bool) → length ((if b then (whole start ∷ []) else []) ++ pick (λ t. has_label t lts.arcs) (free_labels (labels lts) basis) free)
+        ≡ (if b then 1 else 0) + length (chosen (λ t. has_label t lts.arcs) (free_labels (labels lts) basis))
     go true = let e = same in omega arith
     go false = let e = same in omega arith
 
 -- one free label more is looked at
 module _ (test : ℕ → Bool) (fs : List ℕ) (i count total : ℕ) (so_far : count + length (chosen test (drop i fs)) ≡ total) where
   pub count_taken : i < length fs → test (slice_index fs i) ≡ true → (count + 1) + length (chosen test (drop (i + 1) fs)) ≡ total
-  count_taken lt e = let h = ap (λ l. length (chosen test l)) (drop-cons fs i 0 lt ∙ ap (λ n. slice_index fs i ∷ drop n fs) (sym (add-one i))) ∙ ap (λ b. length (if b then (slice_index fs i ∷ chosen test (drop (i + 1) fs)) else chosen test (drop (i + 1) fs))) e in omega arith
+  count_taken lt e = let h = ap (λ l. length (chosen test l)) (drop-cons fs i 0 lt ∙ ap (λ n. slice_index fs i ∷ drop n fs) (sym (add-one i)))
+      ∙ ap (λ b. length (if b then (slice_index fs i ∷ chosen test (drop (i + 1) fs)) else chosen test (drop (i + 1) fs))) e in omega arith
 
   pub count_left : i < length fs → test (slice_index fs i) ≡ false → count + length (chosen test (drop (i + 1) fs)) ≡ total
-  count_left lt e = let h = ap (λ l. length (chosen test l)) (drop-cons fs i 0 lt ∙ ap (λ n. slice_index fs i ∷ drop n fs) (sym (add-one i))) ∙ ap (λ b. length (if b then (slice_index fs i ∷ chosen test (drop (i + 1) fs)) else chosen test (drop (i + 1) fs))) e in omega arith
-
-  pub count_ends : length fs ≤ i → count ≡ total
-  count_ends past = let h = ap (λ l. length (chosen test l)) (drop_all i fs past) in omega arith
+  count_left lt e = let h = ap (λ l. length (chosen test l)) (drop-cons fs i 0 lt ∙ ap (λ n. slice_index fs i ∷ drop n fs) (sym (add-one i)))
+      ∙ ap (λ b. length (if b then (slice_index fs i ∷ chosen test (drop (i + 1) fs)) else chosen test (drop (i + 1) fs))) e in omega arith
 
 -- ---- the columns of the code
 
@@ -119,8 +125,10 @@ module _ (lts : System) (class : Class) (columns : Columns) (are : AreColumns lt
         number true = refl
         number false = refl
 
-    pub pick_starts : (numbers : List Ratio) (start : ℤ) (free : List Ratio) → numbers ≡ (if columns.start then (whole start ∷ []) else []) → numbers ++ pick (λ t. has_label t lts.arcs) (free_labels n basis) free ≡ columns_of lts basis class start free
-    pick_starts numbers start free e = ap (λ k. numbers ++ pick (λ t. has_label t lts.arcs) (free_labels k basis) free) (sym same) ∙ ap (λ l. l ++ pick (λ t. has_label t lts.arcs) (free_labels (labels lts) basis) free) (e ∙ ap (λ b. if b then (whole start ∷ []) else []) are.start)
+    pub pick_starts : (numbers : List Ratio) (start : ℤ) (free : List Ratio) → numbers ≡ (if columns.start then (whole start ∷ []) else [])
+        → numbers ++ pick (λ t. has_label t lts.arcs) (free_labels n basis) free ≡ columns_of lts basis class start free
+    pick_starts numbers start free e = ap (λ k. numbers ++ pick (λ t. has_label t lts.arcs) (free_labels k basis) free) (sym same)
+        ∙ ap (λ l. l ++ pick (λ t. has_label t lts.arcs) (free_labels (labels lts) basis) free) (e ∙ ap (λ b. if b then (whole start ∷ []) else []) are.start)
 
 pub columns_few : (lts : System) (basis : CycleBasis) (class : Class) → column_count lts basis class ≤ labels lts + 1
 columns_few lts basis class = go (has_start class)

@@ -21,7 +21,8 @@ numbers_next a (suc n) = ap (λ xs. a ∷ xs) (numbers_next (suc a) n ∙ ap (λ
 pub entry_more : (entry : ℕ → ℤ) (t : ℕ) (xs : List ℤ) (z : ℤ) → xs ≡ map entry (numbers_from 0 t) → z ≡ entry t → xs ++ z ∷ [] ≡ map entry (numbers_from 0 (t + 1))
 entry_more entry t xs z are is =
     let one : t + 1 ≡ suc t = omega arith in
-    ap₂ (λ ys y. ys ++ y ∷ []) are is ∙ sym (map-append entry (numbers_from 0 t) (t ∷ [])) ∙ ap (λ k. map entry (numbers_from 0 t ++ k ∷ [])) (omega arith) ∙ ap (map entry) (sym (numbers_next 0 t)) ∙ ap (λ n. map entry (numbers_from 0 n)) (sym one)
+    ap₂ (λ ys y. ys ++ y ∷ []) are is ∙ sym (map-append entry (numbers_from 0 t) (t ∷ []))
+    ∙ ap (λ k. map entry (numbers_from 0 t ++ k ∷ [])) (omega arith) ∙ ap (map entry) (sym (numbers_next 0 t)) ∙ ap (λ n. map entry (numbers_from 0 n)) (sym one)
 
 -- the hash of one number more
 pub hash_more : (entry : ℕ → ℤ) (t hash next : ℕ) (z : ℤ) → hash ≡ row_hash (map entry (numbers_from 0 t)) → next ≡ mixed hash z → z ≡ entry t → next ≡ row_hash (map entry (numbers_from 0 (t + 1)))

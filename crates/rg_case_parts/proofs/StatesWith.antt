@@ -49,15 +49,6 @@ pub record StatesSoFar (arcs : List Arc) (t i : ℕ) (found : List ℕ) (next : 
   pub below : (q : ℕ) → Contains found q → q < next
   pub last : (q : ℕ) → q + 1 ≡ next → Contains found q
 
-pub states_start : (arcs : List Arc) (t : ℕ) → StatesSoFar arcs t 0 [] 0
-states_start arcs t = record {
-  order = tt;
-  has = λ q h. absurd (Contains-nil q h);
-  all = λ q e. absurd (false≢true e);
-  below = λ q h. absurd (Contains-nil q h);
-  last = λ q e. absurd (omega arith);
-}
-
 module _ (arcs : List Arc) (t i : ℕ) (found : List ℕ) (next : ℕ) (so_far : StatesSoFar arcs t i found next) where
   -- all of them
   pub states_end : (lts : System) → lts.arcs ≡ arcs → IsInRange lts → length arcs ≤ i → found ≡ states_with lts t
@@ -109,7 +100,8 @@ module _ (arcs : List Arc) (t i : ℕ) (found : List ℕ) (next : ℕ) (so_far :
           by false y z d e = absurd (false≢true d)
 
       one_of : (q : ℕ) → has_label_at q t (take (i + 1) arcs) ≡ true → (a.from ≡ q) ⊎ (has_label_at q t (take i arcs) ≡ true)
-      one_of q e = ⊎_elim (λ is. inl (eqb-true a.from q is)) (λ differs. inr (sym (by (a.from == q) (a.label == t) (has_label_at q t (take i arcs)) differs) ∙ sym (label_next q) ∙ e)) (cases_Bool (a.from == q))
+      one_of q e = ⊎_elim (λ is. inl (eqb-true a.from q is))
+          (λ differs. inr (sym (by (a.from == q) (a.label == t) (has_label_at q t (take i arcs)) differs) ∙ sym (label_next q) ∙ e)) (cases_Bool (a.from == q))
         where
           by : (x y z : Bool) → x ≡ false → (if x && y then true else z) ≡ z
           by true y z d = absurd (false≢true (sym d))
@@ -119,7 +111,8 @@ module _ (arcs : List Arc) (t i : ℕ) (found : List ℕ) (next : ℕ) (so_far :
       pub states_found : next ≤ a.from → StatesSoFar arcs t (i + 1) (found ++ a.from ∷ []) (a.from + 1)
       states_found new = record {
         order = order_more found a.from so_far.order (λ m h. (let b = so_far.below m h in omega arith));
-        has = λ q h. ⊎_elim (λ there. before q (so_far.has q there)) (λ last. subst (λ m. has_label_at m t (take (i + 1) arcs) ≡ true) (only q last) this) (Contains-append_cases found (a.from ∷ []) q h);
+        has = λ q h. ⊎_elim (λ there. before q (so_far.has q there))
+            (λ last. subst (λ m. has_label_at m t (take (i + 1) arcs) ≡ true) (only q last) this) (Contains-append_cases found (a.from ∷ []) q h);
         all = λ q e. ⊎_elim (λ is. subst (Contains (found ++ a.from ∷ [])) is own_there) (λ there. Contains-append_left found (a.from ∷ []) q (so_far.all q there)) (one_of q e);
         below = λ q h. ⊎_elim (λ there. (let b = so_far.below q there in omega arith)) (λ last. (let e = only q last in omega arith)) (Contains-append_cases found (a.from ∷ []) q h);
         last = λ q e. subst (Contains (found ++ a.from ∷ [])) (let k = e in omega arith) own_there;

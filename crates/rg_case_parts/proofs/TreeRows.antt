@@ -23,7 +23,7 @@ use Rattle.rg_case_parts.proofs.Rows.{same_numbers, number_is}
 
 -- ---- the chords
 
-fewer : (tree arcs : List Arc) → length (arcs_without tree arcs) ≤ length arcs
+pub fewer : (tree arcs : List Arc) → length (arcs_without tree arcs) ≤ length arcs
 fewer tree [] = omega arith
 fewer tree (a ∷ arcs) = go (is_among tree a) (fewer tree arcs)
   where
@@ -32,7 +32,8 @@ fewer tree (a ∷ arcs) = go (is_among tree a) (fewer tree arcs)
     go false h = omega arith
 
 -- a chord's ends are states
-chord_in_range : (lts : System) (tree : List Arc) (i : ℕ) (d : Arc) → IsInRange lts → i < length (chords lts tree) → ((get_or (chords lts tree) i d).from < states lts) × ((get_or (chords lts tree) i d).to < states lts)
+chord_in_range : (lts : System) (tree : List Arc) (i : ℕ) (d : Arc) → IsInRange lts → i < length (chords lts tree)
+    → ((get_or (chords lts tree) i d).from < states lts) × ((get_or (chords lts tree) i d).to < states lts)
 chord_in_range lts tree i d fine lt =
     let a = get_or (chords lts tree) i d in
     let has = chord_is_arc tree lts.arcs a (Contains-get_or (chords lts tree) i d lt) in

@@ -9,18 +9,20 @@
 
 mod chord_ends;
 mod columns;
-mod counts;
 mod denominators;
+mod label_counts;
 mod scaled;
 mod setting;
 mod states;
+mod term_counts;
 mod tree_chords;
 
 pub use chord_ends::ChordEnds;
 pub use columns::{Columns, has_start, used_labels};
-pub use counts::{count, start};
 pub use denominators::{common_denominator, products, without_denominators};
+pub use label_counts::counts;
 pub use scaled::Scaled;
 pub use setting::{CaseSetting, Setting};
 pub use states::states_with;
+pub use term_counts::{count, start};
 pub use tree_chords::TreeChords;

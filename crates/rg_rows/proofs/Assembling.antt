@@ -44,7 +44,8 @@ module _ (s : CaseSetting) (names : List RowName) (case : CaseSystem)
           positive = m.positive c.numbers;
           scale_in_range = m.scale_in_range;
           coeffs_in_range = m.coeffs_in_range;
-          ordered = subst (λ z. z ≤ℤ (slice_index_or forms k d).high) (sym m.bounds.0) (subst (λ z. form_low (split_of (slice_index_or forms k d)) ≤ℤ z) (sym m.bounds.1) (bounds_ordered s.lts s.class (split_of (slice_index_or forms k d))));
+          ordered = subst (λ z. z ≤ℤ (slice_index_or forms k d).high) (sym m.bounds.0)
+              (subst (λ z. form_low (split_of (slice_index_or forms k d)) ≤ℤ z) (sym m.bounds.1) (bounds_ordered s.lts s.class (split_of (slice_index_or forms k d))));
           low_in_range = fits.0;
           high_in_range = fits.1;
           times_in_range = m.times_in_range;

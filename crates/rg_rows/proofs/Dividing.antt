@@ -24,27 +24,30 @@ once_each (x ∷ xs) = ap (λ z. z ∷ map (λ w. pos 1 *ℤ w) xs) (one-mul x) 
 parts_multiplied : (old new : List ℤ) (g : ℕ) → IsPrimitivePart old new g → old ≡ map (λ z. pos (max g 1) *ℤ z) new
 parts_multiplied old new zero p = sym (p.zeros refl) ∙ sym (once_each new)
 parts_multiplied old new (suc n) p = ext_get_or (pos 0) old (map (λ z. pos (max (suc n) 1) *ℤ z) new) (sym p.same_length ∙ sym (length-map new (λ z. pos (max (suc n) 1) *ℤ z)))
-    (λ k lt. sym (p.quotients (omega arith) k lt) ∙ commutes (number_at new k) (pos (suc n)) ∙ ap (λ m. pos m *ℤ number_at new k) bigger ∙ sym (get_or-map (λ z. pos (max (suc n) 1) *ℤ z) new k (pos 0) (pos 0) (let e = p.same_length in omega arith)))
+    (λ k lt. sym (p.quotients (omega arith) k lt) ∙ commutes (number_at new k) (pos (suc n)) ∙ ap (λ m. pos m *ℤ number_at new k) bigger
+    ∙ sym (get_or-map (λ z. pos (max (suc n) 1) *ℤ z) new k (pos 0) (pos 0) (let e = p.same_length in omega arith)))
   where
     bigger : suc n ≡ max (suc n) 1
     bigger = omega arith
 
-pub row_divided : (scaled : Scaled) (number : ℤ) (new : List ℤ) (g h : ℕ) (out : KeptRow) → IsRowGcd (scaled.numbers ++ number ∷ []) g
-    → IsPrimitivePart (scaled.numbers ++ number ∷ []) new h → out.row.coeffs ++ out.row.constant ∷ [] ≡ new → IsRatio out.factor scaled.multiple (pos (max g 1))
+-- the divisor of a division is the greatest common divisor that was found
+pub divided_by : (old new : List ℤ) (g h : ℕ) → IsRowGcd old g → IsPrimitivePart old new h → IsPrimitivePart old new g
+divided_by old new g h greatest part = subst (IsPrimitivePart old new) (gcd_below_is_one (length old) (λ k. unsigned_abs (number_at old k)) h g part.divisor greatest) part
+
+pub row_divided : (scaled : Scaled) (number : ℤ) (new : List ℤ) (g : ℕ) (out : KeptRow)
+    → IsPrimitivePart (scaled.numbers ++ number ∷ []) new g → out.row.coeffs ++ out.row.constant ∷ [] ≡ new → IsRatio out.factor scaled.multiple (pos (max g 1))
     → IsDivided scaled number out
-row_divided scaled number new g h out greatest part parted factor = record {
+row_divided scaled number new g out part parted factor = record {
   divisor = g;
-  greatest = greatest;
+  greatest = part.divisor;
   coeffs = both.0;
   constant = both.1;
   factor = factor;
 }
   where
-    same : h ≡ g
-    same = gcd_below_is_one (length (scaled.numbers ++ number ∷ [])) (λ k. unsigned_abs (number_at (scaled.numbers ++ number ∷ []) k)) h g part.divisor greatest
-
     multiplied : scaled.numbers ++ number ∷ [] ≡ map (λ z. pos (max g 1) *ℤ z) out.row.coeffs ++ (pos (max g 1) *ℤ out.row.constant) ∷ []
-    multiplied = parts_multiplied (scaled.numbers ++ number ∷ []) new g (subst (IsPrimitivePart (scaled.numbers ++ number ∷ []) new) same part) ∙ ap (map (λ z. pos (max g 1) *ℤ z)) (sym parted) ∙ map-append (λ z. pos (max g 1) *ℤ z) out.row.coeffs (out.row.constant ∷ [])
+    multiplied = parts_multiplied (scaled.numbers ++ number ∷ []) new g part ∙ ap (map (λ z. pos (max g 1) *ℤ z)) (sym parted)
+        ∙ map-append (λ z. pos (max g 1) *ℤ z) out.row.coeffs (out.row.constant ∷ [])
 
     both : (scaled.numbers ≡ map (λ z. pos (max g 1) *ℤ z) out.row.coeffs) × (number ≡ pos (max g 1) *ℤ out.row.constant)
     both = ends scaled.numbers (map (λ z. pos (max g 1) *ℤ z) out.row.coeffs) number (pos (max g 1) *ℤ out.row.constant) multiplied
@@ -53,10 +56,13 @@ row_divided scaled number new g h out greatest part parted factor = record {
 
 -- a list that was written back whole
 pub written_back : (new old : List ℤ) (n : ℕ) → length new ≡ length old → n ≡ length old → take n (new ++ drop (length new) old) ≡ new
-written_back new old n same size = ap (λ l. take n (new ++ l)) (drop_all (length new) old (subst (λ k. length old ≤ k) (sym same) (le_refl (length old)))) ∙ ap (take n) (append-nil new) ∙ take_all n new (subst (λ k. length new ≤ k) (same ∙ sym size) (le_refl (length new)))
+written_back new old n same size = ap (λ l. take n (new ++ l))
+    (drop_all (length new) old (subst (λ k. length old ≤ k) (sym same) (le_refl (length old)))) ∙ ap (take n) (append-nil new)
+    ∙ take_all n new (subst (λ k. length new ≤ k) (same ∙ sym size) (le_refl (length new)))
 
 -- the numbers of a row and its constant are in range
-pub parts_in_range : (coeffs : List ℤ) (constant : ℤ) (new : List ℤ) (n : ℕ) → coeffs ++ constant ∷ [] ≡ new → length new ≡ n → ((k : ℕ) → k < n → InRange (number_at new k)) → All InRange coeffs × InRange constant
+pub parts_in_range : (coeffs : List ℤ) (constant : ℤ) (new : List ℤ) (n : ℕ) → coeffs ++ constant ∷ [] ≡ new → length new ≡ n
+    → ((k : ℕ) → k < n → InRange (number_at new k)) → All InRange coeffs × InRange constant
 parts_in_range coeffs constant new n parted size h = (
   (λ k d lt. subst InRange (get_or_append_left coeffs (constant ∷ []) d k lt) (all k d (let e = length-append coeffs (constant ∷ []) in omega arith))),
   subst InRange (get_or_push coeffs constant (pos 0) (length coeffs) refl) (all (length coeffs) (pos 0) (let e = length-append coeffs (constant ∷ []) in omega arith)),

@@ -34,7 +34,8 @@ no_forms class row [] none = refl
 no_forms class row (x ∷ xs) none = ap (λ o. put_form o (forms_in class (map row xs))) (none x) ∙ no_forms class row xs none
 
 -- rows that have a form where the test holds
-all_forms : (class : Class) (row : ℕ → RowName) (form : ℕ → Form) (b : Bool) (xs : List ℕ) → ((n : ℕ) → form_in class (row n) ≡ (if b then Some (form n) else None)) → forms_in class (map row xs) ≡ (if b then map form xs else [])
+all_forms : (class : Class) (row : ℕ → RowName) (form : ℕ → Form) (b : Bool) (xs : List ℕ)
+    → ((n : ℕ) → form_in class (row n) ≡ (if b then Some (form n) else None)) → forms_in class (map row xs) ≡ (if b then map form xs else [])
 all_forms class row form b [] each = none b
   where
     none : (b : Bool) → map form [] ≡ (if b then map form [] else [])
@@ -53,14 +54,16 @@ optional class false names forms e = refl
 problem_none : (lts : System) (class : Class) (problem : Problem) → forms_in class (problem_rows lts class problem) ≡ []
 problem_none lts class (Event s t) = go class.pure class.plain
   where
-    go : (pure plain : Bool) → forms_in class (if pure then (row_name.Block ∷ []) else (if plain then (row_name.Empty ∷ map row_name.Full (states_with lts t) ++ row_name.Keep ∷ []) else map row_name.Stop (states_with lts t))) ≡ []
+    go : (pure plain : Bool) → forms_in class (if pure then (row_name.Block ∷ []) else
+        (if plain then (row_name.Empty ∷ map row_name.Full (states_with lts t) ++ row_name.Keep ∷ []) else map row_name.Stop (states_with lts t))) ≡ []
     go true plain = refl
     go false true = forms-append class (map row_name.Full (states_with lts t)) (row_name.Keep ∷ []) ∙ ap (λ l. l ++ []) (no_forms class row_name.Full (states_with lts t) (λ n. refl))
     go false false = no_forms class row_name.Stop (states_with lts t) (λ n. refl)
 problem_none lts class (States s s') = refl
 
 named_forms : (lts : System) (class : Class) (problem : Problem) (number : ℕ)
-    → forms_in class (names_of lts class problem number) ≡ (if is_some class.bound then map split_form.Tokens (all_numbers (states lts)) else (if class.plain then map split_form.Effect (used_labels lts) else []))
+    → forms_in class (names_of lts class problem number)
+    ≡ (if is_some class.bound then map split_form.Tokens (all_numbers (states lts)) else (if class.plain then map split_form.Effect (used_labels lts) else []))
 named_forms lts class problem number =
     forms-append class (own ++ tokens ++ caps ++ sides) makes
     ∙ ap₂ (λ x y. x ++ y)
@@ -101,7 +104,9 @@ named_forms lts class problem number =
     none true xs = append-nil xs
     none false xs = append-nil xs
 
-    choose : (b p s n : Bool) (X Y : List Form) → (b ≡ true → s ≡ true) → ((([] ++ (if s then (if b then X else []) else [])) ++ (if b then [] else [])) ++ (if p then (if p && not b then Y else []) else [])) ++ (if n then [] else []) ≡ (if b then X else (if p then Y else []))
+    choose : (b p s n : Bool) (X Y : List Form) → (b ≡ true → s ≡ true)
+        → ((([] ++ (if s then (if b then X else []) else [])) ++ (if b then [] else [])) ++ (if p then (if p && not b then Y else []) else []))
+        ++ (if n then [] else []) ≡ (if b then X else (if p then Y else []))
     choose true true true n X Y start = none n ((X ++ []) ++ []) ∙ append-nil (X ++ []) ∙ append-nil X
     choose true false true n X Y start = none n ((X ++ []) ++ []) ∙ append-nil (X ++ []) ∙ append-nil X
     choose true p false n X Y start = absurd (true≢false (sym (start refl)))
@@ -114,7 +119,8 @@ pub forms_are : (lts : System) (class : Class) (problem : Problem) (number : ℕ
 forms_are lts class problem number = ap (λ l. l ++ (if splits_start class problem then (split_form.Start ∷ []) else [])) (named_forms lts class problem number)
 
 -- where no row comes after those that all cases share, and the case doesn't split on the start, its forms are theirs
-pub shared_forms : (lts : System) (class : Class) (problem : Problem) (number : ℕ) → IsFalse class.nonbranching → IsFalse (splits_start class problem) → forms_in class (shared_names lts class) ≡ split_forms lts class problem
+pub shared_forms : (lts : System) (class : Class) (problem : Problem) (number : ℕ) → IsFalse class.nonbranching
+    → IsFalse (splits_start class problem) → forms_in class (shared_names lts class) ≡ split_forms lts class problem
 shared_forms lts class problem number alone start =
     ap (λ l. l ++ forms_in class (shared_names lts class)) (sym (problem_none lts class problem))
     ∙ sym (forms-append class (problem_rows lts class problem) (shared_names lts class))
@@ -127,7 +133,8 @@ shared_forms lts class problem number alone start =
     by false e xs = append-nil xs
 
 -- where the case splits on the start, its names have the row of the initial state
-pub has_start_name : (lts : System) (class : Class) (problem : Problem) (number : ℕ) → lts.initial < states lts → IsTrue (splits_start class problem) → Contains (names_of lts class problem number) (row_name.Tokens lts.initial)
+pub has_start_name : (lts : System) (class : Class) (problem : Problem) (number : ℕ) → lts.initial < states lts → IsTrue (splits_start class problem)
+    → Contains (names_of lts class problem number) (row_name.Tokens lts.initial)
 has_start_name lts class problem number initial splits =
     Contains-append_left (own ++ tokens ++ caps ++ sides) makes (row_name.Tokens lts.initial)
     (Contains-append_left (own ++ tokens ++ caps) sides (row_name.Tokens lts.initial)

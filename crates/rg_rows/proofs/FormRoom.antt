@@ -54,7 +54,8 @@ forms_few lts class problem =
 abbrev pub HasBounds : System → Class → NamedForm → Type 0
 HasBounds lts class f = (f.low ≡ form_low (split_of f)) × (f.high ≡ form_high lts class (split_of f))
 
-pub room_few : (lts : System) (class : Class) (forms : List NamedForm) → HasNumbersInRange class → states lts ≤ 4096 → All (HasBounds lts class) forms → sum_over (λ (f : NamedForm). f.high -ℤ f.low) forms ≤ℤ pos (4096 * length forms)
+pub room_few : (lts : System) (class : Class) (forms : List NamedForm) → HasNumbersInRange class → states lts ≤ 4096
+    → All (HasBounds lts class) forms → sum_over (λ (f : NamedForm). f.high -ℤ f.low) forms ≤ℤ pos (4096 * length forms)
 room_few lts class [] h few bounds = omega (arith, ints)
 room_few lts class (f ∷ forms) h few bounds =
     let (low, high) = All-head (HasBounds lts class) f forms bounds in

@@ -113,12 +113,14 @@ pub forms_end : (class : Class) (make : SplitForm → Result Form Wide → Type 
 forms_end class make names i xs so_far past = each_ends make (forms_in class names) xs (λ r h. so_far r (subst (λ l. each make (forms_in class l) r) (sym (drop_all i names past)) h))
 
 -- the names of the forms so far
-module _ (class : Class) (names : List RowName) (i : ℕ) (name : RowName) (next : drop i names ≡ name ∷ drop (i + 1) names) (done : List SplitForm) (so_far : done ++ forms_in class (drop i names) ≡ forms_in class names) where
+module _ (class : Class) (names : List RowName) (i : ℕ) (name : RowName) (next : drop i names ≡ name ∷ drop (i + 1) names) (done : List SplitForm)
+    (so_far : done ++ forms_in class (drop i names) ≡ forms_in class names) where
   pub named_skips : form_in class name ≡ None → done ++ forms_in class (drop (i + 1) names) ≡ forms_in class names
   named_skips none = ap (λ l. done ++ l) (sym (ap (forms_in class) next ∙ ap (λ o. put_form o (forms_in class (drop (i + 1) names))) none)) ∙ so_far
 
   pub named_next : (split : SplitForm) → form_in class name ≡ Some split → (done ++ split ∷ []) ++ forms_in class (drop (i + 1) names) ≡ forms_in class names
-  named_next split is = append_assoc done (split ∷ []) (forms_in class (drop (i + 1) names)) ∙ ap (λ l. done ++ l) (sym (ap (forms_in class) next ∙ ap (λ o. put_form o (forms_in class (drop (i + 1) names))) is)) ∙ so_far
+  named_next split is = append_assoc done (split ∷ []) (forms_in class (drop (i + 1) names))
+      ∙ ap (λ l. done ++ l) (sym (ap (forms_in class) next ∙ ap (λ o. put_form o (forms_in class (drop (i + 1) names))) is)) ∙ so_far
 
 pub named_end : (class : Class) (names : List RowName) (i : ℕ) (done : List SplitForm) → done ++ forms_in class (drop i names) ≡ forms_in class names → length names ≤ i → done ≡ forms_in class names
 named_end class names i done so_far past = sym (append-nil done) ∙ ap (λ l. done ++ forms_in class l) (sym (drop_all i names past)) ∙ so_far
@@ -129,14 +131,21 @@ module _ (it : CaseSetting) (split : SplitForm) (e : Expression) (is : e ≡ row
   pub terms_are : (r : Result Scaled Wide) → terms_fold it.setting e.terms r → terms_fold it.setting (plus (form_variable it.lts.initial split) ∷ []) r
   terms_are r h = subst (λ (ts : List Term). terms_fold it.setting ts r) (ap (λ (x : Expression). x.terms) is ∙ same_terms it.lts it.class it.problem it.number split) h
 
-  pub form_of_terms : (s : Scaled) (form : Form) → terms_fold it.setting e.terms (Ok s) → form ≡ record { scale = pos (step_of it.class split) *ℤ s.multiple; coeffs = s.numbers; low = form_low split; high = form_high it.lts it.class split } → form_fold it.setting split (Ok form)
+  pub form_of_terms : (s : Scaled) (form : Form) → terms_fold it.setting e.terms (Ok s)
+      → form ≡ record {
+        scale = pos (step_of it.class split) *ℤ s.multiple;
+        coeffs = s.numbers;
+        low = form_low split;
+        high = form_high it.lts it.class split;
+      } → form_fold it.setting split (Ok form)
   form_of_terms s form h same = (s, terms_are (Ok s) h, same)
 
   pub form_of_none : (w : Wide) → terms_fold it.setting e.terms (Err w) → form_fold it.setting split (Err w)
   form_of_none w h = inl (terms_are (Err w) h)
 
   -- the numbers are those of the row, so many times
-  pub times_row : (s : Scaled) (k : KeptRow) → terms_fold it.setting e.terms (Ok s) → fold_of it (form_row it.lts.initial split) (Ok k) → (d : ℕ) × (0 < d) × (s.numbers ≡ map (λ z. pos d *ℤ z) k.row.coeffs)
+  pub times_row : (s : Scaled) (k : KeptRow) → terms_fold it.setting e.terms (Ok s) → fold_of it (form_row it.lts.initial split) (Ok k)
+      → (d : ℕ) × (0 < d) × (s.numbers ≡ map (λ z. pos d *ℤ z) k.row.coeffs)
   times_row s k h row =
       let (divisor, same) = form_over_row it split
       (record { scale = pos (step_of it.class split) *ℤ s.multiple; coeffs = s.numbers; low = form_low split; high = form_high it.lts it.class split }) k
@@ -170,7 +179,8 @@ module _ (it : CaseSetting) (names : List RowName) (i : ℕ) (d : RowName) (lt :
   pub next_name : drop i names ≡ slice_index_or names i d ∷ drop (i + 1) names
   next_name = from_index names i d lt
 
-  module _ (form : SplitForm) (is_form : Some form ≡ form_in it.class (slice_index_or names i d)) (e : Expression) (is_e : e ≡ row_expression it.lts it.class it.problem it.number [] (slice_index_or names i d)) where
+  module _ (form : SplitForm) (is_form : Some form ≡ form_in it.class (slice_index_or names i d)) (e : Expression)
+      (is_e : e ≡ row_expression it.lts it.class it.problem it.number [] (slice_index_or names i d)) where
     named : name ≡ form_row it.lts.initial form
     named = form_in_row it.lts.initial it.class name form (sym is_form)
 
@@ -183,7 +193,8 @@ module _ (it : CaseSetting) (names : List RowName) (i : ℕ) (d : RowName) (lt :
     is_split : e ≡ row_expression it.lts it.class it.problem it.number [] (form_row it.lts.initial form)
     is_split = is_e ∙ ap (row_expression it.lts it.class it.problem it.number []) named
 
-    module _ (xs : List Form) (so_far : (r : Result (List Form) Wide) → each (form_fold it.setting) (forms_in it.class (drop i names)) r → each (form_fold it.setting) (forms_in it.class names) (behind xs r)) where
+    module _ (xs : List Form) (so_far : (r : Result (List Form) Wide) → each (form_fold it.setting) (forms_in it.class (drop i names)) r
+        → each (form_fold it.setting) (forms_in it.class names) (behind xs r)) where
       pub step_fails : (w : Wide) → terms_fold it.setting e.terms (Err w) → each (form_fold it.setting) (forms_in it.class names) (Err w)
       step_fails w h = form_fails it.class (form_fold it.setting) names i name next_name xs so_far form (sym is_form) w (form_of_none it form e is_split w h)
 

@@ -33,7 +33,8 @@ use Rattle.rg_rows.specs.Making.{IsMade}
 
 pub times_zero : (d : ℤ) (xs : List ℤ) → IsZeroVector xs → IsZeroVector (map (λ z. d *ℤ z) xs)
 times_zero d [] zeros = All-nil (λ z. z ≡ pos 0)
-times_zero d (x ∷ xs) zeros = All-cons (λ z. z ≡ pos 0) (d *ℤ x) (map (λ z. d *ℤ z) xs) (ap (λ z. d *ℤ z) (All-head (λ z. z ≡ pos 0) x xs zeros) ∙ *ℤ-zero d) (times_zero d xs (All-tail (λ z. z ≡ pos 0) x xs zeros))
+times_zero d (x ∷ xs) zeros = All-cons (λ z. z ≡ pos 0) (d *ℤ x) (map (λ z. d *ℤ z) xs)
+    (ap (λ z. d *ℤ z) (All-head (λ z. z ≡ pos 0) x xs zeros) ∙ *ℤ-zero d) (times_zero d xs (All-tail (λ z. z ≡ pos 0) x xs zeros))
 
 positive_is : (t : ℤ) → pos 0 <ℤ t → pos (max (unsigned_abs t) 1) ≡ t
 positive_is (pos zero) h = absurd (omega (arith, ints))
@@ -58,12 +59,15 @@ module _ (s : CaseSetting) (names : List RowName) (case : CaseSystem)
       name_is name (scaled, terms, (constant, product, (same, d))) = same
 
   -- a form with coefficients is a multiple of the kept row at its index
-  index_is : (arc_slice_items f.coeffs) ≡ map (λ z. f.times *ℤ z) is.row.row.coeffs → f.row ≡ slice_index_or indices is.number 0 → ¬ IsZeroVector (arc_slice_items f.coeffs) → slice_get (rows_of case).rows f.row ≡ Some is.row.row
-  index_is e index some = ap (λ p. slice_get (rows_of case).rows p) index ∙ are.each is.number is.row is.at (λ (zeros, weak). some (subst IsZeroVector (sym e) (times_zero f.times is.row.row.coeffs zeros)))
+  index_is : (arc_slice_items f.coeffs) ≡ map (λ z. f.times *ℤ z) is.row.row.coeffs → f.row ≡ slice_index_or indices is.number 0
+      → ¬ IsZeroVector (arc_slice_items f.coeffs) → slice_get (rows_of case).rows f.row ≡ Some is.row.row
+  index_is e index some = ap (λ p. slice_get (rows_of case).rows p) index
+      ∙ are.each is.number is.row is.at (λ (zeros, weak). some (subst IsZeroVector (sym e) (times_zero f.times is.row.row.coeffs zeros)))
 
   pub stands_in_row : StandsInRow s (rows_of case) f
   stands_in_row = λ k fold.
-      (let one = (row_one s.setting (form_row s.lts.initial (split_of f)) (row_expression s.lts s.class s.problem s.number [] (form_row s.lts.initial (split_of f)))).one (Ok is.row) (Ok k) own_fold fold in
+      (let one = (row_one s.setting (form_row s.lts.initial (split_of f))
+      (row_expression s.lts s.class s.problem s.number [] (form_row s.lts.initial (split_of f)))).one (Ok is.row) (Ok k) own_fold fold in
       let same : is.row ≡ k = cc in
       ⊎_elim
       (λ (positive, e, index, some). inl (differs f.times positive, index_is e index some ∙ ap (λ (r : KeptRow). Some r.row) same))
@@ -76,11 +80,13 @@ module _ (s : CaseSetting) (names : List RowName) (case : CaseSystem)
       (let at = index_is e index some in
       let within : f.row < length case.kept = subst (λ n. f.row < n) (length-map case.kept (λ (k : KeptRow). k.row)) (slice_get_within (rows_of case).rows f.row is.row.row at) in
       subst (IsMultipleOfRow (rows_of case) (linear_form f) f.row) (positive_is f.times positive)
-      (multiple_of_kept case (linear_form f) is.row f.row (unsigned_abs f.times) (e ∙ ap (λ t. map (λ z. t *ℤ z) is.row.row.coeffs) (sym (positive_is f.times positive))) within (get_or_from_slice_get (rows_of case).rows f.row is.row.row is.row.row at))))
+      (multiple_of_kept case (linear_form f) is.row (unsigned_abs f.times) (e ∙ ap (λ t. map (λ z. t *ℤ z) is.row.row.coeffs) (sym (positive_is f.times positive)))
+      f.row within (get_or_from_slice_get (rows_of case).rows f.row is.row.row is.row.row at))))
       (λ (none, row, zeros). record {
         within = λ some. absurd (some none);
         not_negative = subst (λ z. pos 0 ≤ℤ z) (sym none) (omega (arith, ints));
-        multiple = λ j lt. number_zero (arc_slice_items f.coeffs) j zeros ∙ sym (ap (λ t. t *ℤ number_at (row_at (rows_of case) f.row).coeffs j) none ∙ zero_times (number_at (row_at (rows_of case) f.row).coeffs j));
+        multiple = λ j lt. number_zero (arc_slice_items f.coeffs) j zeros
+            ∙ sym (ap (λ t. t *ℤ number_at (row_at (rows_of case) f.row).coeffs j) none ∙ zero_times (number_at (row_at (rows_of case) f.row).coeffs j));
       })
       is.part
     where
@@ -135,10 +141,13 @@ quotient_is numbers parts i d some fits are lt differ = (
     part_fits = below (unsigned_abs (number_at parts i)) d (unsigned_abs (number_at numbers i)) _ some (sym size) number_fits
 
     d_fits : InRange (pos d)
-    d_fits = below d (unsigned_abs (number_at parts i)) (unsigned_abs (number_at numbers i)) _ (some_part (number_at parts i) part_differs) (swapped d (unsigned_abs (number_at parts i)) ∙ sym size) number_fits
+    d_fits = below d (unsigned_abs (number_at parts i)) (unsigned_abs (number_at numbers i)) _ (some_part (number_at parts i) part_differs)
+        (swapped d (unsigned_abs (number_at parts i)) ∙ sym size) number_fits
 
     quotient : int_div (number_at numbers i) (number_at parts i) ≡ pos d
-    quotient = mul-cancel (int_div (number_at numbers i) (number_at parts i)) (pos d) (number_at parts i) part_differs (exact (number_at numbers i) (number_at parts i) (subst (λ n. unsigned_abs (number_at parts i) ∣ n) (sym size) (dvd-mul_right (unsigned_abs (number_at parts i)) d)) ∙ product)
+    quotient = mul-cancel (int_div (number_at numbers i) (number_at parts i)) (pos d) (number_at parts i) part_differs
+        (exact (number_at numbers i) (number_at parts i)
+        (subst (λ n. unsigned_abs (number_at parts i) ∣ n) (sym size) (dvd-mul_right (unsigned_abs (number_at parts i)) d)) ∙ product)
 
 pub zeros_are : (numbers : List ℤ) (i : ℕ) → ((j : ℕ) → j < i → number_at numbers j ≡ pos 0) → length numbers ≤ i → IsZeroVector numbers
 zeros_are numbers i zeros past k d lt = get_or_default numbers k d (pos 0) lt ∙ zeros k (omega arith)
@@ -146,7 +155,8 @@ zeros_are numbers i zeros past k d lt = get_or_default numbers k d (pos 0) lt �
 abbrev pub Tells : ℤ → ℕ → List ℤ → Type 0
 Tells t d numbers = ((t ≡ pos d) × ¬ IsZeroVector numbers) ⊎ ((t ≡ pos 0) × IsZeroVector numbers)
 
-pub part_of_none : (times t : ℤ) (items coeffs : List ℤ) (row index d : ℕ) → 0 < d → row ≡ 0 → times ≡ t → t ≡ pos 0 → Tells t d items → ((pos 0 <ℤ times) × (items ≡ map (λ z. times *ℤ z) coeffs) × (row ≡ index) × ¬ IsZeroVector items) ⊎ ((times ≡ pos 0) × (row ≡ 0) × IsZeroVector items)
+pub part_of_none : (times t : ℤ) (items coeffs : List ℤ) (row index d : ℕ) → 0 < d → row ≡ 0 → times ≡ t → t ≡ pos 0 → Tells t d items
+    → ((pos 0 <ℤ times) × (items ≡ map (λ z. times *ℤ z) coeffs) × (row ≡ index) × ¬ IsZeroVector items) ⊎ ((times ≡ pos 0) × (row ≡ 0) × IsZeroVector items)
 part_of_none times t items coeffs row index d some at same none tells = ⊎_elim (λ (is, busy). absurd (no d some (sym is ∙ none))) (λ (is, zeros). inr (same ∙ none, at, zeros)) tells
   where
     no : (d : ℕ) → 0 < d → pos d ≡ pos 0 → ⊥

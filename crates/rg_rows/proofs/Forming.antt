@@ -33,14 +33,17 @@ few_if false make test n = omega arith
 problem_few : (lts : System) (class : Class) (problem : Problem) → length (problem_rows lts class problem) ≤ states lts + 2
 problem_few lts class (Event s t) = go class.pure class.plain
   where
-    go : (pure plain : Bool) → length (if pure then (row_name.Block ∷ []) else (if plain then (row_name.Empty ∷ map row_name.Full (states_with lts t) ++ row_name.Keep ∷ []) else map row_name.Stop (states_with lts t))) ≤ states lts + 2
+    go : (pure plain : Bool) → length (if pure then (row_name.Block ∷ []) else
+        (if plain then (row_name.Empty ∷ map row_name.Full (states_with lts t) ++ row_name.Keep ∷ []) else map row_name.Stop (states_with lts t))) ≤ states lts + 2
     go true plain = omega arith
     go false true = let h = few_if true row_name.Full (λ q. has_label_at q t lts.arcs) (states lts) in let e = length-append (map row_name.Full (states_with lts t)) (row_name.Keep ∷ []) in omega arith
     go false false = let h = few_if true row_name.Stop (λ q. has_label_at q t lts.arcs) (states lts) in omega arith
 problem_few lts class (States s s') = omega arith
 
 sides_few : (lts : System) (b : Bool) → length (if b then (map row_name.Up (used_labels lts) ++ map row_name.Down (used_labels lts)) else []) ≤ 2 * labels lts
-sides_few lts true = let h = few_if true row_name.Up (λ t. has_label t lts.arcs) (labels lts) in let k = few_if true row_name.Down (λ t. has_label t lts.arcs) (labels lts) in let e = length-append (map row_name.Up (used_labels lts)) (map row_name.Down (used_labels lts)) in omega arith
+sides_few lts true = let h = few_if true row_name.Up (λ t. has_label t lts.arcs) (labels lts) in let k =
+    few_if true row_name.Down (λ t. has_label t lts.arcs) (labels lts) in let e =
+    length-append (map row_name.Up (used_labels lts)) (map row_name.Down (used_labels lts)) in omega arith
 sides_few lts false = omega arith
 
 pub shared_few : (lts : System) (class : Class) → length (shared_names lts class) ≤ 2 * states lts + 2 * labels lts
@@ -71,7 +74,8 @@ from_map f [] y (k, lt, e) = absurd (omega arith)
 from_map f (x ∷ xs) y (zero, lt, e) = (x, (0, omega arith, refl), e)
 from_map f (x ∷ xs) y (suc k, lt, e) = let (z, (j, below, is), same) = from_map f xs y (k, omega arith, e) in (z, (suc j, omega arith, is), same)
 
-module _ (columns : ℕ) (all : List CaseRow) (rows : List Row) (kept : List KeptRow) (shown : map linear_row rows ≡ map (λ k. k.row) kept) (firsts : KeepsEqualRows (λ k. k.row) IsIdle [] (map kept_row all) kept) (lengths : All (λ r. length (arc_slice_items r.coeffs) ≡ columns) all) where
+module _ (columns : ℕ) (all : List CaseRow) (rows : List Row) (kept : List KeptRow) (shown : map linear_row rows ≡ map (λ k. k.row) kept)
+    (firsts : KeepsEqualRows (λ k. k.row) IsIdle [] (map kept_row all) kept) (lengths : All (λ r. length (arc_slice_items r.coeffs) ≡ columns) all) where
   named_fits : (r : CaseRow) → Contains all r → Fits columns (kept_row r).row
   named_fits r (k, lt, is) = record { one_each = subst (λ (x : CaseRow). length (arc_slice_items x.coeffs) ≡ columns) is (lengths k r lt); coeffs = r.coeffs_in_range; constant = r.constant_in_range }
 
@@ -83,7 +87,8 @@ module _ (columns : ℕ) (all : List CaseRow) (rows : List Row) (kept : List Kep
 
   pub well_formed : columns + length all < 2 ^ 32 → IsWellFormed (linear_system columns rows)
   well_formed few = record {
-    few = let h = kept_count (λ (x : KeptRow). x.row) IsIdle [] (map kept_row all) kept firsts in let e = ap length shown in let f = length-map kept (λ (x : KeptRow). x.row) in let g = length-map all kept_row in omega arith;
+    few = let h = kept_count (λ (x : KeptRow). x.row) IsIdle [] (map kept_row all) kept firsts in let e = ap length shown in let f =
+        length-map kept (λ (x : KeptRow). x.row) in let g = length-map all kept_row in omega arith;
     one_each = λ i lt. (each i lt).one_each;
     coeffs = λ i j lt lt'. (each i lt).coeffs j (pos 0) (subst (λ n. j < n) (sym (each i lt).one_each) lt');
     constants = λ i lt. (each i lt).constant;

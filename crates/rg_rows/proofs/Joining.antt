@@ -116,7 +116,8 @@ indices_append own last kept rest indices more moved a b is = record {
 -- ---- the rows of a case
 
 -- where no row comes after those that all cases share
-pub names_alone : (lts : System) (class : Class) (problem : Problem) (number : ℕ) → IsFalse class.nonbranching → names_of lts class problem number ≡ problem_rows lts class problem ++ shared_names lts class
+pub names_alone : (lts : System) (class : Class) (problem : Problem) (number : ℕ) → IsFalse class.nonbranching
+    → names_of lts class problem number ≡ problem_rows lts class problem ++ shared_names lts class
 names_alone lts class problem number alone = by class.nonbranching alone _ _ ∙ append-nil _ ∙ parts_told lts class (problem_rows lts class problem)
   where
     by : (b : Bool) → b ≡ false → (xs ys : List RowName) → xs ++ (if b then ys else []) ≡ xs ++ []
@@ -124,6 +125,7 @@ names_alone lts class problem number alone = by class.nonbranching alone _ _ ∙
     by false e xs ys = refl
 
 -- what is made of two lists, one after the other
-pub each_joined : {A X : Type 0} (make : A → Result X Wide → Type 0) (firsts lasts : List A) (xs ys : List X) → each make firsts (Ok xs) → each make lasts (Ok ys) → each make (firsts ++ lasts) (Ok (xs ++ ys))
+pub each_joined : {A X : Type 0} (make : A → Result X Wide → Type 0) (firsts lasts : List A) (xs ys : List X) → each make firsts (Ok xs)
+    → each make lasts (Ok ys) → each make (firsts ++ lasts) (Ok (xs ++ ys))
 each_joined make [] lasts xs ys none made = subst (λ l. each make lasts (Ok (l ++ ys))) (sym none) made
 each_joined make (a ∷ firsts) lasts xs ys (x, first, (rest, more, is)) made = (x, first, (rest ++ ys, each_joined make firsts lasts rest ys more made, ap (λ l. l ++ ys) is))

@@ -44,7 +44,8 @@ kept-start all has none = record {
 }
 
 pub kept-end : (all : List KeptRow) (has : List ℤ → Bool) (i : ℕ) (kept : List KeptRow) → KeptSoFar all has i kept → length all ≤ i → KeepsEqualRows (λ k. k.row) IsIdle [] all kept
-kept-end all has i kept k past = subst (KeepsEqualRows (λ k. k.row) IsIdle [] all) (append-nil kept) (k.rest [] (subst (λ l. KeepsEqualRows (λ k. k.row) IsIdle k.seen l []) (sym (drop_all i all past)) refl))
+kept-end all has i kept k past = subst (KeepsEqualRows (λ k. k.row) IsIdle [] all) (append-nil kept)
+    (k.rest [] (subst (λ l. KeepsEqualRows (λ k. k.row) IsIdle k.seen l []) (sym (drop_all i all past)) refl))
 
 module _ (all : List KeptRow) (has has' : List ℤ → Bool) (i : ℕ) (kept : List KeptRow) (k : KeptSoFar all has i kept) (x : KeptRow) (is : drop i all ≡ x ∷ drop (i + 1) all) where
   -- row i is idle, or was seen before
@@ -60,7 +61,9 @@ module _ (all : List KeptRow) (has has' : List ℤ → Bool) (i : ℕ) (kept : L
   kept-push busy fresh same = record {
     seen = x.row ∷ k.seen;
     tells = λ r. (λ e. found r (pointwise int_eq (numbers_of x.row) (numbers_of r)) refl (sym (same (numbers_of r)) ∙ e), λ h. same (numbers_of r) ∙ there r h);
-    rest = λ more h. subst (KeepsEqualRows (λ y. y.row) IsIdle [] all) (sym (append_assoc kept (x ∷ []) more)) (k.rest (x ∷ more) (subst (λ l. KeepsEqualRows (λ y. y.row) IsIdle k.seen l (x ∷ more)) (sym is) (inr (busy, (λ seen. false≢true (sym fresh ∙ ((k.tells x.row).1 seen))), (more, refl, h)))));
+    rest = λ more h. subst (KeepsEqualRows (λ y. y.row) IsIdle [] all) (sym (append_assoc kept (x ∷ []) more))
+        (k.rest (x ∷ more) (subst (λ l. KeepsEqualRows (λ y. y.row) IsIdle k.seen l (x ∷ more)) (sym is)
+        (inr (busy, (λ seen. false≢true (sym fresh ∙ ((k.tells x.row).1 seen))), (more, refl, h)))));
   }
     where
       found : (r : LinearRow) (b : Bool) → pointwise int_eq (numbers_of x.row) (numbers_of r) ≡ b → cond b true (has (numbers_of r)) ≡ true → Contains (x.row ∷ k.seen) r
@@ -69,7 +72,8 @@ module _ (all : List KeptRow) (has has' : List ℤ → Bool) (i : ℕ) (kept : L
 
       there : (r : LinearRow) → Contains (x.row ∷ k.seen) r → cond (pointwise int_eq (numbers_of x.row) (numbers_of r)) true (has (numbers_of r)) ≡ true
       there r h = ⊎_elim
-          (λ e. ap (λ b. cond b true (has (numbers_of r))) ((slice_eq-Decides Decides-int_eq (numbers_of x.row) (numbers_of r) (pointwise int_eq (numbers_of x.row) (numbers_of r)) refl).1 (ap numbers_of e)))
+          (λ e. ap (λ b. cond b true (has (numbers_of r)))
+          ((slice_eq-Decides Decides-int_eq (numbers_of x.row) (numbers_of r) (pointwise int_eq (numbers_of x.row) (numbers_of r)) refl).1 (ap numbers_of e)))
           (λ seen. either (pointwise int_eq (numbers_of x.row) (numbers_of r)) ((k.tells r).1 seen))
           (Contains-cons_cases x.row r k.seen h)
         where
@@ -88,7 +92,8 @@ module _ (all : List CaseRow) (i : ℕ) (row : CaseRow) (lt : i < length all) (i
 -- the set is asked for the numbers of row i, and then has them
 module _ (all : List KeptRow) (i : ℕ) (kept : List KeptRow) (keys keys' : List (Bor (List ℤ))) (v : Bor (List ℤ)) (k : KeptSoFar all (has_numbers keys) i kept)
     (x : KeptRow) (next : drop i all ≡ x ∷ drop (i + 1) all) (is : v.now ≡ numbers_of x.row) (added : Bool) (says : added ≡ not (has_numbers keys v.now)) where
-  pub asked-new : ¬ IsIdle x → added ≡ true → ((q : Bor (List ℤ)) → has_numbers keys' q.now ≡ cond (pointwise int_eq v.now q.now) true (has_numbers keys q.now)) → KeptSoFar all (has_numbers keys') (i + 1) (kept ++ x ∷ [])
+  pub asked-new : ¬ IsIdle x → added ≡ true → ((q : Bor (List ℤ))
+      → has_numbers keys' q.now ≡ cond (pointwise int_eq v.now q.now) true (has_numbers keys q.now)) → KeptSoFar all (has_numbers keys') (i + 1) (kept ++ x ∷ [])
   asked-new busy was updates = kept-push all (has_numbers keys) (has_numbers keys') i kept k x next busy
       (subst (λ l. has_numbers keys l ≡ false) is (fresh added (has_numbers keys v.now) says was))
       (λ q. subst (λ l. has_numbers keys' q ≡ cond (pointwise int_eq l q) true (has_numbers keys q)) is (updates (record v { now = q })))
@@ -98,7 +103,8 @@ module _ (all : List KeptRow) (i : ℕ) (kept : List KeptRow) (keys keys' : List
       fresh a false p q = refl
 
   pub asked-old : added ≡ false → keys' ≡ keys → KeptSoFar all (has_numbers keys') (i + 1) kept
-  asked-old was unchanged = kept-drop all (has_numbers keys) (has_numbers keys') i kept k x next (inr (subst (λ l. has_numbers keys l ≡ true) is (old added (has_numbers keys v.now) says was))) (λ q. ap (λ l. has_numbers l q) unchanged)
+  asked-old was unchanged = kept-drop all (has_numbers keys) (has_numbers keys') i kept k x next
+      (inr (subst (λ l. has_numbers keys l ≡ true) is (old added (has_numbers keys v.now) says was))) (λ q. ap (λ l. has_numbers l q) unchanged)
     where
       old : (a b : Bool) → a ≡ not b → a ≡ false → b ≡ true
       old a true p q = refl

@@ -25,18 +25,9 @@ use Rattle.rg_case_parts.proofs.Picking.{columns_length}
 use Rattle.rg_rows.specs.Columns.{columns_fold}
 use Rattle.rg_folds.proofs.Folding.{whole_is}
 
--- ---- from the counts of labels to the columns
-
-module _ (it : Setting) (terms : List Term) where
-  pub terms_unsubstituted : (w : Wide) → substitute_fold (labels it.lts) it.basis (count_of it.tree terms) (Err w) → terms_fold it terms (Err w)
-  terms_unsubstituted w h = inl h
-
-  pub terms_scaled : (free : List Ratio) → substitute_fold (labels it.lts) it.basis (count_of it.tree terms) (Ok free) → (r : Result Scaled Wide) → scaled_fold (columns_of it.lts it.basis it.class (start_of terms) free) r → terms_fold it terms r
-  terms_scaled free h (Ok s) k = (free, h, k)
-  terms_scaled free h (Err w) k = inr (free, h, k)
-
 -- a product of whole numbers in code
-pub whole_step : (f g : Fraction) (x y : ℤ) (r : Result Fraction Wide) → IsValue f x (pos 1) → IsValue g y (pos 1) → IsProduct (numerator_of f) (denominator_of f) (numerator_of g) (denominator_of g) r → mul (whole x) (whole y) (shown_result ratio_of r)
+pub whole_step : (f g : Fraction) (x y : ℤ) (r : Result Fraction Wide) → IsValue f x (pos 1) → IsValue g y (pos 1)
+    → IsProduct (numerator_of f) (denominator_of f) (numerator_of g) (denominator_of g) r → mul (whole x) (whole y) (shown_result ratio_of r)
 whole_step f g x y r v w p = subst (λ z. mul z (whole y) (shown_result ratio_of r)) (whole_is f x v) (subst (λ z. mul (ratio_of f) z (shown_result ratio_of r)) (whole_is g y w) (mul_step f g r p))
 
 -- a result's value keeps what each value keeps
@@ -72,7 +63,8 @@ module _ (s : Setting) (start : ℤ) (counts : ℕ → ℤ) where
   -- whole numbers over the columns
   pub columns_whole : (free numbers : List ℤ) → substitute_fold (labels s.lts) s.basis counts (Ok (map whole free)) → All InRange numbers
       → map whole numbers ≡ columns_of s.lts s.basis s.class start (map whole free) → columns_fold s start counts (Ok (record { multiple = pos 1; numbers = numbers }))
-  columns_whole free numbers found in_range picked = columns_scaled (map whole free) (map whole numbers) found picked (Ok (record { multiple = pos 1; numbers = numbers })) (scaled_wholes numbers in_range)
+  columns_whole free numbers found in_range picked =
+      columns_scaled (map whole free) (map whole numbers) found picked (Ok (record { multiple = pos 1; numbers = numbers })) (scaled_wholes numbers in_range)
 
   -- there is one number for each column
   pub columns_counted : (scaled : Scaled) → columns_fold s start counts (Ok scaled) → length scaled.numbers ≡ column_count s.lts s.basis s.class
@@ -94,8 +86,6 @@ module _ (s : Setting) (name : RowName) (e : Expression) where
     pub row_made : (constant : Ratio) → mul (whole e.constant) (whole scaled.multiple) (Ok constant) → (r : Result KeptRow Wide) → divided name scaled constant.top r → row_fold s name e r
     row_made constant h (Ok out) is = (scaled, terms, (constant, h, is))
     row_made constant h (Err w) is = absurd is
-
--- ---- the rows of the code
 
 -- ---- from the rows to the case
 

@@ -10,7 +10,7 @@ use Rattle.rg_cert_meaning.specs.Row.{case_consumer}
 use Rattle.rg_cert_meaning.specs.declared.RowName.{RowName}
 use Rattle.rg_folds.specs.Substitution.{numbers_where}
 use Rattle.rg_case_folds.specs.Rewriting.{has_label, used_labels, has_start, all_numbers, problem_rows, names_of}
-use Rattle.rg_folds.proofs.Folding.{where_taken, where_left, where_ends}
+use Rattle.rg_folds.proofs.Folding.{where_taken, where_left}
 use Rattle.rg_case_parts.specs.declared.columns.Columns.{Columns}
 use Rattle.rg_case_parts.specs.ColumnViews.{TellsUsedLabels, AreColumns}
 use Rattle.rg_rows.specs.View.{users, makers}
@@ -24,15 +24,6 @@ module _ (make : ℕ → RowName) (test : ℕ → Bool) (i n : ℕ) (done all : 
 
   pub name_left : i < n → test i ≡ false → done ++ map make (numbers_where test (i + 1) (n - (i + 1))) ≡ all
   name_left lt e = ap (λ l. done ++ map make l) (sym (where_left test i n lt e)) ∙ so_far
-
-  pub names_end : n ≤ i → done ≡ all
-  names_end past = sym (append-nil done) ∙ ap (λ l. done ++ map make l) (sym (where_ends test i n past)) ∙ so_far
-
-pub names_start : (make : ℕ → RowName) (test : ℕ → Bool) (n : ℕ) (done : List RowName) → done ++ map make (numbers_where test 0 (n - 0)) ≡ done ++ map make (numbers_where test 0 n)
-names_start make test n done = ap (λ k. done ++ map make (numbers_where test 0 k)) (same n)
-  where
-    same : (k : ℕ) → k - 0 ≡ k
-    same k = omega arith
 
 -- ---- a label that makes tokens
 
@@ -54,7 +45,8 @@ consumer_test has u consumer is = ap (λ b. has && not b) (eq-eqb u consumer is)
 
 where_same : (p q : ℕ → Bool) (a n : ℕ) → ((t : ℕ) → t < a + n → p t ≡ q t) → numbers_where p a n ≡ numbers_where q a n
 where_same p q a zero h = refl
-where_same p q a (suc n) h = ap (λ b. if b then (a ∷ numbers_where p (suc a) n) else numbers_where p (suc a) n) (h a (omega arith)) ∙ ap (λ l. if q a then (a ∷ l) else l) (where_same p q (suc a) n (λ t lt. h t (omega arith)))
+where_same p q a (suc n) h = ap (λ b. if b then (a ∷ numbers_where p (suc a) n) else numbers_where p (suc a) n) (h a (omega arith))
+    ∙ ap (λ l. if q a then (a ∷ l) else l) (where_same p q (suc a) n (λ t lt. h t (omega arith)))
 
 makers_are : (lts : System) (used : List Bool) (consumer : ℕ) → TellsUsedLabels lts used → makers used consumer ≡ numbers_where (λ u. has_label u lts.arcs && not (u == consumer)) 0 (labels lts)
 makers_are lts used consumer tells = ap (λ n. numbers_where (λ u. slice_index_or used u false && not (u == consumer)) 0 n) tells.one_each
@@ -69,7 +61,8 @@ pub named_unless : (b : Bool) (done more all : List RowName) → b ≡ false →
 named_unless b done more all e h = h ∙ sym (append-nil done) ∙ ap (λ x. done ++ (if x then more else [])) (sym e)
 
 users_are : (lts : System) (used : List Bool) → TellsUsedLabels lts used → users used ≡ used_labels lts
-users_are lts used tells = ap (λ n. numbers_where (λ t. slice_index_or used t false) 0 n) tells.one_each ∙ where_same (λ t. slice_index_or used t false) (λ t. has_label t lts.arcs) 0 (labels lts) (λ t lt. tells.each t (omega arith))
+users_are lts used tells = ap (λ n. numbers_where (λ t. slice_index_or used t false) 0 n) tells.one_each
+    ∙ where_same (λ t. slice_index_or used t false) (λ t. has_label t lts.arcs) 0 (labels lts) (λ t lt. tells.each t (omega arith))
 
 -- the rows of a problem and those that all cases share
 pub parts_told : (lts : System) (class : Class) (own : List RowName) → own
@@ -116,8 +109,11 @@ module _ (lts : System) (class : Class) (problem : Problem) (number : ℕ) (colu
   names_told own sided all e h k =
       k
       ∙ ap (λ l. l ++ (if class.nonbranching then map row_name.Makes (makers columns.used.items (case_consumer lts problem number)) else [])) (h ∙ ap (λ l. l ++ shared_names lts class) e)
-      ∙ ap (λ l. (problem_rows lts class problem ++ shared_names lts class) ++ (if class.nonbranching then map row_name.Makes l else [])) (makers_are lts columns.used.items (case_consumer lts problem number) are.used)
-      ∙ ap (λ l. l ++ (if class.nonbranching then map row_name.Makes (numbers_where (λ u. has_label u lts.arcs && not (u == case_consumer lts problem number)) 0 (labels lts)) else [])) (sym (parts_told lts class (problem_rows lts class problem)))
+      ∙ ap (λ l. (problem_rows lts class problem ++ shared_names lts class) ++ (if class.nonbranching then map row_name.Makes l else []))
+      (makers_are lts columns.used.items (case_consumer lts problem number) are.used)
+      ∙ ap (λ l. l ++ (if class.nonbranching then map row_name.Makes
+      (numbers_where (λ u. has_label u lts.arcs && not (u == case_consumer lts problem number)) 0 (labels lts)) else []))
+      (sym (parts_told lts class (problem_rows lts class problem)))
 
 -- ---- a list of states, one name for each
 

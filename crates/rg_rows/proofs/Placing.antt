@@ -33,7 +33,8 @@ indices-start all keys indices none empty = record {
   each = λ j r lt at busy. absurd (omega arith);
 }
 
-pub indices-end : (all : List KeptRow) (i : ℕ) (kept : List KeptRow) (keys : List (Bor (List ℤ))) (indices : List ℕ) → IndicesSoFar all i kept keys indices → i ≡ length all → AreIndices all kept indices
+pub indices-end : (all : List KeptRow) (i : ℕ) (kept : List KeptRow) (keys : List (Bor (List ℤ))) (indices : List ℕ)
+    → IndicesSoFar all i kept keys indices → i ≡ length all → AreIndices all kept indices
 indices-end all i kept keys indices so_far end = record {
   one_each = so_far.one_each ∙ end;
   each = λ j r at busy. so_far.each j r (subst (λ n. j < n) (sym end) (within all j r at)) at busy;
@@ -55,7 +56,8 @@ row_at_key : (kept : List KeptRow) (keys : List (Bor (List ℤ))) (index : ℕ) 
     → v.now ≡ numbers_of x.row → slice_get (map (λ (r : KeptRow). r.row) kept) index ≡ Some x.row
 row_at_key kept keys index k v x same at equal is =
     let numbers : v.now ≡ k.now = (slice_eq-Decides Decides-int_eq v.now k.now true (sym equal)).0 refl in
-    let there = sym (slice_get-map (λ (r : KeptRow). numbers_of r.row) kept index) ∙ ap (λ l. slice_get l index) (sym same) ∙ slice_get-map (λ (q : Bor (List ℤ)). q.now) keys index ∙ ap (option_map (λ (q : Bor (List ℤ)). q.now)) at in
+    let there = sym (slice_get-map (λ (r : KeptRow). numbers_of r.row) kept index) ∙ ap (λ l. slice_get l index) (sym same)
+    ∙ slice_get-map (λ (q : Bor (List ℤ)). q.now) keys index ∙ ap (option_map (λ (q : Bor (List ℤ)). q.now)) at in
     slice_get-map (λ (r : KeptRow). r.row) kept index ∙ go (slice_get kept index) (there ∙ ap (λ l. Some l) (sym numbers ∙ is))
   where
     go : (o : Option KeptRow) → option_map (λ (r : KeptRow). numbers_of r.row) o ≡ Some (numbers_of x.row) → option_map (λ (r : KeptRow). r.row) o ≡ Some x.row
@@ -65,7 +67,8 @@ row_at_key kept keys index k v x same at equal is =
         only : Some (numbers_of y.row) ≡ Some (numbers_of x.row) → numbers_of y.row ≡ numbers_of x.row
         only e = cc
 
-module _ (all : List KeptRow) (i : ℕ) (kept : List KeptRow) (keys : List (Bor (List ℤ))) (indices : List ℕ) (so_far : IndicesSoFar all i kept keys indices) (x : KeptRow) (at : slice_get all i ≡ Some x) where
+module _ (all : List KeptRow) (i : ℕ) (kept : List KeptRow) (keys : List (Bor (List ℤ))) (indices : List ℕ)
+    (so_far : IndicesSoFar all i kept keys indices) (x : KeptRow) (at : slice_get all i ≡ Some x) where
   -- an index more, of row i
   more : (kept' : List KeptRow) (keys' : List (Bor (List ℤ))) (index : ℕ) → length kept' ≤ i + 1
       → map (λ (q : Bor (List ℤ)). q.now) keys' ≡ map (λ (k : KeptRow). numbers_of k.row) kept'
@@ -83,7 +86,8 @@ module _ (all : List KeptRow) (i : ℕ) (kept : List KeptRow) (keys : List (Bor 
 
       each : (j : ℕ) (r : KeptRow) → j < i + 1 → slice_get all j ≡ Some r → ¬ IsIdle r → slice_get (map (λ (k : KeptRow). k.row) kept') (slice_index_or (indices ++ index ∷ []) j 0) ≡ Some r.row
       each j r lt at' busy = ⊎_elim
-          (λ less. (let front = index-front indices (index ∷ []) 0 j (subst (λ n. j < n) (sym so_far.one_each) less) in ap (λ p. slice_get (map (λ (k : KeptRow). k.row) kept') p) front ∙ stay (slice_index_or indices j 0) r.row (so_far.each j r less at' busy)))
+          (λ less. (let front = index-front indices (index ∷ []) 0 j (subst (λ n. j < n) (sym so_far.one_each) less) in
+          ap (λ p. slice_get (map (λ (k : KeptRow). k.row) kept') p) front ∙ stay (slice_index_or indices j 0) r.row (so_far.each j r less at' busy)))
           (λ is. (let same_x : Some r ≡ Some x = sym at' ∙ ap (λ n. slice_get all n) is ∙ at in
           let r_is = only same_x in
           let last = ap (λ n. slice_index_or (indices ++ index ∷ []) n 0) (is ∙ sym so_far.one_each) ∙ get_or-append_seam indices index [] 0 in

@@ -23,7 +23,7 @@ use Rattle.rg_rows.specs.declared.held_row.HeldRow.{HeldRow}
 use Rattle.rg_rows.specs.declared.kind.Kind.{Kind}
 use Rattle.rg_rows.specs.declared.kind.Kind.TheVariants as kind
 use Rattle.rg_rows.specs.View.{kept_row, row_in, terms_of}
-use Rattle.rg_rows.specs.Sharing.{or_wide, row_of_kind, rows_of_kind, forms_of_kind, IsSharedRow, AreSharedTerms, AreRowsOfKind, AreTermsOfKind, IsCommonOf, IsRowInCase, AreTermsInCase}
+use Rattle.rg_rows.specs.Sharing.{or_wide, row_of_kind, rows_of_kind, IsSharedRow, AreSharedTerms, AreRowsOfKind, AreTermsOfKind, IsCommonOf, IsRowInCase, AreTermsInCase}
 use Rattle.rg_cert_data.proofs.Places.{get_is}
 use Rattle.rg_rows.specs.declared.common.Common.{Common}
 use Rattle.rg_rows.proofs.Terms.{one}
@@ -32,7 +32,8 @@ use Rattle.rg_cert_meaning.specs.declared.Variable.TheVariants.{Tokens}
 -- ---- what the rows of a kind say
 
 -- it is the same in each case of each problem
-pub shared_in_case : (lts : System) (class : Class) (problem : Problem) (number : ℕ) (k : Kind) (i : ℕ) → row_expression lts class problem number [] (row_of_kind k i) ≡ shared_expression lts class [] (row_of_kind k i)
+pub shared_in_case : (lts : System) (class : Class) (problem : Problem) (number : ℕ) (k : Kind) (i : ℕ)
+    → row_expression lts class problem number [] (row_of_kind k i) ≡ shared_expression lts class [] (row_of_kind k i)
 shared_in_case lts class (Event s t) number kind.Tokens i = refl
 shared_in_case lts class (Event s t) number kind.Cap i = refl
 shared_in_case lts class (Event s t) number kind.Up i = refl
@@ -59,13 +60,6 @@ row_within lts class kind.Up i lt = one (states lts) _ tt
 row_within lts class kind.Down i lt = one (states lts) _ tt
 row_within lts class kind.Makes i lt = one (states lts) _ tt
 
-pub terms_within : (lts : System) (class : Class) (k : Kind) (i : ℕ) → i < forms_of_kind lts class k → Within lts class k i
-terms_within lts class kind.Tokens i lt = one (states lts) (plus (Tokens i)) (below_if (is_some class.bound) (states lts) i lt)
-terms_within lts class kind.Cap i lt = absurd (omega arith)
-terms_within lts class kind.Up i lt = absurd (omega arith)
-terms_within lts class kind.Down i lt = one (states lts) _ tt
-terms_within lts class kind.Makes i lt = absurd (omega arith)
-
 -- ---- written once
 
 module _ (it : Setting) (name : RowName) (e : Expression) (is : e ≡ shared_expression it.lts it.class [] name) where
@@ -86,7 +80,8 @@ module _ (it : Setting) (name : RowName) (e : Expression) (is : e ≡ shared_exp
   terms_shared result (Err x) so comes one_each = (subst (λ (y : Expression). terms_fold it y.terms (Err x)) is (subst (Comes (terms_fold it e.terms) terms_of) so comes), tt)
 
 -- what holds of each item and its index holds with one item more
-pub each_pushed : {T : Type 0} (P : ℕ → T → Type 0) (xs : List T) (x : T) → ((i : ℕ) (y : T) → slice_get xs i ≡ Some y → P i y) → P (length xs) x → (i : ℕ) (y : T) → slice_get (xs ++ x ∷ []) i ≡ Some y → P i y
+pub each_pushed : {T : Type 0} (P : ℕ → T → Type 0) (xs : List T) (x : T) → ((i : ℕ) (y : T) → slice_get xs i ≡ Some y → P i y) → P (length xs) x
+    → (i : ℕ) (y : T) → slice_get (xs ++ x ∷ []) i ≡ Some y → P i y
 each_pushed {T} P [] x each here zero y e = subst (P 0) (only e) here
   where
     only : Some x ≡ Some y → x ≡ y
@@ -99,7 +94,11 @@ each_pushed P (z ∷ xs) x each here (suc i) y e = each_pushed (λ j. P (suc j))
 
 module _ (s : CaseSetting) (k : Kind) (i : ℕ) where
   pub row_in_case_is : (rows : List (Result CaseRow Wide)) (written : Result CaseRow Wide) → AreRowsOfKind s.setting k rows → slice_get rows i ≡ Some written → IsRowInCase s (row_of_kind k i) written
-  row_in_case_is rows written are at = (subst (λ e. row_fold s.setting (row_of_kind k i) e (shown_result kept_row written)) (sym (shared_in_case s.lts s.class s.problem s.number k i)) (are.each i written at).0, (are.each i written at).1)
+  row_in_case_is rows written are at = (
+    subst (λ e. row_fold s.setting (row_of_kind k i) e (shown_result kept_row written))
+        (sym (shared_in_case s.lts s.class s.problem s.number k i)) (are.each i written at).0,
+    (are.each i written at).1,
+  )
 
   pub terms_in_case_are : (terms : List (Result FormTerms Wide)) (written : Result FormTerms Wide)
       → AreTermsOfKind s.setting k terms → slice_get terms i ≡ Some written → AreTermsInCase s (row_of_kind k i) written

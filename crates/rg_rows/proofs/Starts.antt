@@ -43,12 +43,20 @@ module _ (it : CaseSetting) where
       let e = row_expression it.lts it.class it.problem it.number [] (row_name.Tokens it.lts.initial) in
       let here : terms_fold it.setting e.terms (Ok s) = subst (λ m. terms_fold it.setting (row_expression it.lts it.class it.problem it.number [] (row_name.Tokens m)).terms (Ok s)) at terms in
       let alone : s.multiple ≡ pos 1 = start_alone it.setting s is_tree (terms_are it split_form.Start e refl (Ok s) here) in
-      form_of_terms it split_form.Start e refl s (linear_form f) here (λ j. record { scale = (scale ∙ once (pos (step_of it.class split_form.Start)) ∙ ap (λ z. pos (step_of it.class split_form.Start) *ℤ z) (sym alone)) j; coeffs = coeffs j; low = low j; high = high j })
+      form_of_terms it split_form.Start e refl s (linear_form f) here
+      (λ j. record {
+        scale = (scale ∙ once (pos (step_of it.class split_form.Start))
+            ∙ ap (λ z. pos (step_of it.class split_form.Start) *ℤ z) (sym alone)) j;
+        coeffs = coeffs j;
+        low = low j;
+        high = high j;
+      })
     where
       once : (m : ℤ) → m ≡ m *ℤ pos 1
       once m = omega (arith, ints)
 
-  pub start_fails : (n : ℕ) (w : Wide) → n ≡ it.lts.initial → terms_fold it.setting (row_expression it.lts it.class it.problem it.number [] (row_name.Tokens n)).terms (Err w) → form_fold it.setting split_form.Start (Err w)
+  pub start_fails : (n : ℕ) (w : Wide) → n ≡ it.lts.initial
+      → terms_fold it.setting (row_expression it.lts it.class it.problem it.number [] (row_name.Tokens n)).terms (Err w) → form_fold it.setting split_form.Start (Err w)
   start_fails n w at terms =
       form_of_none it split_form.Start (row_expression it.lts it.class it.problem it.number [] (row_name.Tokens it.lts.initial)) refl w
       (subst (λ m. terms_fold it.setting (row_expression it.lts it.class it.problem it.number [] (row_name.Tokens m)).terms (Err w)) at terms)
@@ -63,13 +71,16 @@ module _ (it : CaseSetting) where
         ((here (row_name.Tokens it.lts.initial)) ∙ ap row_name.Tokens at)
         (get_or-map kept_row rows i row (kept_row row) lt' ∙ ap kept_row (sym is_row))
 
-    pub start_times : (s : Scaled) → terms_fold it.setting (row_expression it.lts it.class it.problem it.number [] (row_name.Tokens n)).terms (Ok s) → (t : ℕ) × (0 < t) × (s.numbers ≡ map (λ z. pos t *ℤ z) (arc_slice_items row.coeffs))
+    pub start_times : (s : Scaled) → terms_fold it.setting (row_expression it.lts it.class it.problem it.number [] (row_name.Tokens n)).terms (Ok s)
+        → (t : ℕ) × (0 < t) × (s.numbers ≡ map (λ z. pos t *ℤ z) (arc_slice_items row.coeffs))
     start_times s terms =
         times_row it split_form.Start (row_expression it.lts it.class it.problem it.number [] (row_name.Tokens it.lts.initial)) refl s (kept_row row)
         (subst (λ m. terms_fold it.setting (row_expression it.lts it.class it.problem it.number [] (row_name.Tokens m)).terms (Ok s)) at terms) start_row.0
 
-    pub start_is_made : (columns : ℕ) (indices : List ℕ) (f : NamedForm) → split_of f ≡ split_form.Start → IsPartOf f (arc_slice_items row.coeffs) (slice_index_or indices i 0) → f.scale ≡ pos (step_of it.class split_form.Start)
-        → f.low ≡ form_low split_form.Start → f.high ≡ form_high it.lts it.class split_form.Start → length (arc_slice_items f.coeffs) ≡ columns → InRange f.scale → All InRange (arc_slice_items f.coeffs) → InRange f.times → IsMade it.lts it.class columns (map kept_row rows) indices f
+    pub start_is_made : (columns : ℕ) (indices : List ℕ) (f : NamedForm) → split_of f ≡ split_form.Start
+        → IsPartOf f (arc_slice_items row.coeffs) (slice_index_or indices i 0) → f.scale ≡ pos (step_of it.class split_form.Start)
+        → f.low ≡ form_low split_form.Start → f.high ≡ form_high it.lts it.class split_form.Start → length (arc_slice_items f.coeffs) ≡ columns
+        → InRange f.scale → All InRange (arc_slice_items f.coeffs) → InRange f.times → IsMade it.lts it.class columns (map kept_row rows) indices f
     start_is_made columns indices f same part is_scale low high one_each scale coeffs times = record {
       number = i;
       row = kept_row row;

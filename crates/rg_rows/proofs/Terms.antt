@@ -33,7 +33,8 @@ apart_within : (n s s' order : ℕ) → s < n → s' < n → All (TermNamesState
 apart_within n s s' zero h k = two n (plus (Tokens s')) (minus (Tokens s)) k h
 apart_within n s s' (suc order) h k = two n (plus (Tokens s)) (minus (Tokens s')) h k
 
-problem_name_within : (lts : System) (class : Class) (problem : Problem) (number : ℕ) (name : RowName) → IsSeparationProblem lts problem → Contains (problem_rows lts class problem) name → Within lts class problem number name
+problem_name_within : (lts : System) (class : Class) (problem : Problem) (number : ℕ) (name : RowName) → IsSeparationProblem lts problem
+    → Contains (problem_rows lts class problem) name → Within lts class problem number name
 problem_name_within lts class (Event s t) number name asked has =
     each_problem_name lts class s t (Within lts class (Event s t) number)
     (λ _. two (states lts) (minus (Tokens s)) (minus (Effect t)) asked.0 tt)
@@ -45,9 +46,12 @@ problem_name_within lts class (Event s t) number name asked has =
   where
     state : (q : ℕ) → Contains (states_with lts t) q → q < states lts
     state q has' = let (_, _, lt) = where_is (λ q. has_label_at q t lts.arcs) 0 (states lts) q has' in omega arith
-problem_name_within lts class (States s s') number name asked has = ⊎_elim (λ is. subst (Within lts class (States s s') number) is (apart_within (states lts) s s' (order_of lts class number) asked.0 asked.1)) (λ there. absurd (nothing name there)) (Contains-cons_cases row_name.Apart name [] has)
+problem_name_within lts class (States s s') number name asked has =
+    ⊎_elim (λ is. subst (Within lts class (States s s') number) is (apart_within (states lts) s s' (order_of lts class number) asked.0 asked.1))
+    (λ there. absurd (nothing name there)) (Contains-cons_cases row_name.Apart name [] has)
 
-one_name_within : (lts : System) (class : Class) (problem : Problem) (number : ℕ) (name : RowName) → IsSeparationProblem lts problem → Contains (names_of lts class problem number) name → Within lts class problem number name
+one_name_within : (lts : System) (class : Class) (problem : Problem) (number : ℕ) (name : RowName) → IsSeparationProblem lts problem
+    → Contains (names_of lts class problem number) name → Within lts class problem number name
 one_name_within lts class problem number name asked has =
     each_name lts class problem number (Within lts class problem number)
     (λ n h. problem_name_within lts class problem number n asked h)

@@ -8,7 +8,6 @@
 mod case;
 mod case_row;
 mod common;
-mod counts;
 mod form_terms;
 mod forms;
 mod held_row;

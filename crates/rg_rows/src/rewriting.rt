@@ -4,7 +4,7 @@ ghost use Rattle.std.specs.Arc.{arc_slice_items};
 ghost use Rattle.rg_integers.specs.Range.{InRange};
 ghost use Rattle.rg_integers.specs.Sum.{number_at};
 ghost use Rattle.rg_theory.specs.System.{labels};
-ghost use Rattle.rg_fraction.specs.Rows.{IsRowGcd};
+ghost use Rattle.rg_fraction.specs.Rows.{IsPrimitivePart};
 ghost use Rattle.rg_linear.specs.Cycle.{IsZeroVector};
 ghost use Rattle.rg_spanning.specs.Spanning.{IsTreeOf};
 ghost use Rattle.rg_folds.specs.Substitution.{free_labels, substitute_fold};
@@ -20,10 +20,9 @@ ghost use Rattle.rg_rows.specs.Columns.{columns_fold};
 ghost use Rattle.rg_folds.specs.Fold.{Comes, whole};
 
 use crate::case_row::CaseRow;
-use crate::counts::counts;
 use crate::form_terms::FormTerms;
 use crate::row_numbers::RowNumbers;
-use rg_case_parts::{Columns, Scaled, Setting, start, without_denominators};
+use rg_case_parts::{Columns, Scaled, Setting, counts, start, without_denominators};
 use rg_cert_data::Expression;
 use rg_cert_meaning::RowName;
 use rg_cycles::{substitute, whole_sums};
@@ -161,8 +160,7 @@ fn divide_by_common(
     let multiple = scaled.multiple;
     let mut numbers = scaled.numbers;
     numbers.push(constant)?;
-    let divisor = row_gcd(&numbers);
-    reduce(&mut numbers);
+    let divisor = reduce_by_common(&mut numbers);
     let (coeffs, constant) = split_constant(alloc, &numbers)?;
     let norm = norm(&coeffs, constant);
     let idle = always_holds(&coeffs, constant);
@@ -176,6 +174,21 @@ fn divide_by_common(
         factor: Fraction::new(multiple, divisor.max(1)),
         numbers,
     })
+}
+
+// Divides the numbers by their greatest common divisor, and returns it. They stay where it is 0 or 1.
+fn reduce_by_common(numbers: &mut [i128]) -> i128
+    requires { (k : ℕ) → k < length numbers.old → InRange (number_at numbers.old k) }
+    ensures part { IsPrimitivePart numbers.old numbers.new (unsigned_abs result) }
+    ensures not_negative { pos 0 ≤ℤ result }
+    ensures in_range { InRange result }
+    ensures numbers_in_range { (k : ℕ) → k < length numbers.old → InRange (number_at numbers.new k) }
+{
+    let divisor = row_gcd(numbers);
+    if divisor > 1 {
+        reduce(numbers);
+    }
+    divisor
 }
 
 // Whether all coefficients are 0 and the constant isn't negative.

@@ -1,5 +1,5 @@
 //! Rows and counts of the word a b a.
-use rg_case_parts::{count, start};
+use rg_case_parts::{count, counts, start};
 use rg_cert_data::Term::{Minus, Plus};
 use rg_cert_data::{Expression, ProblemCase, expression};
 use rg_cert_meaning::Variable::{Effect, Tokens};
@@ -81,5 +81,26 @@ fn are_counted(alloc: Global, lts: &Lts) -> bool {
 fn labels_count_along_the_tree(rt: HostRuntime) -> Result<(), Fail> {
     let lts = system(rt.alloc(), ABA).ok_or("a system")?;
     assert!(rt; are_counted(rt.alloc(), &lts));
+    Ok(())
+}
+
+// Whether all labels together are counted as each of them alone.
+fn are_counted_together(alloc: Global, lts: &Lts) -> bool {
+    if lts.labels() < 2 || lts.states() < 3 {
+        return false;
+    }
+    let Ok(tree) = Tree::grow(alloc, lts) else {
+        return false;
+    };
+    match counts(alloc, &tree, lts.labels(), &SUM) {
+        Ok(both) => both.as_slice() == [1, 0].as_slice(),
+        Err(_) => false,
+    }
+}
+
+#[test]
+fn labels_count_together_as_alone(rt: HostRuntime) -> Result<(), Fail> {
+    let lts = system(rt.alloc(), ABA).ok_or("a system")?;
+    assert!(rt; are_counted_together(rt.alloc(), &lts));
     Ok(())
 }

@@ -10,7 +10,8 @@ loop-a-preserved c =
     let none : Arc = record { from = 0; label = 0; to = 0 } in
     let arcs = c.arcs-a-items.ensures.value in
     let lt = subst (λ l. c.loop-a.a-index < length l) arcs c.loop-a-test.true in
-    let same = subst (λ l. slice_index_or c.arcs-a-items.result.now c.loop-a.a-index none ≡ slice_index_or l c.loop-a.a-index none) arcs (λ i. slice_index_or c.arcs-a-items.result.now c.loop-a.a-index none) in
+    let same = subst (λ l. slice_index_or c.arcs-a-items.result.now c.loop-a.a-index none ≡ slice_index_or l c.loop-a.a-index none) arcs
+    (λ i. slice_index_or c.arcs-a-items.result.now c.loop-a.a-index none) in
     let label = (c.arcs-a-items.ensures.well_formed.in_range.arcs c.loop-a.a-index none lt).1 in
     record {
       one_each = length-set _ _ _ ∙ c.loop-a.invariant.one_each;

@@ -14,7 +14,8 @@ returns-in_err-multiple-clause-value c =
     let same : c.from_residual.result ≡ Err c.in_err-multiple.field-0.0 = search rules in
     let numbers = map denominator_of c.in-Some.rest.now in
     let sum = cast_signed w128 c.loop-fraction.multiple-bits in
-    let number = get_or-map denominator_of c.in-Some.rest.now c.loop-fraction.fraction-index c.fraction-item.result (pos 1) c.loop-fraction-test.true ∙ ap denominator_of (sym c.fraction-item.is) ∙ sym c.denominator.ensures.value ∙ sym (back c.denominator.result c.denominator.ensures.in_range) in
+    let number = get_or-map denominator_of c.in-Some.rest.now c.loop-fraction.fraction-index c.fraction-item.result (pos 1) c.loop-fraction-test.true
+    ∙ ap denominator_of (sym c.fraction-item.is) ∙ sym c.denominator.ensures.value ∙ sym (back c.denominator.result c.denominator.ensures.in_range) in
     rw same (multiple_fails numbers c.loop-fraction.fraction-index (pos 1) (simp length-map c.loop-fraction-test.true) sum
     (multiple_of_all (map denominator_of c.args.fractions.now)) c.loop-fraction.invariant.so_far c.in_err-multiple.field-0.0
     (subst (λ z. common_multiple sum z (Err c.in_err-multiple.field-0.0)) (sym number) c.in_err-multiple.ensures.value))
@@ -24,7 +25,8 @@ loop-fraction-preserved c =
     let numbers = map denominator_of c.in-Some.rest.now in
     let sum = cast_signed w128 c.loop-fraction.multiple-bits in
     let own = back c.denominator.result c.denominator.ensures.in_range in
-    let number = get_or-map denominator_of c.in-Some.rest.now c.loop-fraction.fraction-index c.fraction-item.result (pos 1) c.loop-fraction-test.true ∙ ap denominator_of (sym c.fraction-item.is) ∙ sym c.denominator.ensures.value in
+    let number = get_or-map denominator_of c.in-Some.rest.now c.loop-fraction.fraction-index c.fraction-item.result (pos 1) c.loop-fraction-test.true
+    ∙ ap denominator_of (sym c.fraction-item.is) ∙ sym c.denominator.ensures.value in
     let joins = rw own at c.in_ok-multiple.ensures.value in
     rw (back c.in_ok-multiple.multiple c.in_ok-multiple.ensures.in_range) (record {
       so_far = multiple_next numbers c.loop-fraction.fraction-index (pos 1) (simp length-map c.loop-fraction-test.true) sum

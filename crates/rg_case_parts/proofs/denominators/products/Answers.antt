@@ -25,18 +25,21 @@ returns-in_err-mul c =
     let n = cast_signed w128 (cast_unsigned w128 c.args.number) in
     let item = c.fraction-item.result in
     let ratios = map ratio_of c.args.fractions.now in
-    let step = subst (λ g. mul (ratio_of item) g (shown_result ratio_of c.mul.result)) (whole_is c.new-factor.result n c.new-factor.ensures) (mul_step item c.new-factor.result c.mul.result c.mul.ensures.product) in
+    let step = subst (λ g. mul (ratio_of item) g (shown_result ratio_of c.mul.result)) (whole_is c.new-factor.result n c.new-factor.ensures)
+    (mul_step item c.new-factor.result c.mul.result c.mul.ensures.product) in
     let number = get_or-map ratio_of c.args.fractions.now c.loop-fraction.fraction-index item (ratio_of item) c.loop-fraction-test.true ∙ ap ratio_of (sym c.fraction-item.is) in
     let made = subst (λ f. mul f (whole n) (Err c.in_err-mul.field-0.0)) (sym number) (rw c.in_err-mul.was at step) in
     rw same (subst (λ z. each (λ f. mul f (whole z)) ratios (Err c.in_err-mul.field-0.0)) (back c.args.number c.requires)
-    (item_fails (λ f. mul f (whole n)) ratios c.loop-fraction.fraction-index (ratio_of item) (map ratio_of c.loop-fraction.products.items) c.loop-fraction.invariant (simp length-map c.loop-fraction-test.true) c.in_err-mul.field-0.0 made))
+    (item_fails (λ f. mul f (whole n)) ratios c.loop-fraction.fraction-index (ratio_of item)
+    (map ratio_of c.loop-fraction.products.items) c.loop-fraction.invariant (simp length-map c.loop-fraction-test.true) c.in_err-mul.field-0.0 made))
 
 pub loop-fraction-preserved : goal.loop-fraction-preserved
 loop-fraction-preserved c =
     let n = cast_signed w128 (cast_unsigned w128 c.args.number) in
     let item = c.fraction-item.result in
     let ratios = map ratio_of c.args.fractions.now in
-    let step = subst (λ g. mul (ratio_of item) g (shown_result ratio_of c.mul.result)) (whole_is c.new-factor.result n c.new-factor.ensures) (mul_step item c.new-factor.result c.mul.result c.mul.ensures.product) in
+    let step = subst (λ g. mul (ratio_of item) g (shown_result ratio_of c.mul.result)) (whole_is c.new-factor.result n c.new-factor.ensures)
+    (mul_step item c.new-factor.result c.mul.result c.mul.ensures.product) in
     let number = get_or-map ratio_of c.args.fractions.now c.loop-fraction.fraction-index item (ratio_of item) c.loop-fraction-test.true ∙ ap ratio_of (sym c.fraction-item.is) in
     rw (map_push ratio_of c.loop-fraction.products.items c.push.new.self.items _ c.in_ok-push.ensures.items)
     (item_next (λ f. mul f (whole n)) ratios c.loop-fraction.fraction-index (ratio_of item) (map ratio_of c.loop-fraction.products.items) c.loop-fraction.invariant
@@ -48,4 +51,5 @@ returns c =
     let n = cast_signed w128 (cast_unsigned w128 c.args.number) in
     let ratios = map ratio_of c.args.fractions.now in
     let made = map ratio_of c.loop-fraction.products.items in
-    subst (λ z. each (λ f. mul f (whole z)) ratios (Ok made)) (back c.args.number c.requires) (items_end (λ f. mul f (whole n)) ratios c.loop-fraction.fraction-index (whole n) made c.loop-fraction.invariant (simp length-map c.loop-fraction-test.false))
+    subst (λ z. each (λ f. mul f (whole z)) ratios (Ok made)) (back c.args.number c.requires)
+    (items_end (λ f. mul f (whole n)) ratios c.loop-fraction.fraction-index (whole n) made c.loop-fraction.invariant (simp length-map c.loop-fraction-test.false))

@@ -19,7 +19,8 @@ pub returns-in_err-multiple-clause-comes : goal.returns-in_err-multiple-clause-c
 returns-in_err-multiple-clause-comes c =
     let same : c.from_residual.result ≡ Err (stop.Wide c.in_err-multiple.field-0.0) = search rules in
     let ratios = map ratio_of c.args.fractions.now in
-    rw same (scaled_unmultiplied ratios c.in_err-multiple.field-0.0 (subst (λ l. multiple_of_all l (Err c.in_err-multiple.field-0.0)) (sym (bottoms c.args.fractions.now)) c.in_err-multiple.ensures.value))
+    rw same (scaled_unmultiplied ratios c.in_err-multiple.field-0.0
+    (subst (λ l. multiple_of_all l (Err c.in_err-multiple.field-0.0)) (sym (bottoms c.args.fractions.now)) c.in_err-multiple.ensures.value))
 
 pub returns-in_err-products-clause-comes : goal.returns-in_err-products-clause-comes
 returns-in_err-products-clause-comes c =
@@ -27,7 +28,9 @@ returns-in_err-products-clause-comes c =
     let ratios = map ratio_of c.args.fractions.now in
     let m = c.in_ok-multiple.multiple in
     let multiple = subst (λ l. multiple_of_all l (Ok m)) (sym (bottoms c.args.fractions.now)) c.in_ok-multiple.ensures.value in
-    rw same (comes_unless (scaled_fold ratios) scaled_of c.in_err-products.field-0.0 (λ w is. scaled_unmade ratios m multiple w (subst (λ z. each (λ f. mul f (whole z)) ratios (Err w)) (back m c.in_ok-multiple.ensures.in_range) (rw is at c.in_err-products.ensures))))
+    rw same (comes_unless (scaled_fold ratios) scaled_of c.in_err-products.field-0.0
+    (λ w is. scaled_unmade ratios m multiple w
+    (subst (λ z. each (λ f. mul f (whole z)) ratios (Err w)) (back m c.in_ok-multiple.ensures.in_range) (rw is at c.in_err-products.ensures))))
 
 pub returns-then-multiple-eq1-clause-comes : goal.returns-then-multiple-eq1-clause-comes
 returns-then-multiple-eq1-clause-comes c =

@@ -22,10 +22,12 @@ loop-a-preserved c =
       | then-a-t+then-next-a+in_ok-push w ↦ rw (w.found-is, w.next-is, w.in_ok-push.ensures.items)
           (states_found arcs c.args.t i c.loop-a.found.items c.loop-a.next c.loop-a.invariant a lt at (eq-eqb a.label c.args.t w.if-a-t.true) w.if-next-a.true)
       | else-a-t w ↦ rw (w.found-is, w.next-is) (elim w.else-a-t.branch [
-        | else-a-t-via-then-a-t+else-next-a w' ↦ states_seen arcs c.args.t i c.loop-a.found.items c.loop-a.next c.loop-a.invariant a lt at (eq-eqb a.label c.args.t w'.if-a-t.true) order w'.if-next-a.false
+        | else-a-t-via-then-a-t+else-next-a w' ↦ states_seen arcs c.args.t i c.loop-a.found.items c.loop-a.next c.loop-a.invariant a lt at
+            (eq-eqb a.label c.args.t w'.if-a-t.true) order w'.if-next-a.false
         | else-a-t-via-else-a-t w' ↦ states_passed arcs c.args.t i c.loop-a.found.items c.loop-a.next c.loop-a.invariant a lt at (ne_eqb a.label c.args.t w'.if-a-t.false)
       ])
     ]
 
 pub returns : goal.returns
-returns c = states_end c.arcs-a-items.result.now c.args.t c.loop-a.a-index c.loop-a.found.items c.loop-a.next c.loop-a.invariant c.args.lts.now (sym c.arcs-a-items.ensures.value) c.arcs-a-items.ensures.well_formed.in_range c.loop-a-test.false
+returns c = states_end c.arcs-a-items.result.now c.args.t c.loop-a.a-index c.loop-a.found.items c.loop-a.next c.loop-a.invariant c.args.lts.now
+    (sym c.arcs-a-items.ensures.value) c.arcs-a-items.ensures.well_formed.in_range c.loop-a-test.false

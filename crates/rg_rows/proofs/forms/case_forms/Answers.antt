@@ -23,7 +23,8 @@ returns-in_err-forms-clause-comes c =
     let folds = each (form_fold s.setting) in
     let result : c.from_residual.result ≡ Err c.in_err-forms.field-0.0 = search rules in
     rw result (comes_unless (folds (case_forms s.class s.problem c.args.names.now)) (λ (v : Vec NamedForm Global). map linear_form v.items) c.in_err-forms.field-0.0
-    (λ w is. each_early_fails (form_fold s.setting) (forms_in s.class c.args.names.now) (if splits_start s.class s.problem then (split_form.Start ∷ []) else []) w (rw is at c.in_err-forms.ensures.comes)))
+    (λ w is. each_early_fails (form_fold s.setting) (forms_in s.class c.args.names.now)
+    (if splits_start s.class s.problem then (split_form.Start ∷ []) else []) w (rw is at c.in_err-forms.ensures.comes)))
 
 pub returns-in_err-start-clause-comes : goal.returns-in_err-start-clause-comes
 returns-in_err-start-clause-comes c =
@@ -45,7 +46,8 @@ returns-clause-comes c =
           let splits = sym c.splits_start.ensures ∙ w.if-splits_start.true in
           subst (λ (v : Vec NamedForm Global). each make (case_forms c.args.c.setting.class c.args.c.problem c.args.names.now) (Ok (map linear_form v.items))) (sym w.forms-is)
           (subst (λ b. each make (named ++ (if b then (split_form.Start ∷ []) else [])) (Ok (map linear_form w.push.new.self.items))) (sym splits)
-          (subst (λ (l : List Form). each make (named ++ split_form.Start ∷ []) (Ok l)) (sym (ap (map linear_form) w.in_ok-push.ensures.items ∙ map-append linear_form c.in_ok-forms.forms.items (w.in_ok-start.start ∷ [])))
+          (subst (λ (l : List Form). each make (named ++ split_form.Start ∷ []) (Ok l))
+          (sym (ap (map linear_form) w.in_ok-push.ensures.items ∙ map-append linear_form c.in_ok-forms.forms.items (w.in_ok-start.start ∷ [])))
           (each_last make named split_form.Start (map linear_form c.in_ok-forms.forms.items) (linear_form w.in_ok-start.start) c.in_ok-forms.ensures.comes w.in_ok-start.ensures.comes)))
       | else-splits_start w ↦
           let splits = sym c.splits_start.ensures ∙ w.if-splits_start.false in
@@ -61,10 +63,12 @@ returns-clause-forms c =
       | then-splits_start+in_ok-start+in_ok-push w ↦
           let splits = sym c.splits_start.ensures ∙ w.if-splits_start.true in
           ap (λ (v : Vec NamedForm Global). map split_of v.items) w.forms-is ∙ ap (map split_of) w.in_ok-push.ensures.items ∙ map-append split_of c.in_ok-forms.forms.items (w.in_ok-start.start ∷ [])
-          ∙ ap (λ l. l ++ split_of w.in_ok-start.start ∷ []) c.in_ok-forms.ensures.forms ∙ ap (λ x. named ++ x ∷ []) w.in_ok-start.ensures.form ∙ ap (λ b. named ++ (if b then (split_form.Start ∷ []) else [])) (sym splits)
+          ∙ ap (λ l. l ++ split_of w.in_ok-start.start ∷ []) c.in_ok-forms.ensures.forms ∙ ap (λ x. named ++ x ∷ []) w.in_ok-start.ensures.form
+          ∙ ap (λ b. named ++ (if b then (split_form.Start ∷ []) else [])) (sym splits)
       | else-splits_start w ↦
           let splits = sym c.splits_start.ensures ∙ w.if-splits_start.false in
-          ap (λ (v : Vec NamedForm Global). map split_of v.items) w.forms-is ∙ c.in_ok-forms.ensures.forms ∙ sym (append-nil named) ∙ ap (λ b. named ++ (if b then (split_form.Start ∷ []) else [])) (sym splits)
+          ap (λ (v : Vec NamedForm Global). map split_of v.items) w.forms-is ∙ c.in_ok-forms.ensures.forms ∙ sym (append-nil named)
+          ∙ ap (λ b. named ++ (if b then (split_form.Start ∷ []) else [])) (sym splits)
     ]
 
 pub returns-clause-made : goal.returns-clause-made
@@ -74,6 +78,8 @@ returns-clause-made c =
     elim c.if-splits_start.branch [
       | then-splits_start+in_ok-start+in_ok-push w ↦
           subst (λ (v : Vec NamedForm Global). All Made v.items) (sym w.forms-is)
-          (subst (All Made) (sym w.in_ok-push.ensures.items) (All-append Made c.in_ok-forms.forms.items (w.in_ok-start.start ∷ []) c.in_ok-forms.ensures.made (All-cons Made w.in_ok-start.start [] w.in_ok-start.ensures.made (All-nil Made))))
+          (subst (All Made) (sym w.in_ok-push.ensures.items)
+          (All-append Made c.in_ok-forms.forms.items (w.in_ok-start.start ∷ []) c.in_ok-forms.ensures.made
+          (All-cons Made w.in_ok-start.start [] w.in_ok-start.ensures.made (All-nil Made))))
       | else-splits_start w ↦ subst (λ (v : Vec NamedForm Global). All Made v.items) (sym w.forms-is) c.in_ok-forms.ensures.made
     ]

@@ -17,6 +17,9 @@ returns-clause-row c =
     let items = arc_slice_items c.args.terms.coeffs in
     let tells = subst (Tells t d) c.deref.ensures.value told in
     elim c.if-times-eq0.branch [
-      | then-times-eq0 w ↦ part_of_none (to_z w128 (of_z w128 t)) t items (arc_slice_items c.args.row.now.coeffs) c.if-times-eq0.result c.args.index d some w.result-is same (equals_zero t c.times-times.ensures.in_range w.if-times-eq0.true) tells
-      | else-times-eq0 w ↦ part_of_some (to_z w128 (of_z w128 t)) t items (arc_slice_items c.args.row.now.coeffs) c.if-times-eq0.result c.args.index d some w.result-is same (λ e. w.if-times-eq0.false (ap (of_z w128) e)) are tells
+      | then-times-eq0 w ↦ part_of_none (to_z w128 (of_z w128 t)) t items
+          (arc_slice_items c.args.row.now.coeffs) c.if-times-eq0.result c.args.index d some w.result-is same
+          (equals_zero t c.times-times.ensures.in_range w.if-times-eq0.true) tells
+      | else-times-eq0 w ↦ part_of_some (to_z w128 (of_z w128 t)) t items
+          (arc_slice_items c.args.row.now.coeffs) c.if-times-eq0.result c.args.index d some w.result-is same (λ e. w.if-times-eq0.false (ap (of_z w128) e)) are tells
     ]

@@ -76,8 +76,10 @@ loop-i-preserved c =
                 (step_next s c.args.names.now c.loop-i.i _ c.loop-i-test.true w.in-Some.form w.in-Some.ensures _ refl
                 (map linear_form c.loop-i.forms.items) c.loop-i.invariant.so_far f
                 (terms_of terms) w.in_ok-terms.ensures.comes scale w.form_over-named.ensures.numbers.1 w.form_over-named.ensures.bounds.0 w.form_over-named.ensures.bounds.1);
-            splits = subst (λ (xs : List SplitForm). xs ++ forms_in s.class (drop (c.loop-i.i + 1) c.args.names.now) ≡ forms_in s.class c.args.names.now) (sym (map-append split_of c.loop-i.forms.items (f ∷ [])))
-                (step_named s c.args.names.now c.loop-i.i _ c.loop-i-test.true w.in-Some.form w.in-Some.ensures _ refl (map split_of c.loop-i.forms.items) c.loop-i.invariant.splits f w.form_over-named.ensures.form);
+            splits = subst (λ (xs : List SplitForm). xs ++ forms_in s.class (drop (c.loop-i.i + 1) c.args.names.now)
+                ≡ forms_in s.class c.args.names.now) (sym (map-append split_of c.loop-i.forms.items (f ∷ [])))
+                (step_named s c.args.names.now c.loop-i.i _ c.loop-i-test.true w.in-Some.form w.in-Some.ensures _ refl
+                (map split_of c.loop-i.forms.items) c.loop-i.invariant.splits f w.form_over-named.ensures.form);
             made = All-append Made c.loop-i.forms.items (f ∷ []) c.loop-i.invariant.made (All-cons Made f [] one (All-nil Made));
           })))
       | in_default w ↦

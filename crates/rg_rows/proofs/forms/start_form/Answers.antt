@@ -25,7 +25,8 @@ form_over-form-requires c =
     let row = c.row.result.now in
     let i = c.index_of-i.result in
     let below = subst (λ n. i < n) (sym c.requires.one_each) c.index_of-i.ensures.within in
-    start_times s c.args.names.now (map row_in c.args.rows.now) i c.initial.result c.initial.ensures.value c.index_of-i.ensures.within c.index_of-i.ensures.here (simp length-map below) c.requires.rows row
+    start_times s c.args.names.now (map row_in c.args.rows.now) i c.initial.result c.initial.ensures.value c.index_of-i.ensures.within
+    c.index_of-i.ensures.here (simp length-map below) c.requires.rows row
     (held_is c.args.rows.now i c.index-rows-i.result row below c.index-rows-i.is c.row.ensures) (terms_of c.in_ok-terms.terms) c.in_ok-terms.ensures.comes
 
 pub returns-clause-comes : goal.returns-clause-comes
@@ -44,8 +45,10 @@ returns-clause-made c =
     let row = c.row.result.now in
     let below = subst (λ n. i < n) (sym c.requires.one_each) c.index_of-i.ensures.within in
     let cast = c.form_over-form.ensures.numbers.0 ∙ back c.start_scale-scale.result c.start_scale-scale.ensures.in_range in
-    start_is_made s c.args.names.now (map row_in c.args.rows.now) i c.initial.result c.initial.ensures.value c.index_of-i.ensures.within c.index_of-i.ensures.here (simp length-map below) c.requires.rows row
-    (held_is c.args.rows.now i c.index-rows-i.result row below c.index-rows-i.is c.row.ensures) (column_count s.lts s.basis s.class) c.args.indices.now f c.form_over-form.ensures.form c.form_over-form.ensures.row
+    start_is_made s c.args.names.now (map row_in c.args.rows.now) i c.initial.result c.initial.ensures.value c.index_of-i.ensures.within
+    c.index_of-i.ensures.here (simp length-map below) c.requires.rows row
+    (held_is c.args.rows.now i c.index-rows-i.result row below c.index-rows-i.is c.row.ensures)
+    (column_count s.lts s.basis s.class) c.args.indices.now f c.form_over-form.ensures.form c.form_over-form.ensures.row
     (cast ∙ c.start_scale-scale.ensures.value) c.form_over-form.ensures.bounds.0 c.form_over-form.ensures.bounds.1 (ap length c.form_over-form.ensures.numbers.1 ∙ c.in_ok-terms.ensures.one_each)
     (subst InRange (sym cast) c.start_scale-scale.ensures.in_range)
     (subst (All InRange) (sym c.form_over-form.ensures.numbers.1) c.in_ok-terms.terms.coeffs_in_range) c.form_over-form.ensures.in_range

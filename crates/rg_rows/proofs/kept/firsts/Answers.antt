@@ -31,7 +31,9 @@ loop-held-preserved-then-is_idle c =
       kept,
       shows,
       kept-drop all _ _ c.loop-held.held-index kept so_far (kept_row row) (row_next rows c.loop-held.held-index row below at) (inl idle) (λ q. refl),
-      subst (IndicesSoFar all (c.loop-held.held-index + 1) kept c.loop-held.seen.keys) (sym c.in_ok-push.ensures.items) (indices-idle all c.loop-held.held-index kept c.loop-held.seen.keys c.loop-held.indices.items indices (kept_row row) (row_got rows c.loop-held.held-index row below at) idle),
+      subst (IndicesSoFar all (c.loop-held.held-index + 1) kept c.loop-held.seen.keys) (sym c.in_ok-push.ensures.items)
+          (indices-idle all c.loop-held.held-index kept c.loop-held.seen.keys c.loop-held.indices.items indices (kept_row row)
+          (row_got rows c.loop-held.held-index row below at) idle),
     )
 
 pub overflow_cast-index : goal.overflow_cast-index
@@ -67,7 +69,8 @@ loop-held-preserved c =
       | then-is_new+in_ok-push-2 w ↦ rw w.kept-is (
         kept ++ kept_row row ∷ [],
         w.in_ok-push-2.ensures kept shows,
-        asked-new all c.loop-held.held-index kept _ _ c.key.result so_far (kept_row row) next is c.in_ok-index.is_new c.in_ok-index.ensures.added (λ idle. false≢true (sym c.if-is_idle.false ∙ c.is_idle.ensures.1 idle)) w.if-is_new.true c.in_ok-index.ensures.updates.0,
+        asked-new all c.loop-held.held-index kept _ _ c.key.result so_far (kept_row row) next is c.in_ok-index.is_new c.in_ok-index.ensures.added
+            (λ idle. false≢true (sym c.if-is_idle.false ∙ c.is_idle.ensures.1 idle)) w.if-is_new.true c.in_ok-index.ensures.updates.0,
         subst (IndicesSoFar all (c.loop-held.held-index + 1) (kept ++ kept_row row ∷ []) c.insert_full.new.self.keys) pushed
             (indices-new all c.loop-held.held-index kept c.loop-held.seen.keys c.loop-held.indices.items indices
             (kept_row row) got c.insert_full.new.self.keys c.key.result k c.in_ok-index.index is c.in_ok-index.is_new c.in_ok-index.ensures.added
@@ -94,5 +97,10 @@ returns c =
     let past = c.loop-held-test.false in
     let rows = map row_in c.args.all.now in
     let size = length-map rows kept_row in
-    let held = length-map c.args.all.now row_in in
-    (kept, shows, kept-end (map kept_row (map row_in c.args.all.now)) _ c.loop-held.held-index kept so_far (simp length-map c.loop-held-test.false), indices-end (map kept_row (map row_in c.args.all.now)) c.loop-held.held-index kept _ _ indices (omega arith))
+    let held = length-map c.args.all.now row_in in (
+      kept,
+      shows,
+      kept-end (map kept_row (map row_in c.args.all.now)) _ c.loop-held.held-index kept so_far
+          (simp length-map c.loop-held-test.false),
+      indices-end (map kept_row (map row_in c.args.all.now)) c.loop-held.held-index kept _ _ indices (omega arith),
+    )

@@ -7,4 +7,6 @@ use Rattle.rg_rows.proofs.Placing.{IndicesSoFar}
 use Rattle.rg_rows.proofs.kept.firsts.Given as goal
 
 abbrev pub invariant-loop-held : goal.invariant-loop-held
-invariant-loop-held l = (kept : List KeptRow) × ShowsRows l.kept kept × KeptSoFar (map kept_row (map row_in l.all)) (has_numbers l.seen.keys) l.held-index kept × IndicesSoFar (map kept_row (map row_in l.all)) l.held-index kept l.seen.keys l.indices.items
+invariant-loop-held l = (kept : List KeptRow) × ShowsRows l.kept kept
+    × KeptSoFar (map kept_row (map row_in l.all)) (has_numbers l.seen.keys) l.held-index kept
+    × IndicesSoFar (map kept_row (map row_in l.all)) l.held-index kept l.seen.keys l.indices.items

@@ -107,5 +107,6 @@ returns-clause-made c =
           subst (AreFormsOf (linear_system c.count.result rows)) (sym forms_are)
           (subst (λ (l : LinearSystem). AreFormsOf l (forms_after (length kept) listed)) (sym system_is)
           (are_forms s c.args.shared.now c.requires.shared own c.deref.result.now named c.in_ok-own.ensures.comes
-          kept c.in_ok-kept.field-0-1.items own_firsts own_places negative c.requires.start c.count.result columns over bound c.is_well_formed.ensures.few_states c.is_well_formed.ensures.few_labels)));
+          kept c.in_ok-kept.field-0-1.items own_firsts own_places negative c.requires.start c.count.result columns over bound
+          c.is_well_formed.ensures.few_states c.is_well_formed.ensures.few_labels)));
     }

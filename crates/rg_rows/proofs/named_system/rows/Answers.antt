@@ -40,7 +40,8 @@ loop-name-preserved c =
           (item_next (fold_of (shown_case c.args.c))
           c.args.names.now c.loop-name.name-index _ (map kept_row (map row_in rows)) c.loop-name.invariant.so_far
           c.loop-name-test.true (kept_row row) made);
-      one_each = subst (All lengths) (sym same) (All-append lengths (map row_in rows) (row ∷ []) c.loop-name.invariant.one_each (All-cons lengths row [] c.in_ok-row_in_case.ensures.one_each (All-nil lengths)));
+      one_each = subst (All lengths) (sym same) (All-append lengths (map row_in rows) (row ∷ []) c.loop-name.invariant.one_each
+          (All-cons lengths row [] c.in_ok-row_in_case.ensures.one_each (All-nil lengths)));
       few = ap length c.in_ok-push.ensures.items ∙ length-append rows (held ∷ []) ∙ ap (λ n. n + 1) c.loop-name.invariant.few;
     }
 

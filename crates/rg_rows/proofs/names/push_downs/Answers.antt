@@ -12,5 +12,6 @@ loop-t-preserved c =
       | then-used-t+in_ok-push w ↦ rw (w.names-is, w.in_ok-push.ensures.items)
           (name_taken row_name.Down (λ t. slice_index_or c.args.used.now t false) c.loop-t.t (length c.args.used.now)
           c.loop-t.names.items _ c.loop-t.invariant lt w.if-used-t.true)
-      | else-used-t w ↦ rw w.names-is (name_left row_name.Down (λ t. slice_index_or c.args.used.now t false) c.loop-t.t (length c.args.used.now) c.loop-t.names.items _ c.loop-t.invariant lt w.if-used-t.false)
+      | else-used-t w ↦ rw w.names-is (name_left row_name.Down (λ t. slice_index_or c.args.used.now t false) c.loop-t.t
+          (length c.args.used.now) c.loop-t.names.items _ c.loop-t.invariant lt w.if-used-t.false)
     ]

@@ -12,8 +12,10 @@ loop-u-preserved c =
       | then-used-u+then-u-consumer+in_ok-push w ↦ rw (w.names-is, w.in_ok-push.ensures.items)
           (name_taken row_name.Makes (λ u. slice_index_or c.args.used.now u false && not (u == c.args.consumer)) c.loop-u.u (length c.args.used.now)
           c.loop-u.names.items _ c.loop-u.invariant lt (makes_test _ c.loop-u.u c.args.consumer w.if-used-u.true w.if-u-consumer.true))
-      | else-used-u w ↦ rw w.names-is (name_left row_name.Makes (λ u. slice_index_or c.args.used.now u false && not (u == c.args.consumer)) c.loop-u.u (length c.args.used.now) c.loop-u.names.items _ c.loop-u.invariant lt (elim w.else-used-u.branch [
-        | else-used-u-via-then-used-u+else-u-consumer w' ↦ consumer_test _ c.loop-u.u c.args.consumer w'.if-u-consumer.false
-        | else-used-u-via-else-used-u w' ↦ ap (λ b. b && not (c.loop-u.u == c.args.consumer)) w'.if-used-u.false
-      ]))
+      | else-used-u w ↦ rw w.names-is (name_left row_name.Makes
+          (λ u. slice_index_or c.args.used.now u false && not (u == c.args.consumer)) c.loop-u.u
+          (length c.args.used.now) c.loop-u.names.items _ c.loop-u.invariant lt (elim w.else-used-u.branch [
+            | else-used-u-via-then-used-u+else-u-consumer w' ↦ consumer_test _ c.loop-u.u c.args.consumer w'.if-u-consumer.false
+            | else-used-u-via-else-used-u w' ↦ ap (λ b. b && not (c.loop-u.u == c.args.consumer)) w'.if-used-u.false
+          ]))
     ]

@@ -18,7 +18,8 @@ returns-in_ok-push_downs c =
     let ups = map row_name.Up (users c.args.columns.now.used.items) in
     let downs = map row_name.Down (users c.args.columns.now.used.items) in
     let first : start ≡ own ++ (if c.args.columns.now.start then tokens else []) = elim c.if-columns.branch [
-      | then-columns+in_ok-push_tokens w ↦ named_if c.args.columns.now.start own tokens start w.if-columns.true (ap (λ v. v.items) w.names-is ∙ (rw w.states.ensures.value at w.in_ok-push_tokens.ensures))
+      | then-columns+in_ok-push_tokens w ↦ named_if c.args.columns.now.start own tokens start w.if-columns.true
+          (ap (λ v. v.items) w.names-is ∙ (rw w.states.ensures.value at w.in_ok-push_tokens.ensures))
       | else-columns w ↦ named_unless c.args.columns.now.start own tokens start w.if-columns.false (ap (λ v. v.items) w.names-is)
     ] in
     let second : capped ≡ start ++ (if is_some class.bound then caps else []) = elim c.if-is_some.branch [

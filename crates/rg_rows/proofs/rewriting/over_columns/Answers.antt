@@ -47,7 +47,8 @@ returns-in-Some-clause-one_each c =
     let sums = rw c.in-Some.is at c.in_ok-free.ensures.sums in
     let found : substitute_fold (labels c.args.setting.lts.now) (cycle_of c.args.setting.basis.now) counts (Ok (map whole c.deref-in-Some.result.now)) =
     rw c.deref-in-Some.ensures.value (subst (λ m. substitute_fold m (cycle_of c.args.setting.basis.now) counts (Ok (map whole c.in-Some.free.items))) c.requires.labels sums) in
-    if_comes (columns_fold s _ counts) scaled_of (λ scaled. length scaled.numbers ≡ column_count s.lts s.basis s.class) (columns_counted s _ counts) c.whole_columns.result (c.whole_columns.ensures counts found)
+    if_comes (columns_fold s _ counts) scaled_of (λ scaled. length scaled.numbers ≡ column_count s.lts s.basis s.class)
+    (columns_counted s _ counts) c.whole_columns.result (c.whole_columns.ensures counts found)
 
 pub returns-clause-comes : goal.returns-clause-comes
 returns-clause-comes c =

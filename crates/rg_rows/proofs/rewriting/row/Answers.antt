@@ -51,4 +51,5 @@ returns-clause-comes c =
 
 pub returns-clause-one_each : goal.returns-clause-one_each
 returns-clause-one_each c =
-    if_ok_more c.divide_by_common.result (λ r. length (arc_slice_items r.coeffs) ≡ length c.in_ok-scaled.scaled.numbers.items) _ (λ r h. h ∙ c.in_ok-scaled.ensures.one_each) c.divide_by_common.ensures.one_each
+    if_ok_more c.divide_by_common.result (λ r. length (arc_slice_items r.coeffs) ≡ length c.in_ok-scaled.scaled.numbers.items) _
+    (λ r h. h ∙ c.in_ok-scaled.ensures.one_each) c.divide_by_common.ensures.one_each

@@ -18,5 +18,6 @@ returns c = λ counts found.
     (let picked : map whole c.in_ok-numbers.numbers.items ≡ columns_of c.args.setting.lts.now (cycle_of c.args.setting.basis.now) c.args.setting.class c.args.start (map whole c.args.free.now) =
     c.in_ok-numbers.ensures c.args.setting.lts.now c.args.setting.class whole c.args.start (sym c.requires.labels) c.requires.columns (ap whole (back c.args.start c.requires.start)) in
     columns_whole (shown_setting c.args.setting) c.args.start counts c.args.free.now c.in_ok-numbers.numbers.items found
-    (columns_in_range c.args.setting.lts.now (cycle_of c.args.setting.basis.now) c.args.setting.class c.args.start c.args.free.now c.in_ok-numbers.numbers.items c.requires.start c.requires.in_range picked)
+    (columns_in_range c.args.setting.lts.now (cycle_of c.args.setting.basis.now) c.args.setting.class c.args.start c.args.free.now
+    c.in_ok-numbers.numbers.items c.requires.start c.requires.in_range picked)
     picked)

@@ -12,4 +12,5 @@ loop-held-preserved c = all_taken (λ (k : KeptRow). k.row.constant <ℤ pos 0) 
     (subst (λ (r : CaseRow). (kept_row r).row.constant <ℤ pos 0) c.row.ensures (c.is_negative.ensures.0 c.if-not-is_negative.false))
 
 pub returns : goal.returns
-returns c = λ is. subst (λ l. All (λ (k : KeptRow). k.row.constant <ℤ pos 0) (map kept_row (map row_in l))) (take_all c.loop-held.held-index c.args.rows.now c.loop-held-test.false) c.loop-held.invariant
+returns c = λ is. subst (λ l. All (λ (k : KeptRow). k.row.constant <ℤ pos 0) (map kept_row (map row_in l)))
+    (take_all c.loop-held.held-index c.args.rows.now c.loop-held-test.false) c.loop-held.invariant

@@ -54,7 +54,8 @@ forms-requires-clause-one_each c = ap length c.deref-5.ensures.value ∙ c.in_ok
 pub forms-requires-clause-indices : goal.forms-requires-clause-indices
 forms-requires-clause-indices c =
     let (kept, shows, firsts, indices) = c.in_ok-kept.ensures in
-    ap length c.deref-6.ensures.value ∙ indices.one_each ∙ length-map (map row_in c.deref-2.result.now) kept_row ∙ length-map c.deref-2.result.now row_in ∙ ap length (c.deref-2.ensures.value ∙ sym c.deref-5.ensures.value)
+    ap length c.deref-6.ensures.value ∙ indices.one_each ∙ length-map (map row_in c.deref-2.result.now) kept_row
+    ∙ length-map c.deref-2.result.now row_in ∙ ap length (c.deref-2.ensures.value ∙ sym c.deref-5.ensures.value)
 
 pub returns : goal.returns
 returns c =

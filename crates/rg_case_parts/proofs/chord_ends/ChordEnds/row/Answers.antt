@@ -12,4 +12,6 @@ pub loop-t-preserved : goal.loop-t-preserved
 loop-t-preserved c =
     let own : c.from.result ≡ c.number.result = c.from.ensures ∙ to_z-of_z w64 c.number.result c.number.ensures.fits in
     let b = back c.from.result (subst InRange (sym own) (short_in_range c.number.result c.number.ensures.fits)) in
-    rw (c.in_ok-push.ensures.items, b) (entry_more (entry_between c.args.self.source.now c.args.self.target.now c.args.self.label) c.loop-t.t c.loop-t.numbers.items c.from.result c.loop-t.invariant (own ∙ c.number.ensures.value))
+    rw (c.in_ok-push.ensures.items, b) (entry_more
+    (entry_between c.args.self.source.now c.args.self.target.now c.args.self.label) c.loop-t.t c.loop-t.numbers.items c.from.result
+    c.loop-t.invariant (own ∙ c.number.ensures.value))

@@ -20,7 +20,9 @@ index-requires c =
     let free = free_labels (labels_of c.args.basis.now) (cycle_of c.args.basis.now) in
     let lt = subst (λ l. c.loop-label.label-index < length l) c.free-label-items.ensures c.loop-label-test.true in
     let size : vec_len c.args.self.now.used ≡ length c.args.self.now.used.items = omega arith in
-    let below : slice_index free c.loop-label.label-index < vec_len c.args.self.now.used = subst (λ n. slice_index free c.loop-label.label-index < n) (sym (size ∙ c.requires.labels)) (free_below (labels_of c.args.basis.now) (cycle_of c.args.basis.now) c.loop-label.label-index lt) in
+    let below : slice_index free c.loop-label.label-index < vec_len c.args.self.now.used =
+    subst (λ n. slice_index free c.loop-label.label-index < n) (sym (size ∙ c.requires.labels))
+    (free_below (labels_of c.args.basis.now) (cycle_of c.args.basis.now) c.loop-label.label-index lt) in
     rw c.free-label-items.ensures below
 
 pub overflow_add-count : goal.overflow_add-count

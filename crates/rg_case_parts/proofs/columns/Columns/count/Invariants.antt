@@ -10,6 +10,8 @@ use Rattle.rg_case_parts.proofs.columns.Columns.count.Given as goal
 
 abbrev pub invariant-loop-label : goal.invariant-loop-label
 invariant-loop-label l = record {
-  total : (lts : System) (class : Class) → labels lts ≡ labels_of l.basis → AreColumns lts class l.self → l.count + length (chosen (λ t. has_label t lts.arcs) (drop l.label-index (free_labels (labels_of l.basis) (cycle_of l.basis)))) ≡ column_count lts (cycle_of l.basis) class;
+  total : (lts : System) (class : Class) → labels lts ≡ labels_of l.basis → AreColumns lts class l.self
+      → l.count + length (chosen (λ t. has_label t lts.arcs) (drop l.label-index (free_labels (labels_of l.basis) (cycle_of l.basis))))
+      ≡ column_count lts (cycle_of l.basis) class;
   few : l.count ≤ l.label-index + 1;
 }

@@ -26,7 +26,9 @@ index-requires g c =
     let free = free_labels (labels_of c.args.basis.now) (cycle_of c.args.basis.now) in
     let lt = subst (λ l. c.loop-index.index < length l) c.free-label-items.ensures c.loop-index-test.true in
     let size : vec_len c.args.self.now.used ≡ length c.args.self.now.used.items = omega arith in
-    let below : slice_index free c.loop-index.index < vec_len c.args.self.now.used = subst (λ n. slice_index free c.loop-index.index < n) (sym (size ∙ c.requires.labels)) (free_below (labels_of c.args.basis.now) (cycle_of c.args.basis.now) c.loop-index.index lt) in
+    let below : slice_index free c.loop-index.index < vec_len c.args.self.now.used =
+    subst (λ n. slice_index free c.loop-index.index < n) (sym (size ∙ c.requires.labels))
+    (free_below (labels_of c.args.basis.now) (cycle_of c.args.basis.now) c.loop-index.index lt) in
     rw c.free-label-items.ensures below
 
 pub loop-index-preserved : goal.loop-index-preserved

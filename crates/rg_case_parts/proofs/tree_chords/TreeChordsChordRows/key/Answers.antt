@@ -7,4 +7,5 @@ no_arc = record { from = 0; label = 0; to = 0 }
 
 pub returns : goal.returns
 returns c = rw (c.new.ensures.source, c.new.ensures.target, c.new.ensures.label)
-    (row_is c.args.self.now.tree.now c.args.index no_arc c.chords.result.now c.parikh.result.now c.parikh-2.result.now c.requires c.chords.ensures c.parikh.ensures.one_each c.parikh.ensures.counts c.parikh-2.ensures.counts)
+    (row_is c.args.self.now.tree.now c.args.index no_arc c.chords.result.now c.parikh.result.now c.parikh-2.result.now c.requires c.chords.ensures
+    c.parikh.ensures.one_each c.parikh.ensures.counts c.parikh-2.ensures.counts)

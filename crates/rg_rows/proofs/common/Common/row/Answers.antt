@@ -12,7 +12,9 @@ pub returns-in-Up : goal.returns-in-Up
 returns-in-Up c = rw c.in-Up.is (row_found c.args.self.now kind.Up c.in-Up.t c.args.self.now.ups.items (λ s is. is.ups) _ (rw c.deref-in-Up.ensures.value at c.get-in-Up.ensures.lookup))
 
 pub returns-in-Down : goal.returns-in-Down
-returns-in-Down c = rw c.in-Down.is (row_found c.args.self.now kind.Down c.in-Down.t c.args.self.now.downs.items (λ s is. is.downs) _ (rw c.deref-in-Down.ensures.value at c.get-in-Down.ensures.lookup))
+returns-in-Down c = rw c.in-Down.is (row_found c.args.self.now kind.Down c.in-Down.t c.args.self.now.downs.items (λ s is. is.downs) _
+    (rw c.deref-in-Down.ensures.value at c.get-in-Down.ensures.lookup))
 
 pub returns-in-Makes : goal.returns-in-Makes
-returns-in-Makes c = rw c.in-Makes.is (row_found c.args.self.now kind.Makes c.in-Makes.t c.args.self.now.makes.items (λ s is. is.makes) _ (rw c.deref-in-Makes.ensures.value at c.get-in-Makes.ensures.lookup))
+returns-in-Makes c = rw c.in-Makes.is (row_found c.args.self.now kind.Makes c.in-Makes.t c.args.self.now.makes.items (λ s is. is.makes) _
+    (rw c.deref-in-Makes.ensures.value at c.get-in-Makes.ensures.lookup))

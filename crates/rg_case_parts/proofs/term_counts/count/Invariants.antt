@@ -2,7 +2,7 @@ use Rattle.std.proofs.Common.{◌≡◌, ◌*◌, ◌^◌, drop}
 use Rattle.std.specs.Prelude.{pos, neg_ℤ, ◌+ℤ◌, ◌≤ℤ◌}
 use Rattle.rg_case_folds.specs.Rewriting.{count_of}
 use Rattle.rg_cert_data.specs.Sums.{terms_in}
-use Rattle.rg_case_parts.proofs.counts.count.Given as goal
+use Rattle.rg_case_parts.proofs.term_counts.count.Given as goal
 
 abbrev pub invariant-loop-entry : goal.invariant-loop-entry
 invariant-loop-entry l = record {
