@@ -12,7 +12,7 @@ use Rattle.rg_revised.specs.Held.{relation_of}
 use Rattle.rg_revised.specs.Long.{IsNarrowed}
 use Rattle.rg_revised.specs.Reading.{IsRead, constant_over}
 use Rattle.rg_revised.specs.View.{BasisState, TableauState}
-use Rattle.rg_revised.specs.State.{IsTableauOf, IsRow, IsRowRead, IsExchangeOf, IsLongExchangeOf, IsSetExchange, IsTableauExchange, HasRoom, HasConstants, CanRead, CanSum}
+use Rattle.rg_revised.specs.State.{IsTableauOf, IsRow, IsRowRead, IsExchangeOf, IsLongExchangeOf, IsSetExchange, IsTableauExchange, HasRoom, HasConstants}
 use Rattle.rg_revised.proofs.ConstantsHeld.{read_constant}
 use Rattle.rg_revised.proofs.Relations.{factor_fails}
 use Rattle.rg_revised.proofs.Renewing.{divided_is_relation}
@@ -28,12 +28,6 @@ pub short_room : (system : LinearSystem) (members : List ℕ) (t : TableauState)
 short_room system members t short is = (t.norm, is.room.norms, is.room.some, is.room.short short)
 
 module _ (system : LinearSystem) (members : List ℕ) (t : TableauState) (i : ℕ) (coeffs : List ℤ) (constant : ℤ) (is : IsTableauOf system members t) (row : IsRow system i coeffs constant) where
-  pub can_read : t.long ≡ false → CanRead t.basis coeffs constant
-  can_read short = record { system = system; members = members; most = t.most; i = i; small = is.held; room = short_room system members t short is; row = row }
-
-  pub can_sum : CanSum t.basis coeffs constant
-  can_sum = record { system = system; members = members; norm = t.norm; most = t.most; long = t.long; i = i; small = is.held; room = is.room; row = row }
-
   constant_at : (numbers : List ℤ) → IsRead (length t.basis.slots + 1) coeffs constant t.basis.table t.basis.d numbers → number_at numbers (length t.basis.slots)
       ≡ constant_over coeffs t.constants constant t.basis.d
   constant_at numbers read = read_constant t.basis t.constants t.named is.constants coeffs constant numbers (row.each ∙ sym is.held.held.count) read
@@ -106,7 +100,16 @@ long_exchange t numbers p variable basis largest most long over_small small fits
 
 pub tableau_exchange : (t after : TableauState) (p variable : ℕ) (constants : List ℤ) (named : List ℕ) → IsSetExchange t p variable after → HasConstants after.basis constants named
     → length after.numbers ≡ length after.basis.slots + 1
-    → IsTableauExchange t p variable (record { basis = after.basis; constants = constants; named = named; numbers = after.numbers; over = after.over; norm = after.norm; most = after.most; long = after.long })
+    → IsTableauExchange t p variable (record {
+      basis = after.basis;
+      constants = constants;
+      named = named;
+      numbers = after.numbers;
+      over = after.over;
+      norm = after.norm;
+      most = after.most;
+      long = after.long;
+    })
 tableau_exchange t after p variable constants named exchange are width system members is lt outside relation_is =
     let (fits, held, room) = exchange system members is lt outside relation_is in
     (fits, record { held = held; room = room; constants = are; width = width })

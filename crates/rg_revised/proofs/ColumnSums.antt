@@ -69,7 +69,8 @@ pub read_in_range : (width norm most : ℕ) (coeffs : List ℤ) (constant : ℤ)
     → InRange (number_at numbers s)
 read_in_range width norm most coeffs constant table d numbers read small size within dw s lt = ⊎_elim
     (λ (e : suc s ≡ width). subst InRange (sym (read.constant_is s e)) (whole_in_range norm most coeffs constant small (λ t. number_at (row_at width table t) s) d all dw))
-    (λ ne. subst InRange (sym (read.coefficients s (omega arith))) (part_in_range norm most coeffs constant small (λ t. number_at (row_at width table t) s) (length coeffs) (le_refl (length coeffs)) all))
+    (λ ne. subst InRange (sym (read.coefficients s (omega arith)))
+    (part_in_range norm most coeffs constant small (λ t. number_at (row_at width table t) s) (length coeffs) (le_refl (length coeffs)) all))
     (equal_or_not (suc s) width)
   where
     all : (t : ℕ) → t < length coeffs → unsigned_abs (number_at (row_at width table t) s) ≤ most

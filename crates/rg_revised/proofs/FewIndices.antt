@@ -14,14 +14,6 @@ pub record AreFewBelow (numbers : List ℤ) (indices : List ℕ) (count n : ℕ)
   pub ordered : (j k : ℕ) → j < k → k < count → slice_index indices j < slice_index indices k
   pub all : (m : ℕ) → m < n → number_at numbers m ≢ pos 0 → (k : ℕ) × (k < count) × (slice_index indices k ≡ m)
 
-pub none_below : (numbers : List ℤ) (indices : List ℕ) → AreFewBelow numbers indices 0 0
-none_below numbers indices = record {
-  room = omega arith;
-  inside = λ k lt. absurd (omega arith);
-  ordered = λ j k less lt. absurd (omega arith);
-  all = λ m lt ne. absurd (omega arith);
-}
-
 -- a number that is 0 is left out
 pub few_same : (numbers : List ℤ) (indices : List ℕ) (count n : ℕ) → AreFewBelow numbers indices count n → number_at numbers n ≡ pos 0 → AreFewBelow numbers indices count (n + 1)
 few_same numbers indices count n r zero = record {

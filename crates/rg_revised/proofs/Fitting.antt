@@ -57,7 +57,11 @@ terms_bounded a b members k j l g h n t e = at n e
     at (suc (suc n)) e = rest (without j members) n e
 
 bounded_fits : (a b : ℕ) (t : Wide) → a * b < 2 ^ 126 → IsBounded a b t → FitsTerm t
-bounded_fits a b t small g = record { left = half (t.a *ℤ t.b) left; right = other (t.c *ℤ t.d) right; difference = whole (term_value t) (abs-minus (t.a *ℤ t.b) (t.c *ℤ t.d) (a * b) (b * a) left right) }
+bounded_fits a b t small g = record {
+  left = half (t.a *ℤ t.b) left;
+  right = other (t.c *ℤ t.d) right;
+  difference = whole (term_value t) (abs-minus (t.a *ℤ t.b) (t.c *ℤ t.d) (a * b) (b * a) left right);
+}
   where
     left : unsigned_abs (t.a *ℤ t.b) ≤ a * b
     left = abs-times t.a t.b a b g.a' g.b'

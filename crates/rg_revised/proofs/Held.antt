@@ -142,5 +142,6 @@ module _ (slots : List ℕ) (d over f : ℤ) (numbers pivot : List ℤ) (p i : �
             (none (number_beside slots row m) (size (number_beside slots numbers (get_or slots p 0))) (sign (number_beside slots numbers (get_or slots p 0))) (number_beside slots numbers m)
             (number_beside slots row (get_or slots p 0)) (beside_none slots row m absent) (beside_none slots numbers m absent) ∙ ap (λ z. f *ℤ z) (sym (gone m ni (λ h. absent h.0))))
 
-    pub row_is_multiple : (d' : ℤ) → d *ℤ number_at pivot p ≡ f *ℤ d' → IsMultiple f (renewed (relation_of slots over numbers) i (get_or slots p 0) (relation_of slots d row)) (relation_of (set slots p i) d' row')
+    pub row_is_multiple : (d' : ℤ) → d *ℤ number_at pivot p ≡ f *ℤ d'
+        → IsMultiple f (renewed (relation_of slots over numbers) i (get_or slots p 0) (relation_of slots d row)) (relation_of (set slots p i) d' row')
     row_is_multiple d' e = record { d = ap (λ z. d *ℤ size z) kj_is ∙ ap (λ z. d *ℤ z) (sym pivot_p) ∙ e; constant = constant_is; coefficients = coefficient_is }

@@ -1,5 +1,6 @@
 -- The indices of the numbers that are not 0.
-use Rattle.std.proofs.Common.{◌≡◌, ⊎_elim, ℕ, ◌+◌, ◌<◌, ◌≤◌, List, [], ◌∷◌, ◌++◌, length, length-append, Contains, ap, refl, subst, sym, ◌∙◌, arith, add-one, take, get_or}
+use Rattle.std.proofs.Common.{◌≡◌, ⊎_elim, ℕ, ◌+◌, ◌<◌, ◌≤◌, List, [], ◌∷◌, ◌++◌, length, length-append, Contains, ap, refl, subst, sym, ◌∙◌, arith, add-one, take, get_or, get_or-set_other}
+use Rattle.std.proofs.Math.ListN.{set}
 use Rattle.std.specs.Prelude.{ℤ, pos, ◌+ℤ◌, ◌*ℤ◌}
 use Rattle.std.proofs.Math.IntN.{*ℤ_comm, *ℤ-zero}
 use Rattle.std.proofs.lemmas.List.{take_more, take_all}
@@ -29,6 +30,14 @@ named_more constants n indices indices' h e = subst (AreNamedBelow constants (n 
   where
     one : (s z : ℤ) → s +ℤ (z +ℤ pos 0) ≡ s +ℤ z
     one s z = omega (arith, ints)
+
+-- a number after these is written
+pub named_set : (constants : List ℤ) (n : ℕ) (indices : List ℕ) (z : ℤ) → AreNamedBelow constants n indices → AreNamedBelow (set constants n z) n indices
+named_set constants n indices z h = record {
+  sums = λ f zero. h.sums f (λ t lt e. zero t lt (get_or-set_other constants n t z (pos 0) (λ same. omega arith) ∙ e));
+  inside = h.inside;
+  short = h.short;
+}
 
 pub named_same : (constants : List ℤ) (n : ℕ) (indices : List ℕ) → AreNamedBelow constants n indices → number_at constants n ≡ pos 0 → AreNamedBelow constants (n + 1) indices
 named_same constants n indices h none = record {

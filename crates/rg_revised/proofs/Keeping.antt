@@ -45,7 +45,8 @@ pub held_exchanged : (system : LinearSystem) (members : List ℕ) (b : BasisStat
     → p < length b.slots → number_at numbers p ≢ pos 0 → IsPivot numbers pivot p negative → TableMultiplied b table' pivot p negative over f d' system.columns
     → IsHeld system (exchanged members i (get_or b.slots p 0)) (record { slots = set b.slots p i; d = d'; table = table' })
 held_exchanged system members b table' numbers pivot p i negative over f d' held variable outside is width inside named signed r = record {
-  basis = basis_renewed system members b.d (column_relation b) i (get_or b.slots p 0) (relation_of b.slots over numbers) held.basis variable outside is member (λ e. named (sym kj_is ∙ e)) f d' r.positive
+  basis = basis_renewed system members b.d (column_relation b) i (get_or b.slots p 0)
+      (relation_of b.slots over numbers) held.basis variable outside is member (λ e. named (sym kj_is ∙ e)) f d' r.positive
       (ap (λ z. b.d *ℤ size z) kj_is ∙ ap (λ z. b.d *ℤ z) (sym (pivot_size numbers pivot p negative signed (omega arith))) ∙ r.denominator)
       (column_relation (record { slots = set b.slots p i; d = d'; table = table' })) multiple;
   count = count' ∙ held.count;
@@ -106,7 +107,8 @@ module _ (system : LinearSystem) (members : List ℕ) (b : BasisState) (held : I
     coefficient_same : (m : ℕ) → number_beside b.slots numbers m ≡ sum_below system.columns (λ t. entry system i t *ℤ number_beside b.slots (row_at (length b.slots + 1) b.table t) m)
     coefficient_same m = go (is_member b.slots m)
       where
-        go : Contains b.slots m ⊎ ¬ Contains b.slots m → number_beside b.slots numbers m ≡ sum_below system.columns (λ t. entry system i t *ℤ number_beside b.slots (row_at (length b.slots + 1) b.table t) m)
+        go : Contains b.slots m ⊎ ¬ Contains b.slots m
+            → number_beside b.slots numbers m ≡ sum_below system.columns (λ t. entry system i t *ℤ number_beside b.slots (row_at (length b.slots + 1) b.table t) m)
         go (inl (q, lt, at)) =
             let is : get_or b.slots q 0 ≡ m = get_or_default b.slots q 0 m lt ∙ at in
             subst (λ x. number_beside b.slots numbers x ≡ sum_below system.columns (λ t. entry system i t *ℤ number_beside b.slots (row_at (length b.slots + 1) b.table t) x)) is

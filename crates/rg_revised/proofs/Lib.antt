@@ -15,6 +15,7 @@ pub mod Vacancy
 pub mod Stepping
 pub mod Looping
 pub mod Units
+pub mod Unchanged
 pub mod Indices
 pub mod NamedSums
 pub mod ConstantsHeld

@@ -105,7 +105,8 @@ rows_within width columns most table size all t below n lt =
 -- what holds of the numbers of each row holds of all
 pub each_number : (P : ℤ → Type 0) (width columns : ℕ) (table : List ℤ) → 0 < width → length table ≡ columns * width → ((t n : ℕ) → t < columns → n < width → P (number_at (row_at width table t) n))
     → (m : ℕ) → m < length table → P (number_at table m)
-each_number P width columns table some size all m lt = subst P (row_number width table (m / width) (m % width) rest ∙ ap (number_at table) (div-add-mod' m width)) (all (m / width) (m % width) less rest)
+each_number P width columns table some size all m lt =
+    subst P (row_number width table (m / width) (m % width) rest ∙ ap (number_at table) (div-add-mod' m width)) (all (m / width) (m % width) less rest)
   where
     rest : m % width < width
     rest = mod-lt m some
@@ -122,7 +123,8 @@ row_times width columns f crossed table same size all t n below lt =
 -- ---- the table after an exchange
 
 pub multiplied_table : (b : BasisState) (crossed table' pivot : List ℤ) (p columns : ℕ) (negative : Bool) (over f d' : ℤ) → length b.table ≡ columns * (length b.slots + 1)
-    → p < length b.slots + 1 → TableCrossed (length b.slots + 1) pivot over p negative b.table crossed columns → IsDivided ((b.d *ℤ number_at pivot p) ∷ crossed) f d' table' → length table' ≡ length b.table
+    → p < length b.slots + 1 → TableCrossed (length b.slots + 1) pivot over p negative b.table crossed columns
+    → IsDivided ((b.d *ℤ number_at pivot p) ∷ crossed) f d' table' → length table' ≡ length b.table
     → TableMultiplied b table' pivot p negative over f d' columns
 multiplied_table b crossed table' pivot p columns negative over f d' size inside r divided same = record {
   positive = divided.positive;

@@ -119,9 +119,11 @@ module _ (system : LinearSystem) (members : List ℕ) (i : ℕ) (r : RevisedStat
     failing_row n z e is_d = own_multiplier r.tableau.basis.slots r.tableau.over r.tableau.numbers k is.held.held.held.distinct is.held.width reduced r.factor is.common z is_d
         ∙ sym (ap (λ b. if b then k.d else neg_ℤ (k.coefficient (row_variable system n))) (ap (λ m. n == m) (sym e) ∙ same n))
 
-    pub slot_row : (n s : ℕ) (z : ℤ) → n ≢ i → s < length r.tableau.basis.slots → get_or r.tableau.basis.slots s 0 ≡ length r.tableau.basis.slots + n → r.factor *ℤ z ≡ number_at r.tableau.numbers s → neg_ℤ z ≡ multiplier_of system k i n
+    pub slot_row : (n s : ℕ) (z : ℤ) → n ≢ i → s < length r.tableau.basis.slots → get_or r.tableau.basis.slots s 0 ≡ length r.tableau.basis.slots + n
+        → r.factor *ℤ z ≡ number_at r.tableau.numbers s → neg_ℤ z ≡ multiplier_of system k i n
     slot_row n s z ne lt at is_number =
-        ap neg_ℤ (slot_multiplier r.tableau.basis.slots r.tableau.over r.tableau.numbers k is.held.held.held.distinct is.held.width reduced r.factor is.common s (row_variable system n) z lt (at ∙ ap (λ m. m + n) (sym columns_are)) is_number)
+        ap neg_ℤ (slot_multiplier r.tableau.basis.slots r.tableau.over r.tableau.numbers k is.held.held.held.distinct is.held.width reduced r.factor
+        is.common s (row_variable system n) z lt (at ∙ ap (λ m. m + n) (sym columns_are)) is_number)
         ∙ sym (ap (λ b. if b then k.d else neg_ℤ (k.coefficient (row_variable system n))) (differs n i ne))
 
     pub other_row : (n : ℕ) → n ≢ i → ¬ Contains r.tableau.basis.slots (length r.tableau.basis.slots + n) → pos 0 ≡ multiplier_of system k i n

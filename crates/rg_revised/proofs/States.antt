@@ -1,8 +1,9 @@
 -- An exchange of the relations of the columns.
-use Rattle.std.proofs.Common.{◌≡◌, ◌≢◌, ℕ, ◌+◌, ◌<◌, ◌≤◌, Bool, List, ◌++◌, take, length, ap, subst, sym, ◌∙◌, arith}
+use Rattle.std.proofs.Common.{rules, false, ◌≡◌, ◌≢◌, ℕ, ◌+◌, ◌<◌, ◌≤◌, Bool, List, ◌++◌, take, length, ap, subst, sym, ◌∙◌, arith}
 use Rattle.std.proofs.Math.ListN.{set, length-set}
 use Rattle.std.proofs.Math.Seq.{take-append_seam}
 use Rattle.std.specs.Prelude.{ℤ, pos, ◌*ℤ◌, ◌≤ℤ◌, unsigned_abs}
+use Rattle.std.specs.Int.Signed.{lt_z}
 use Rattle.std.proofs.lemmas.Int.{ints}
 use Rattle.rg_integers.specs.Sum.{number_at}
 use Rattle.rg_integers.specs.Sign.{size}
@@ -40,3 +41,6 @@ size_is_size numbers pivot p negative z signed lt is = subst (λ x. pos 0 ≤ℤ
 
 pub small_enough : (z most : ℤ) → pos 0 ≤ℤ z → z ≤ℤ most → unsigned_abs z ≤ unsigned_abs most
 small_enough z most h le = omega (arith, ints)
+
+pub not_larger : (z most : ℤ) → lt_z most z ≡ false → z ≤ℤ most
+not_larger z most h = search rules

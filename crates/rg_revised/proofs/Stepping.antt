@@ -61,7 +61,8 @@ module _ (system : LinearSystem) (members : List ℕ) (b : BasisState) (most : �
       one : (z : ℤ) → z *ℤ pos 1 ≡ z
       one z = omega (arith, ints)
 
-      at_index : s ≡ t → number_at (row_at (length b.slots + 1) b.table t) s ≡ b.d *ℤ only (get_or b.slots s 0) (pos 1) t → number_at (row_at (length b.slots + 1) b.table t) s ≡ (if s == t then b.d else pos 0)
+      at_index : s ≡ t → number_at (row_at (length b.slots + 1) b.table t) s ≡ b.d *ℤ only (get_or b.slots s 0) (pos 1) t
+          → number_at (row_at (length b.slots + 1) b.table t) s ≡ (if s == t then b.d else pos 0)
       at_index e h = h ∙ ap (λ x. b.d *ℤ (if x then pos 1 else pos 0)) (ap (λ m. t == m) (ap (λ n. get_or b.slots n 0) e ∙ here) ∙ same t) ∙ one b.d
           ∙ sym (ap (λ m. if m == t then b.d else pos 0) e ∙ ap (λ x. if x then b.d else pos 0) (same t))
 
@@ -86,7 +87,8 @@ module _ (system : LinearSystem) (members : List ℕ) (b : BasisState) (most : �
   step_fits (norm, norms, some, fits) v j = small_is_not_wide system members b.d (column_relation b) v j small.held.basis
       (record { norm = norm; most = most; norms = norms; within = columns_within; d_within = small.d_within; room = fits })
 
-  pub long_step_fits : (norm largest v j : ℕ) (over : ℤ) (numbers : List ℤ) → HasNorms system norm → IsRelationOf system members v (relation_of b.slots over numbers) → length numbers ≡ length b.slots + 1
+  pub long_step_fits : (norm largest v j : ℕ) (over : ℤ) (numbers : List ℤ) → HasNorms system norm
+      → IsRelationOf system members v (relation_of b.slots over numbers) → length numbers ≡ length b.slots + 1
       → unsigned_abs over ≤ largest → RowWithin largest numbers → ((norm + 1) * most) * largest < 2 ^ 126 → AllFit system members v j
   long_step_fits norm largest v j over numbers norms is width over_small all fits =
       pivot_fits system members b.d (column_relation b) norm most largest v j (relation_of b.slots over numbers) small.held.basis norms columns_within small.d_within is

@@ -13,7 +13,8 @@ use Rattle.rg_revised.specs.declared.step.Step.TheVariants.{Satisfied, Stuck, Ex
 use Rattle.rg_revised.proofs.Stepping.{step_outside, step_stuck, step_chooses}
 use Rattle.rg_revised.proofs.ConstantsHeld.{passes_at}
 
-pub tells_satisfied : (system : LinearSystem) (members : List ℕ) (t : TableauState) (i : ℕ) (coeffs : List ℤ) (constant : ℤ) → IsTableauOf system members t → IsRow system i coeffs constant → (stack : List ℕ)
+pub tells_satisfied : (system : LinearSystem) (members : List ℕ) (t : TableauState) (i : ℕ) (coeffs : List ℤ) (constant : ℤ)
+    → IsTableauOf system members t → IsRow system i coeffs constant → (stack : List ℕ)
     → ¬ (constant_over coeffs t.constants constant t.basis.d <ℤ pos 0) → StepTells system members (fixed_of system (reverse stack)) i t Satisfied
 tells_satisfied system members t i coeffs constant is row stack none = (passes_at _ _ _ is.constants _ _ _ is.held _ _ _ row none, is)
 

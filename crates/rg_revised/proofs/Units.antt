@@ -86,7 +86,8 @@ module _ (system : LinearSystem) (table : List ℤ) (size : length table ≡ sys
   itself_is : (t : ℕ) → t < system.columns → itself (pos 1) t ≡ relation_of (numbers_from 0 system.columns) (pos 1) (row_at (system.columns + 1) table t)
   itself_is t lt = λ e. record { d = pos 1; constant = sym (ap (number_at (row_at (system.columns + 1) table t)) count ∙ constant_is t lt) e; coefficient = λ m. sym (coefficient_is t lt m) e }
 
-  width_is : (t : ℕ) → relation_of (numbers_from 0 system.columns) (pos 1) (row_at (system.columns + 1) table t) ≡ column_relation (record { slots = numbers_from 0 system.columns; d = pos 1; table = table }) t
+  width_is : (t : ℕ) → relation_of (numbers_from 0 system.columns) (pos 1) (row_at (system.columns + 1) table t)
+      ≡ column_relation (record { slots = numbers_from 0 system.columns; d = pos 1; table = table }) t
   width_is t = ap (λ n. relation_of (numbers_from 0 system.columns) (pos 1) (row_at (n + 1) table t)) (sym count)
 
   unit_held : IsHeld system (numbers_from 0 system.columns) (record { slots = numbers_from 0 system.columns; d = pos 1; table = table })

@@ -100,7 +100,8 @@ module _ (system : LinearSystem) (members : List ℕ) (b : BasisState) (most : �
 
     pub walk_skipped : ((q : ℕ) → ¬ NamesColumn (length b.slots) b.slots numbers q) → IsSkipped system members i
     walk_skipped none = row_skipped system members i (relation_of b.slots b.d numbers) small.held.basis.free row.inside outside is_relation
-        (λ t less. ⊎_elim (λ z. z) (λ ne. (let (q, is, e) = column_slot t (subst (λ n. t < n) (sym small.held.count) less) ne in absurd (none q is))) (is_zero_or_not (number_beside b.slots numbers t)))
+        (λ t less. ⊎_elim (λ z. z) (λ ne. (let (q, is, e) = column_slot t (subst (λ n. t < n) (sym small.held.count) less) ne in absurd (none q is)))
+        (is_zero_or_not (number_beside b.slots numbers t)))
 
     module _ (p : ℕ) (is : NamesColumn (length b.slots) b.slots numbers p) where
       pub walk_picks : ((q : ℕ) → NamesColumn (length b.slots) b.slots numbers q → slice_index b.slots p ≤ slice_index b.slots q) → Picks system members i (get_or b.slots p 0)

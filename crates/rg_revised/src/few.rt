@@ -4,7 +4,7 @@ ghost use Rattle.std.specs.Prelude.{IfSome};
 ghost use Rattle.rg_revised.specs.Few.{AreFew};
 
 // How many indices are listed at most.
-const MOST: usize = 16;
+const MOST: usize = 64;
 
 /// The first `count` indices of the list, in order, are those of a row's numbers that aren't 0.
 #[derive(Clone, Copy)]

@@ -217,21 +217,21 @@ fn renew_few(row: &mut [i64], few: &Few, pivot: &[i64], leaving: i64, d: Divisor
 
 /// As `renew_row`, where the pivot's number at its index is the denominator and few of its numbers aren't 0: the others of the
 /// row stay.
-pub(crate) fn renew_row_at(row: &mut [i64], pivot: &Pivot, d: Divisor, most: i64) -> bool
+pub(crate) fn renew_row_at(row: &mut [i64], pivot: &Pivot, few: &Few, d: Divisor, most: i64) -> bool
     requires same_length { length pivot.now.numbers.now ≡ length row.old }
     requires index { pivot.now.p < length row.old }
     requires size { number_at pivot.now.numbers.now pivot.now.p ≡ d.value }
     requires positive { pos 0 <ℤ d.value }
     requires not_negative { pos 0 ≤ℤ most }
     requires within { RowWithin (unsigned_abs most) row.old }
-    requires few { AreFew pivot.now.numbers.now pivot.now.few.indices pivot.now.few.count }
+    requires few { AreFew pivot.now.numbers.now few.now.indices few.now.count }
     ensures renewed { IsTrue result → RowRenewed pivot.now.numbers.now row.old row.new pivot.now.p pivot.now.negative d.value (unsigned_abs most) }
 {
     let leaving = row[pivot.p];
     if leaving == 0 {
         return true;
     }
-    if !renew_few(row, &pivot.few, pivot.numbers, leaving, d, most) {
+    if !renew_few(row, few, pivot.numbers, leaving, d, most) {
         return false;
     }
     row[pivot.p] = with_sign(leaving, pivot.negative, most);

@@ -1,102 +1,138 @@
 //! The rows of the table in an exchange.
 
-ghost use Rattle.std.specs.Prelude.{◌≡◌, ◌<◌, ◌*◌, ◌≤ℤ◌, ◌<ℤ◌, length, pos, unsigned_abs, IsTrue};
+ghost use Rattle.std.specs.Prelude.{◌≡◌, ℕ, ◌<◌, ◌+◌, ◌*◌, ◌≤ℤ◌, ◌<ℤ◌, List, length, get_or, true, false, ℤ, pos, unsigned_abs, IsTrue};
 ghost use Rattle.rg_integers.specs.Sum.{number_at};
 ghost use Rattle.rg_revised.specs.Rows.{TableWithin, TableRenewed};
 ghost use Rattle.rg_revised.specs.Few.{AreFew};
+ghost use Rattle.rg_revised.specs.Starting.{AreUnitWhereUnchanged};
 
 use crate::divisor::Divisor;
-use crate::few::list_few;
+use crate::few::{Few, list_few};
 use crate::pivot::Pivot;
 use crate::row::{renew_row, renew_row_at};
 
 /// Makes the rows of all columns those after an exchange; see `renew_row`. False where a number is larger than `most` or isn't
-/// a multiple of `d`; then nothing is said of the table.
+/// a multiple of `d`; then nothing is said of the table, but that the rows that weren't changed are still unit rows.
 ///
 /// Mostly the denominator stays and few of the pivot's numbers aren't 0. Then each row is renewed at these alone.
 pub(crate) fn renew_table(
     table: &mut [i64],
-    columns: usize,
-    pivot: &[i64],
-    p: usize,
-    negative: bool,
+    changed: &mut [bool],
+    pivot: &Pivot,
     d: Divisor,
     most: i64,
 ) -> bool
-    requires size { length table.old ≡ columns * length pivot.now }
-    requires index { p < length pivot.now }
+    requires width { length pivot.now.numbers.now ≡ length changed.old + 1 }
+    requires size { length table.old ≡ length changed.old * length pivot.now.numbers.now }
+    requires index { pivot.now.p < length changed.old }
     requires positive { pos 0 <ℤ d.value }
     requires not_negative { pos 0 ≤ℤ most }
-    requires within { TableWithin (length pivot.now) columns (unsigned_abs most) table.old }
-    ensures renewed { IsTrue result → TableRenewed (length pivot.now) pivot.now table.old table.new p negative d.value (unsigned_abs most) columns }
+    requires within { TableWithin (length pivot.now.numbers.now) (length changed.old) (unsigned_abs most) table.old }
+    requires unit { AreUnitWhereUnchanged (length pivot.now.numbers.now) changed.old table.old }
+    ensures renewed { IsTrue result → TableRenewed (length pivot.now.numbers.now) pivot.now.numbers.now table.old table.new
+        pivot.now.p pivot.now.negative d.value (unsigned_abs most) (length changed.old) }
+    ensures unit { AreUnitWhereUnchanged (length pivot.now.numbers.now) changed.new table.new }
+    ensures same_length { length changed.new ≡ length changed.old }
 {
-    if pivot[p] != d.value {
-        return renew_all_rows(table, columns, pivot, p, negative, d, most);
-    }
-    match list_few(pivot) {
-        None => renew_all_rows(table, columns, pivot, p, negative, d, most),
-        Some(few) => {
-            let pivot = Pivot {
-                numbers: pivot,
-                few,
-                p,
-                negative,
-            };
-            renew_few_rows(table, columns, &pivot, d, most)
+    change_rows(changed, pivot, d);
+    if pivot.numbers[pivot.p] == d.value {
+        if let Some(few) = list_few(pivot.numbers) {
+            return renew_rows_at(table, changed, pivot, &few, d, most);
         }
+    }
+    renew_rows(table, changed, pivot, d, most)
+}
+
+// Says of the rows that an exchange may change that they were changed: that of the pivot's index, and all where the denominator
+// changes.
+fn change_rows(changed: &mut [bool], pivot: &Pivot, d: Divisor)
+    requires index { pivot.now.p < length changed.old }
+    requires inside { pivot.now.p < length pivot.now.numbers.now }
+    ensures same_length { length changed.new ≡ length changed.old }
+    ensures leaving { get_or changed.new pivot.now.p true ≡ true }
+    ensures size { (t : ℕ) → t < length changed.new → get_or changed.new t true ≡ false → number_at pivot.now.numbers.now pivot.now.p ≡ d.value }
+    ensures unit { (width : ℕ) (table : List ℤ) → AreUnitWhereUnchanged width changed.old table → AreUnitWhereUnchanged width changed.new table }
+{
+    if pivot.numbers[pivot.p] == d.value {
+        changed[pivot.p] = true;
+    } else {
+        change_all(changed);
     }
 }
 
-// Renews each row at all its numbers.
-fn renew_all_rows(
-    table: &mut [i64],
-    columns: usize,
-    pivot: &[i64],
-    p: usize,
-    negative: bool,
-    d: Divisor,
-    most: i64,
-) -> bool
-    requires size { length table.old ≡ columns * length pivot.now }
-    requires index { p < length pivot.now }
+/// Says of each row that it was changed.
+pub(crate) fn change_all(changed: &mut [bool])
+    ensures same_length { length changed.new ≡ length changed.old }
+    ensures all { (t : ℕ) → t < length changed.old → get_or changed.new t true ≡ true }
+{
+    for t in 0..changed.len() {
+        changed[t] = true;
+    }
+}
+
+// Renews the rows that were changed, each at all its numbers. The row of the pivot's index is among them. Any other row is the
+// unit row of its column, which stays, since it has 0 at that index and the denominator stays.
+fn renew_rows(table: &mut [i64], changed: &[bool], pivot: &Pivot, d: Divisor, most: i64) -> bool
+    requires length { length table.old ≡ length changed.now * length pivot.now.numbers.now }
+    requires index { pivot.now.p < length pivot.now.numbers.now }
+    requires size { (t : ℕ) → t < length changed.now → get_or changed.now t true ≡ false → number_at pivot.now.numbers.now pivot.now.p ≡ d.value }
     requires positive { pos 0 <ℤ d.value }
     requires not_negative { pos 0 ≤ℤ most }
-    requires within { TableWithin (length pivot.now) columns (unsigned_abs most) table.old }
-    ensures renewed { IsTrue result → TableRenewed (length pivot.now) pivot.now table.old table.new p negative d.value (unsigned_abs most) columns }
+    requires within { TableWithin (length pivot.now.numbers.now) (length changed.now) (unsigned_abs most) table.old }
+    requires unit { AreUnitWhereUnchanged (length pivot.now.numbers.now) changed.now table.old }
+    requires leaving { get_or changed.now pivot.now.p true ≡ true }
+    ensures renewed { IsTrue result → TableRenewed (length pivot.now.numbers.now) pivot.now.numbers.now table.old table.new
+        pivot.now.p pivot.now.negative d.value (unsigned_abs most) (length changed.now) }
+    ensures unit { AreUnitWhereUnchanged (length pivot.now.numbers.now) changed.now table.new }
 {
-    let width = pivot.len();
-    for t in 0..columns {
-        let start = t * width;
-        if !renew_row(
-            &mut table[start..start + width],
-            pivot,
-            p,
-            negative,
-            d,
-            most,
-        ) {
-            return false;
+    let width = pivot.numbers.len();
+    for t in 0..changed.len() {
+        if changed[t] {
+            let start = t * width;
+            if !renew_row(
+                &mut table[start..start + width],
+                pivot.numbers,
+                pivot.p,
+                pivot.negative,
+                d,
+                most,
+            ) {
+                return false;
+            }
         }
     }
     true
 }
 
-// Renews each row at the few numbers at which the pivot's aren't 0, where the pivot has the denominator at its index.
-fn renew_few_rows(table: &mut [i64], columns: usize, pivot: &Pivot, d: Divisor, most: i64) -> bool
-    requires length { length table.old ≡ columns * length pivot.now.numbers.now }
+// The same where few of the pivot's numbers aren't 0: each row is renewed at these alone.
+fn renew_rows_at(
+    table: &mut [i64],
+    changed: &[bool],
+    pivot: &Pivot,
+    few: &Few,
+    d: Divisor,
+    most: i64,
+) -> bool
+    requires length { length table.old ≡ length changed.now * length pivot.now.numbers.now }
     requires index { pivot.now.p < length pivot.now.numbers.now }
     requires size { number_at pivot.now.numbers.now pivot.now.p ≡ d.value }
     requires positive { pos 0 <ℤ d.value }
     requires not_negative { pos 0 ≤ℤ most }
-    requires within { TableWithin (length pivot.now.numbers.now) columns (unsigned_abs most) table.old }
-    requires few { AreFew pivot.now.numbers.now pivot.now.few.indices pivot.now.few.count }
-    ensures renewed { IsTrue result → TableRenewed (length pivot.now.numbers.now) pivot.now.numbers.now table.old table.new pivot.now.p pivot.now.negative d.value (unsigned_abs most) columns }
+    requires within { TableWithin (length pivot.now.numbers.now) (length changed.now) (unsigned_abs most) table.old }
+    requires few { AreFew pivot.now.numbers.now few.now.indices few.now.count }
+    requires unit { AreUnitWhereUnchanged (length pivot.now.numbers.now) changed.now table.old }
+    requires leaving { get_or changed.now pivot.now.p true ≡ true }
+    ensures renewed { IsTrue result → TableRenewed (length pivot.now.numbers.now) pivot.now.numbers.now table.old table.new
+        pivot.now.p pivot.now.negative d.value (unsigned_abs most) (length changed.now) }
+    ensures unit { AreUnitWhereUnchanged (length pivot.now.numbers.now) changed.now table.new }
 {
     let width = pivot.numbers.len();
-    for t in 0..columns {
-        let start = t * width;
-        if !renew_row_at(&mut table[start..start + width], pivot, d, most) {
-            return false;
+    for t in 0..changed.len() {
+        if changed[t] {
+            let start = t * width;
+            if !renew_row_at(&mut table[start..start + width], pivot, few, d, most) {
+                return false;
+            }
         }
     }
     true

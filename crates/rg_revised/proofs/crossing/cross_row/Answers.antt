@@ -27,7 +27,8 @@ loop-n-preserved c =
     record {
       same_length = length-set c.loop-n.crossed c.loop-n.n _ ∙ same;
       done = rw (p, l, z)
-          (below_set (λ k v. v ≡ (number_at c.args.row.now k *ℤ number_at c.args.pivot.now.numbers.now c.args.pivot.now.p) -ℤ (number_at c.args.pivot.now.numbers.now k *ℤ number_at c.args.row.now c.args.pivot.now.p))
+          (below_set (λ k v. v ≡ (number_at c.args.row.now k *ℤ number_at c.args.pivot.now.numbers.now c.args.pivot.now.p)
+          -ℤ (number_at c.args.pivot.now.numbers.now k *ℤ number_at c.args.row.now c.args.pivot.now.p))
           c.loop-n.crossed c.loop-n.n c.short_term.result lt done is);
       in_range = rw z (below_set (λ k v. InRange v) c.loop-n.crossed c.loop-n.n c.short_term.result lt c.loop-n.invariant.in_range c.short_term.ensures.in_range);
     }

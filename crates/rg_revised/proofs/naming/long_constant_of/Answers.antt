@@ -67,7 +67,8 @@ add_long_product-sum-requires-in-loop-k c =
       to_z-of_z w64 (number_at c.args.coeffs.now (get_or c.args.named.now c.loop-k.k 0)) short,
       to_z-of_z w64 (number_at c.args.constants.now (get_or c.args.named.now c.loop-k.k 0)) fx,
     )
-    (next_in_range norm most c.args.coeffs.now c.args.constants.now c.args.constant c.args.d c.args.named.now small c.requires.named c.requires.columns within dw c.loop-k.k _ c.loop-k-test.true before)
+    (next_in_range norm most c.args.coeffs.now c.args.constants.now c.args.constant c.args.d c.args.named.now small c.requires.named
+    c.requires.columns within dw c.loop-k.k _ c.loop-k-test.true before)
 
 pub loop-k-preserved : goal.loop-k-preserved
 loop-k-preserved c =

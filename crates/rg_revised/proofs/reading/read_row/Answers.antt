@@ -110,5 +110,6 @@ returns c =
       to_z-of_z w64
           (number_at c.loop-t.numbers (length c.loop-t.numbers - 1)) fx,
     ) at c.add_product.ensures in
-    rw (to_z-of_z w64 c.add_product.result fz) (read_whole (length c.args.numbers.now) c.args.coeffs.now c.args.constant c.args.table.now c.args.d c.loop-t.numbers c.add_product.result same (omega arith)
+    rw (to_z-of_z w64 c.add_product.result fz)
+    (read_whole (length c.args.numbers.now) c.args.coeffs.now c.args.constant c.args.table.now c.args.d c.loop-t.numbers c.add_product.result same (omega arith)
     (λ s lt. c.loop-t.invariant.sums s lt ∙ ap (λ n. column_sum (length c.args.numbers.now) c.args.coeffs.now c.args.table.now n s) end) is)

@@ -52,6 +52,7 @@ returns c =
     let is = rw l at c.with_sign.ensures.value in
     let small = rw m at c.with_sign.ensures.within in
     record {
-      renewed = λ yes. rw z (renewed_row c.args.pivot.now c.args.row.now c.loop-n.row c.args.p c.args.negative c.args.d.value (unsigned_abs c.args.most) c.with_sign.result c.loop-n.invariant.same_length
+      renewed = λ yes. rw z (renewed_row c.args.pivot.now c.args.row.now c.loop-n.row c.args.p c.args.negative c.args.d.value
+          (unsigned_abs c.args.most) c.with_sign.result c.loop-n.invariant.same_length
           c.requires.index (λ k lt. done k (omega arith)) within is small);
     }

@@ -27,7 +27,10 @@ exchange-requires c =
     let read = all refl system members c.args.i is row in
     let yes : c.fails_at.result ≡ true = search rules in
     rw c.columns.ensures
-    (record { relation = can_exchange system members _ c.args.i row.inside read.whole read.relation (read.fails (test.0 yes)) c.args.stack.now _ c.in-Some.ensures.is (c.if-not-read.ensures.short refl) })
+    (record {
+      relation = can_exchange system members _ c.args.i row.inside read.whole read.relation
+          (read.fails (test.0 yes)) c.args.stack.now _ c.in-Some.ensures.is (c.if-not-read.ensures.short refl);
+    })
 
 pub returns-then-not-fails_at-clause-told : goal.returns-then-not-fails_at-clause-told
 returns-then-not-fails_at-clause-told c = λ system members is row.

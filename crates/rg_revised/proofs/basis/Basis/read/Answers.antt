@@ -19,7 +19,7 @@ read_row-requires c =
     rw (c.deref.ensures.value, c.deref-2.ensures.value, to_z-of_z w64 c.self.inside.d fd, to_z-of_z w128 c.args.constant fk, width) (record {
       columns = read_each _ _ _ r;
       width = refl;
-      size = c.self.invariant.size;
+      size = c.self.invariant.shape.size;
       own = own_rows r.system r.members _ r.most r.small;
       small = (norm, r.most, is, r.small.within, r.small.d_within);
     })

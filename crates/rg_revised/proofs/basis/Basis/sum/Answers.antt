@@ -24,7 +24,7 @@ sum_row-requires c =
     let each = r.row.each ∙ sym r.small.held.count in
     rw (d, back c.self.inside.d (short_in_range c.self.inside.d fd), rest, c.deref.ensures.value, to_z-of_z w64 c.self.inside.d fd, to_z-of_z w128 c.args.constant fk) (record {
       width = omega arith;
-      size = c.self.invariant.size ∙ ap (λ n. n * (length c.self.inside.slots.items + 1)) (sym each);
+      size = c.self.invariant.shape.size ∙ ap (λ n. n * (length c.self.inside.slots.items + 1)) (sym each);
       small = (
         r.norm,
         r.most,
@@ -41,7 +41,8 @@ returns-clause-sums c =
     let width = c.requires.width ∙ ap (λ (b : BasisState). length b.slots + 2) (sym c.self.view_is) in
     let d = c.from.ensures ∙ to_z-of_z w64 c.self.inside.d fd in
     let rest = length-rest c.args.sums.now c.self.inside.d (length c.self.inside.slots.items + 1) (omega (arith, width)) in
-    let read = rw (d, back c.self.inside.d (short_in_range c.self.inside.d fd), rest, c.deref.ensures.value, to_z-of_z w64 c.self.inside.d fd, to_z-of_z w128 c.args.constant fk) at c.sum_row.ensures.read in
+    let read = rw (d, back c.self.inside.d (short_in_range c.self.inside.d fd), rest, c.deref.ensures.value, to_z-of_z w64 c.self.inside.d fd, to_z-of_z w128 c.args.constant fk) at
+    c.sum_row.ensures.read in
     rw (d, back c.self.inside.d (short_in_range c.self.inside.d fd)) (
       c.sum_row.new.sums,
       headed c.args.sums.now c.sum_row.new.sums c.self.inside.d (length (set c.args.sums.now 0 c.self.inside.d) - 1) (omega (arith, width, read.same_length))
@@ -57,7 +58,8 @@ returns-clause-in_range c =
     let width = c.requires.width ∙ ap (λ (b : BasisState). length b.slots + 2) (sym c.self.view_is) in
     let d = c.from.ensures ∙ to_z-of_z w64 c.self.inside.d fd in
     let rest = length-rest c.args.sums.now c.self.inside.d (length c.self.inside.slots.items + 1) (omega (arith, width)) in
-    let read = rw (d, back c.self.inside.d (short_in_range c.self.inside.d fd), rest, c.deref.ensures.value, to_z-of_z w64 c.self.inside.d fd, to_z-of_z w128 c.args.constant fk) at c.sum_row.ensures.read in
+    let read = rw (d, back c.self.inside.d (short_in_range c.self.inside.d fd), rest, c.deref.ensures.value, to_z-of_z w64 c.self.inside.d fd, to_z-of_z w128 c.args.constant fk) at
+    c.sum_row.ensures.read in
     let range = rw (d, back c.self.inside.d (short_in_range c.self.inside.d fd), rest) at c.sum_row.ensures.in_range in
     let is = headed c.args.sums.now c.sum_row.new.sums c.self.inside.d (length (set c.args.sums.now 0 c.self.inside.d) - 1) (omega (arith, width, read.same_length))
     (let n = length-set c.args.sums.now 0 c.self.inside.d in omega (arith, width, read.same_length)) in

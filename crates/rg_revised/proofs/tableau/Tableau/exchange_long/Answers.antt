@@ -19,7 +19,8 @@ returns-clause-exchanged c =
     let fits = rw (to_z-of_z w64 c.largest_size-largest.result fl) at c.if-not-fits_exchange.ensures in
     let exchange = rw (to_z-of_z w64 c.self.inside.over fo, c.deref_mut.ensures.value) at c.if-not-exchange_long.ensures.exchanged in
     rw (to_z-of_z w64 c.largest-self-inside.result fm, ← c.self.view_is)
-    (λ yes. long_exchange _ c.self.inside.numbers.items c.args.p c.args.variable c.exchange_long.new.self c.largest_size-largest.result c.largest-self-inside.result long d within (fits refl) (exchange refl) (record {
+    (λ yes. long_exchange _ c.self.inside.numbers.items c.args.p c.args.variable c.exchange_long.new.self c.largest_size-largest.result
+    c.largest-self-inside.result long d within (fits refl) (exchange refl) (record {
       d = c.largest-self-inside.ensures.d;
       within = c.largest-self-inside.ensures.within;
       positive = c.largest-self-inside.ensures.positive;
