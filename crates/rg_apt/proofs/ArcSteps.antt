@@ -241,7 +241,11 @@ module _ (d : Declared) (before : List ArcNames) (x : ArcNames) (draft : Draft) 
       let to_new : (y : ArcNames) (c : Arc) → IsArcOfNames draft y c → IsArcOfNames new y c =
       λ y c n. record { from = ap (λ l. slice_get l c.from) states ∙ n.from; label = ap (λ l. slice_get l c.label) labels ∙ n.label; to = ap (λ l. slice_get l c.to) states ∙ n.to } in
       let to_old : (y : ArcNames) (c : Arc) → IsArcOfNames new y c → IsArcOfNames draft y c =
-      λ y c n. record { from = ap (λ l. slice_get l c.from) (sym states) ∙ n.from; label = ap (λ l. slice_get l c.label) (sym labels) ∙ n.label; to = ap (λ l. slice_get l c.to) (sym states) ∙ n.to } in (
+      λ y c n. record {
+        from = ap (λ l. slice_get l c.from) (sym states) ∙ n.from;
+        label = ap (λ l. slice_get l c.label) (sym labels) ∙ n.label;
+        to = ap (λ l. slice_get l c.to) (sym states) ∙ n.to;
+      } in (
         arc_fine has formed within,
         record {
           state_names = states ∙ h.state_names;

@@ -89,7 +89,8 @@ pub state_fresh : IsFresh (λ (e : StateEntry). e.name.text) state_fault
 state_fresh before x none = by (list_any (λ (b : StateEntry). same_text x.name b.name) before) refl none
   where
     by : (t : Bool) → list_any (λ (b : StateEntry). same_text x.name b.name) before ≡ t
-        → cond t (Some (TwiceState x.name.at)) (cond (nat_le most_states (length before)) (Some (TooManyStates x.name.at)) (cond (x.initial && list_any (λ (b : StateEntry). b.initial) before) (Some (TwoInitial x.name.at)) None)) ≡ None
+        → cond t (Some (TwiceState x.name.at)) (cond (nat_le most_states (length before)) (Some (TooManyStates x.name.at))
+        (cond (x.initial && list_any (λ (b : StateEntry). b.initial) before) (Some (TwoInitial x.name.at)) None)) ≡ None
         → list_any (λ (b : StateEntry). same_text x.name b.name) before ≡ false
     by true e none = absurd cc
     by false e none = e

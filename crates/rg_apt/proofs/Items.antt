@@ -73,7 +73,8 @@ item_moves b d (item.arcs ts) xs is =
     (same_declared found made (or_false d.typed) (sym (append-nil d.states)) (sym (append-nil d.labels)) refl)
 item_moves b d item.other xs is =
     let made = with_item item.other d in
-    word_moves system_grammar after_word b (section, section_begins) passed_text d d made is.0 (is.1 ∷ []) xs is.2.kind (other_word is.0 is.2) (kind_step passed_text section d d is.1 Text is.3 refl refl) is.4
+    word_moves system_grammar after_word b (section, section_begins) passed_text d d made is.0 (is.1 ∷ []) xs is.2.kind (other_word is.0 is.2)
+    (kind_step passed_text section d d is.1 Text is.3 refl refl) is.4
     (same_declared d made (or_false d.typed) (sym (append-nil d.states)) (sym (append-nil d.labels)) (sym (append-nil d.arcs)))
 
 all_items : (is : List Item) (d : Declared) → take_all with_item is d ≡ with_items is d

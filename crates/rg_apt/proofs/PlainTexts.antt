@@ -56,21 +56,22 @@ MarkThen P = Then LeftBracket (codes "[") (Then Name (codes "initial") (Then Rig
 
 marked_then : (initial s : ℕ) (name : List ℕ) (names : List (List ℕ)) (P : List Lexeme → Type 0) (xs : List Lexeme) → eqb s initial ≡ true
     → Then Name name (MarkThen (StatesThen initial (s + 1) names P)) xs → StatesThen initial s (name ∷ names) P xs
-marked_then initial s name names P xs e (x, after_x, kind, text, (left, after_left, left_kind, left_text, (key, after_key, key_kind, key_text, (right, more, right_kind, right_text, then, whole₄), whole₃), whole₂), whole₁) = record {
-  entries = record { name = x; settings = alone key ∷ [] } ∷ then.entries;
-  front = x ∷ left ∷ key ∷ right ∷ then.front;
-  others = then.others;
-  are = (
-    x ∷ left ∷ key ∷ right ∷ [],
-    then.front,
-    (kind, (left ∷ key ∷ right ∷ [], inl (left, key ∷ [], right, left_kind, (key_kind, refl), right_kind, refl), refl)),
-    then.are,
-    refl,
-  );
-  states = (text, ap (λ t. bytes_eq t (codes "initial") || false) key_text ∙ sym e, then.states);
-  rest = then.rest;
-  whole = whole₁ ∙ ap (λ l. x ∷ l) (whole₂ ∙ ap (λ l. left ∷ l) (whole₃ ∙ ap (λ l. key ∷ l) (whole₄ ∙ ap (λ l. right ∷ l) then.whole)));
-}
+marked_then initial s name names P xs e
+    (x, after_x, kind, text, (left, after_left, left_kind, left_text, (key, after_key, key_kind, key_text, (right, more, right_kind, right_text, then, whole₄), whole₃), whole₂), whole₁) = record {
+      entries = record { name = x; settings = alone key ∷ [] } ∷ then.entries;
+      front = x ∷ left ∷ key ∷ right ∷ then.front;
+      others = then.others;
+      are = (
+        x ∷ left ∷ key ∷ right ∷ [],
+        then.front,
+        (kind, (left ∷ key ∷ right ∷ [], inl (left, key ∷ [], right, left_kind, (key_kind, refl), right_kind, refl), refl)),
+        then.are,
+        refl,
+      );
+      states = (text, ap (λ t. bytes_eq t (codes "initial") || false) key_text ∙ sym e, then.states);
+      rest = then.rest;
+      whole = whole₁ ∙ ap (λ l. x ∷ l) (whole₂ ∙ ap (λ l. left ∷ l) (whole₃ ∙ ap (λ l. key ∷ l) (whole₄ ∙ ap (λ l. right ∷ l) then.whole)));
+    }
 
 initial_name : IsName (codes "initial")
 initial_name = literal_name (codes "initial") (omega arith) (omega arith) refl

@@ -27,7 +27,8 @@ module _ (lts : System) (kept : List Place) where
   between_both a b c h k = record { none = λ problem left. k.none problem (left.0, h.none problem left) }
 
   -- the first one from a later bound
-  pub first_behind : (a b : Problem) (problem : Problem) → ((q : Problem) → ComesBefore q a → ComesBefore q b) → NoneBetween lts kept a b → IsFirstFrom lts kept b problem → IsFirstFrom lts kept a problem
+  pub first_behind : (a b : Problem) (problem : Problem) → ((q : Problem) → ComesBefore q a → ComesBefore q b) → NoneBetween lts kept a b
+      → IsFirstFrom lts kept b problem → IsFirstFrom lts kept a problem
   first_behind a b problem later h f = record { first = ((f.first.0.0, λ less. f.first.0.1 (later problem less)), λ earlier less left. f.first.1 earlier less (left.0, h.none earlier left)) }
 
   -- one event less
@@ -64,7 +65,8 @@ module _ (lts : System) (kept : List Place) where
 
 -- ---- a block
 
-pub block_more : (lts : System) (kept : List Place) (last : Option Problem) (block : List Problem) (q : Problem) → IsBlock lts kept last block → IsNext lts kept (last_of last block) q → IsBlock lts kept last (block ++ q ∷ [])
+pub block_more : (lts : System) (kept : List Place) (last : Option Problem) (block : List Problem) (q : Problem) → IsBlock lts kept last block
+    → IsNext lts kept (last_of last block) q → IsBlock lts kept last (block ++ q ∷ [])
 block_more lts kept last [] q is next = (next, tt)
 block_more lts kept last (p ∷ block) q is next = (is.0, block_more lts kept (Some p) block q is.1 next)
 

@@ -35,7 +35,8 @@ rank_below : (lts : System) (q : Problem) → IsProblem lts q → rank lts (Some
 rank_below lts (Event s t) is = let m = more_rows s (states lts) (labels lts) t 0 is.0 is.1 in omega arith
 rank_below lts (States s t) is = let b = is.0 in let c = is.1 in let m = more_rows s (states lts) (states lts) t 0 (omega arith) is.1 in omega arith
 
-pub behind_rises : (lts : System) (last : Option Problem) (q : Problem) → IfSome last (IsProblem lts) → IsProblem lts q → IsBehind last q → top_rank lts - rank lts (Some q) < top_rank lts - rank lts last
+pub behind_rises : (lts : System) (last : Option Problem) (q : Problem) → IfSome last (IsProblem lts) → IsProblem lts q → IsBehind last q
+    → top_rank lts - rank lts (Some q) < top_rank lts - rank lts last
 behind_rises lts None q is is' behind = let m = rank_below lts q is' in let o = some_rank q in omega arith
   where
     some_rank : (q : Problem) → 0 < rank lts (Some q)

@@ -15,28 +15,44 @@ use Rattle.rg_outcome.proofs.Existing.{all_separated_at, shows_its_term}
 use Rattle.rg_blocks.specs.declared.separation.SeparationOutcome.TheVariants as outcome
 use Rattle.rg_blocks.specs.Separating.{LeadsTo, EndsAll, FindsRefuted, EachPlaceSeparates, IsSeparationOutcome}
 
-pub block_leads : (lts : System) (comes : Problem → Solved → Type 0) (before now after : List Place) (last end : Option Problem) (problems : List Problem) → LeadsTo lts comes before now last → IsBlock lts now last problems → last_of last problems ≡ end
+pub block_leads : (lts : System) (comes : Problem → Solved → Type 0) (before now after : List Place) (last end : Option Problem)
+    (problems : List Problem) → LeadsTo lts comes before now last → IsBlock lts now last problems → last_of last problems ≡ end
     → TakenOver lts comes now problems (kept_places after) → LeadsTo lts comes before after end
-block_leads lts comes before now after last end problems leads is e taken = record { leads = λ o d. leads.leads o (taken_over lts comes now now last problems (kept_places after) (λ q sep. sep) is taken o (subst (λ x. ComesFrom lts comes x after o) (sym e) d)) }
+block_leads lts comes before now after last end problems leads is e taken =
+    record {
+      leads = λ o d. leads.leads o (taken_over lts comes now now last problems (kept_places after) (λ q sep. sep) is taken o
+          (subst (λ x. ComesFrom lts comes x after o) (sym e) d));
+    }
 
-pub block_ends : (lts : System) (comes : Problem → Solved → Type 0) (before now : List Place) (last : Option Problem) (problems : List Problem) (q : Problem) → LeadsTo lts comes before now last → IsBlock lts now last problems
+pub block_ends : (lts : System) (comes : Problem → Solved → Type 0) (before now : List Place) (last : Option Problem) (problems : List Problem)
+    (q : Problem) → LeadsTo lts comes before now last → IsBlock lts now last problems
     → ((trees : List Tree) × TakenOver lts comes now problems (refuted_one q trees)) → (trees : List Tree) × ComesFrom lts comes None before (unsolvable q trees)
-block_ends lts comes before now last problems q leads is (trees, taken) = (trees, leads.leads (unsolvable q trees) (taken_over lts comes now now last problems (refuted_one q trees) (λ q sep. sep) is taken))
+block_ends lts comes before now last problems q leads is (trees, taken) =
+    (trees, leads.leads (unsolvable q trees) (taken_over lts comes now now last problems (refuted_one q trees) (λ q sep. sep) is taken))
 
-pub block_sound : (lts : System) (comes : Problem → Solved → Type 0) (now after : List Place) (last end : Option Problem) (problems : List Problem) → IsAllReachable lts → EachPlaceSeparates lts comes → IsSound lts comes last now → IsBlock lts now last problems → last_of last problems ≡ end
+pub block_sound : (lts : System) (comes : Problem → Solved → Type 0) (now after : List Place) (last end : Option Problem) (problems : List Problem)
+    → IsAllReachable lts → EachPlaceSeparates lts comes → IsSound lts comes last now → IsBlock lts now last problems → last_of last problems ≡ end
     → TakenOver lts comes now problems (kept_places after) → IsSound lts comes end after
-block_sound lts comes now after last end problems reachable right sound is e taken = subst (λ x. IsSound lts comes x after) e (sound_after lts comes reachable right.separate now now last problems (kept_places after) (λ q sep. sep) is taken sound)
+block_sound lts comes now after last end problems reachable right sound is e taken =
+    subst (λ x. IsSound lts comes x after) e (sound_after lts comes reachable right.separate now now last problems (kept_places after) (λ q sep. sep) is taken sound)
 
 -- ---- the end
 
 -- a refuted problem that ends all is of the system, and comes to its trees
-pub refuted_has : (lts : System) (comes : Problem → Solved → Type 0) (last : Option Problem) (kept : List Place) (q : Problem) (trees : List Tree) → ComesFrom lts comes last kept (unsolvable q trees) → IsProblem lts q × comes q (refuted trees)
+pub refuted_has : (lts : System) (comes : Problem → Solved → Type 0) (last : Option Problem) (kept : List Place) (q : Problem) (trees : List Tree)
+    → ComesFrom lts comes last kept (unsolvable q trees) → IsProblem lts q × comes q (refuted trees)
 refuted_has lts comes last kept q trees (keeps problem p is has d) = refuted_has lts comes (Some problem) (kept ++ p ∷ []) q trees d
 refuted_has lts comes last kept q trees (goes_on problem w is has d) = refuted_has lts comes (Some problem) kept q trees d
 refuted_has lts comes last kept q trees (ends problem all is has) = (is.0.0.0, has)
 
-pub ends_refuted : (lts : System) (comes : Problem → Solved → Type 0) (before after : List Place) (q : Problem) → before ≡ [] → EndsAll lts comes before after (Some q) → IsSeparationOutcome lts comes after (outcome.Unsolvable q)
-ends_refuted lts comes before after q none (trees, d) = record { o = unsolvable q trees; comes_to = subst (λ xs. ComesFrom lts comes None xs (unsolvable q trees)) none d; shows = (refl, (refuted_has lts comes None before q trees d).0, (refuted_has lts comes None before q trees d).1) }
+pub ends_refuted : (lts : System) (comes : Problem → Solved → Type 0) (before after : List Place) (q : Problem) → before ≡ []
+    → EndsAll lts comes before after (Some q) → IsSeparationOutcome lts comes after (outcome.Unsolvable q)
+ends_refuted lts comes before after q none (trees, d) =
+    record {
+      o = unsolvable q trees;
+      comes_to = subst (λ xs. ComesFrom lts comes None xs (unsolvable q trees)) none d;
+      shows = (refl, (refuted_has lts comes None before q trees d).0, (refuted_has lts comes None before q trees d).1);
+    }
 
 -- no problem is refuted: the places separate all, or some one is left and shows its term
 pub ends_otherwise : (lts : System) (comes : Problem → Solved → Type 0) (before after : List Place) → IsAllReachable lts → EndsAll lts comes before after None → FindsRefuted lts comes before None
@@ -50,7 +66,8 @@ ends_otherwise lts comes before after reachable (last, done, leads, sound) =
     go (inr none) = (places after, leads.leads (places after) (all_separated (all_separated_at lts comes reachable after sound.regions none)), λ refusal. refusal)
 
 -- what the end of a search says of refuted problems
-pub ends_find : (lts : System) (comes : Problem → Solved → Type 0) (before after : List Place) (end : Option Problem) → IsAllReachable lts → EndsAll lts comes before after end → FindsRefuted lts comes before end
+pub ends_find : (lts : System) (comes : Problem → Solved → Type 0) (before after : List Place) (end : Option Problem) → IsAllReachable lts
+    → EndsAll lts comes before after end → FindsRefuted lts comes before end
 ends_find lts comes before after (Some q) reachable h = h
 ends_find lts comes before after None reachable h = ends_otherwise lts comes before after reachable h
 
@@ -63,7 +80,8 @@ ends_ok_find lts comes before after (Err e) reachable h = tt
 pub sound_from : (lts : System) (comes : Problem → Solved → Type 0) (kept : List Place) → All (IsRegion lts) kept → IsSound lts comes None kept
 sound_from lts comes kept regions = record { over = λ problem is not_behind. absurd (not_behind tt); regions = regions }
 
-pub ends_left : (lts : System) (comes : Problem → Solved → Type 0) (before after : List Place) (q : Problem) → before ≡ [] → IsAllReachable lts → EndsAll lts comes before after None → IsNext lts after None q → IsSeparationOutcome lts comes after (outcome.TooWide q)
+pub ends_left : (lts : System) (comes : Problem → Solved → Type 0) (before after : List Place) (q : Problem) → before ≡ [] → IsAllReachable lts
+    → EndsAll lts comes before after None → IsNext lts after None q → IsSeparationOutcome lts comes after (outcome.TooWide q)
 ends_left lts comes before after q none reachable (last, done, leads, sound) next =
     let first : IsFirstProblem (IsLeft lts after) q = (next.0.0, λ earlier less left. next.1 earlier less (left, tt)) in
     let (w, has) = shows_its_term lts comes reachable last after q sound done next.0.0 in
@@ -73,7 +91,8 @@ ends_left lts comes before after q none reachable (last, done, leads, sound) nex
       shows = (first, has);
     }
 
-pub ends_separated : (lts : System) (comes : Problem → Solved → Type 0) (before after : List Place) → before ≡ [] → IsAllReachable lts → EndsAll lts comes before after None → IsDone lts after None → IsSeparationOutcome lts comes after outcome.Separated
+pub ends_separated : (lts : System) (comes : Problem → Solved → Type 0) (before after : List Place) → before ≡ [] → IsAllReachable lts
+    → EndsAll lts comes before after None → IsDone lts after None → IsSeparationOutcome lts comes after outcome.Separated
 ends_separated lts comes before after none reachable (last, done, leads, sound) all =
     let separate = all_separated_at lts comes reachable after sound.regions (λ q left. all q tt left) in
     record {

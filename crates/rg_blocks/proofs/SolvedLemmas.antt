@@ -17,7 +17,8 @@ use Rattle.rg_outcome.proofs.BlockLemmas.{behind_too}
 use Rattle.rg_blocks.specs.declared.solving.SolvedProblem.{SolvedProblem}
 use Rattle.rg_blocks.specs.Taking.{IsSolvedBy, problems_of}
 
-same_list : (problems : List Problem) (xs : List SolvedProblem) → length xs ≡ length problems → ((i : ℕ) (x : SolvedProblem) → slice_get xs i ≡ Some x → slice_get problems i ≡ Some x.problem) → problems_of xs ≡ problems
+same_list : (problems : List Problem) (xs : List SolvedProblem) → length xs ≡ length problems
+    → ((i : ℕ) (x : SolvedProblem) → slice_get xs i ≡ Some x → slice_get problems i ≡ Some x.problem) → problems_of xs ≡ problems
 same_list [] [] e each = refl
 same_list [] (x ∷ xs) e each = absurd (omega arith)
 same_list (p ∷ problems) [] e each = absurd (omega arith)
@@ -25,7 +26,9 @@ same_list (p ∷ problems) (x ∷ xs) e each = ap₂ ◌∷◌ (sym (same_Some p
 
 pub same_problems : {E V : Type 0} (items : V → List SolvedProblem) (problems : List Problem) (comes : Problem → Solved → Type 0) (makes : RegionPlace → Type 0) (r : Result V E)
     → IfOk r (λ v. AreAnswers (λ i s. (slice_get problems i ≡ Some s.problem) × IsSolvedBy comes makes s) 0 (length problems - 0) (items v)) → IfOk r (λ v. problems_of (items v) ≡ problems)
-same_problems items problems comes makes (Ok v) are = same_list problems (items v) (let e = are.one_each in omega arith) (λ i x at. (let e : 0 + i ≡ i = omega arith in subst (λ k. slice_get problems k ≡ Some x.problem) e (are.each i x at).0))
+same_problems items problems comes makes (Ok v) are =
+    same_list problems (items v) (let e = are.one_each in omega arith)
+    (λ i x at. (let e : 0 + i ≡ i = omega arith in subst (λ k. slice_get problems k ≡ Some x.problem) e (are.each i x at).0))
 same_problems items problems comes makes (Err e) are = are
 
 pub all_solved : {E V : Type 0} (items : V → List SolvedProblem) (problems : List Problem) (comes : Problem → Solved → Type 0) (makes : RegionPlace → Type 0) (r : Result V E)
@@ -62,7 +65,8 @@ end_of lts kept last (p ∷ q ∷ block) d is some =
     let same : get_or (q ∷ block) (length (q ∷ block) - 1) d ≡ get_or (p ∷ q ∷ block) (length (p ∷ q ∷ block) - 1) d = ap (λ k. get_or (p ∷ q ∷ block) k d) place' in
     (e ∙ ap Some same, subst (IsProblem lts) same has, subst (IsBehind last) same (behind_too last p _ is.0.0.1 behind))
 
-pub end_is : (lts : System) (kept : List Place) (last : Option Problem) (block : List Problem) (x : Problem) (n : ℕ) → IsBlock lts kept last block → 0 < length block → n ≡ length block → x ≡ get_or block (n - 1) x
+pub end_is : (lts : System) (kept : List Place) (last : Option Problem) (block : List Problem) (x : Problem) (n : ℕ) → IsBlock lts kept last block
+    → 0 < length block → n ≡ length block → x ≡ get_or block (n - 1) x
     → (last_of last block ≡ Some x) × IsProblem lts x × IsBehind last x
 end_is lts kept last block x n is some e at =
     let (f, has, behind) = end_of lts kept last block x is some in

@@ -1,5 +1,5 @@
 -- Single rows bound a form.
-use Rattle.std.proofs.Common.{◌≡◌, ⊎_elim, refl, ℕ, suc, ◌+◌, ◌^◌, ◌<◌, List, [], ◌∷◌, length, All, ap, subst, sym, ◌∙◌, arith}
+use Rattle.std.proofs.Common.{◌≡◌, ⊎_elim, ℕ, suc, ◌+◌, ◌^◌, ◌<◌, List, [], ◌∷◌, length, All, ap, subst, sym, ◌∙◌, arith}
 use Rattle.std.specs.Prelude.{ℤ, pos, neg_ℤ, ◌+ℤ◌, ◌-ℤ◌, ◌*ℤ◌, ◌≤ℤ◌, ◌<ℤ◌, slice_index_or, FitsSigned}
 use Rattle.std.specs.Int.{w128}
 use Rattle.std.proofs.lemmas.Int.{ints}
@@ -50,12 +50,17 @@ high_of m x c s f h r hm hs hr is most =
 
 -- ---- one form
 
-pub bounded_form : (system : LinearSystem) (before : ℕ) (b : Bounded) (row : ℕ) (times : ℤ) → IsFormOf system before b → IsLow system before b → IsTop system b row times → IsBoundedForm system before b
+pub bounded_form : (system : LinearSystem) (before : ℕ) (b : Bounded) (row : ℕ) (times : ℤ) → IsFormOf system before b → IsLow system before b
+    → IsTop system b row times → IsBoundedForm system before b
 bounded_form system before b row times is low top = record {
   form = is;
   between = λ scale x p meets. (
-    subst (λ z. (b.low *ℤ (b.scale *ℤ scale)) ≤ℤ z) (sym (form_value system before b is scale x p low.row)) (low_of b.times (x (row_variable system (before + b.row))) (row_at system (before + b.row)).constant scale b.scale b.low is.not_negative (meets (before + b.row) low.row) p.positive low.constant),
-    high_of times (scaled_value system (form_of b) x) (row_at system row).constant scale b.scale b.high (x (row_variable system row)) top.positive p.positive (meets row top.within) (p.rows row top.within ∙ ap (λ z. z +ℤ ((row_at system row).constant *ℤ scale)) (turned x)) top.constant,
+    subst (λ z. (b.low *ℤ (b.scale *ℤ scale)) ≤ℤ z) (sym (form_value system before b is scale x p low.row))
+        (low_of b.times (x (row_variable system (before + b.row))) (row_at system (before + b.row)).constant scale b.scale b.low is.not_negative
+        (meets (before + b.row) low.row) p.positive low.constant),
+    high_of times (scaled_value system (form_of b) x) (row_at system row).constant scale b.scale b.high
+        (x (row_variable system row)) top.positive p.positive (meets row top.within)
+        (p.rows row top.within ∙ ap (λ z. z +ℤ ((row_at system row).constant *ℤ scale)) (turned x)) top.constant,
   );
 }
   where
@@ -64,7 +69,8 @@ bounded_form system before b row times is low top = record {
 
     turned : (x : ℕ → ℤ) → sum_below system.columns (λ j. entry system row j *ℤ x j) ≡ neg_ℤ times *ℤ scaled_value system (form_of b) x
     turned x =
-        sum_below-same system.columns _ (λ j. neg_ℤ times *ℤ (slice_index_or (arc_slice_items b.coeffs) j (pos 0) *ℤ x j)) (λ j h. ap (λ z. z *ℤ x j) (top.entries j h) ∙ turn (neg_ℤ times) (slice_index_or (arc_slice_items b.coeffs) j (pos 0)) (x j))
+        sum_below-same system.columns _ (λ j. neg_ℤ times *ℤ (slice_index_or (arc_slice_items b.coeffs) j (pos 0) *ℤ x j))
+        (λ j h. ap (λ z. z *ℤ x j) (top.entries j h) ∙ turn (neg_ℤ times) (slice_index_or (arc_slice_items b.coeffs) j (pos 0)) (x j))
         ∙ sum_below-times system.columns (neg_ℤ times) (λ j. slice_index_or (arc_slice_items b.coeffs) j (pos 0) *ℤ x j)
 
 -- ---- all forms
@@ -74,13 +80,12 @@ pub record AreKnown (system : LinearSystem) (before : ℕ) (forms : List Bounded
   pub bounded : (k : ℕ) (b : Bounded) → k < n → k < length forms → IsBoundedForm system before (slice_index_or forms k b)
   pub sum_is : sum ≡ total n (gap (forms_of forms) [])
 
-pub none_known : (system : LinearSystem) (before : ℕ) (forms : List Bounded) → AreKnown system before forms 0 0
-none_known system before forms = record { bounded = λ k b lt within. absurd (omega arith); sum_is = refl }
-
 gap_is : (h l : ℤ) (n : ℕ) → pos n ≡ h -ℤ l → gap_of (h -ℤ l) ≡ n
 gap_is h l n e = sym (ap gap_of e)
 
-pub one_more_known : (system : LinearSystem) (before : ℕ) (forms : List Bounded) (n sum more : ℕ) (b : Bounded) → n < length forms → b ≡ slice_index_or forms n b → AreKnown system before forms n sum → IsBoundedForm system before b → pos more ≡ b.high -ℤ b.low → AreKnown system before forms (n + 1) (sum + more)
+pub one_more_known : (system : LinearSystem) (before : ℕ) (forms : List Bounded) (n sum more : ℕ) (b : Bounded) → n < length forms
+    → b ≡ slice_index_or forms n b → AreKnown system before forms n sum → IsBoundedForm system before b → pos more ≡ b.high -ℤ b.low
+    → AreKnown system before forms (n + 1) (sum + more)
 one_more_known system before forms n sum more b lt at known is size = record {
   bounded = λ k d below within. ⊎_elim
       (λ e. subst (λ m. IsBoundedForm system before (slice_index_or forms m d)) (sym e) (subst (IsBoundedForm system before) (at ∙ get_or_default forms n b d lt) is))
@@ -98,7 +103,8 @@ one_more_known system before forms n sum more b lt at known is size = record {
         one : (n : ℕ) → n + 1 ≡ suc n
         one n = omega arith
 
-pub all_known : (system : LinearSystem) (before : ℕ) (forms : List Bounded) (sum : ℕ) → AreKnown system before forms (length forms) sum → length forms < 2 ^ 32 → system.columns + length system.rows + sum < 2 ^ 32 → CanBranch system before forms
+pub all_known : (system : LinearSystem) (before : ℕ) (forms : List Bounded) (sum : ℕ) → AreKnown system before forms (length forms) sum
+    → length forms < 2 ^ 32 → system.columns + length system.rows + sum < 2 ^ 32 → CanBranch system before forms
 all_known system before forms sum known few_forms few = record {
   each = λ k b lt. (known.bounded k b lt lt).form;
   bounded = record {

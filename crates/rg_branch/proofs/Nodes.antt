@@ -72,7 +72,8 @@ node_form system before further b is = record {
         same ne = ap (λ (r : LinearRow). t *ℤ slice_index_or r.coeffs j (pos 0)) (sym (first_row system further (before + b.row) (within ne)))
 
         zeros : t ≡ pos 0 → t *ℤ entry system (before + b.row) j ≡ t *ℤ entry (with_rows system further) (before + b.row) j
-        zeros e = ap (λ z. z *ℤ entry system (before + b.row) j) e ∙ zero-*ℤ (entry system (before + b.row) j) ∙ sym (zero-*ℤ (entry (with_rows system further) (before + b.row) j)) ∙ ap (λ z. z *ℤ entry (with_rows system further) (before + b.row) j) (sym e)
+        zeros e = ap (λ z. z *ℤ entry system (before + b.row) j) e ∙ zero-*ℤ (entry system (before + b.row) j)
+            ∙ sym (zero-*ℤ (entry (with_rows system further) (before + b.row) j)) ∙ ap (λ z. z *ℤ entry (with_rows system further) (before + b.row) j) (sym e)
 
 module _ (system : LinearSystem) (before : ℕ) (forms : List Bounded) (above : List SplitSide) (can : CanBranch system before forms) where
   pub forms_at : (members : List ℕ) (relations : Relations) → AreRelationsOf (node_system system (forms_of forms) above) members relations
@@ -90,7 +91,8 @@ module _ (system : LinearSystem) (before : ℕ) (forms : List Bounded) (above : 
   }
     where
       gap_here : (k : ℕ) (b : Bounded) → k < length forms → gap_of ((slice_index_or forms k b).high -ℤ (slice_index_or forms k b).low) ≤ room (forms_of forms) []
-      gap_here k b lt = subst (λ (form : Form). gap_of (form.high -ℤ form.low) ≤ room (forms_of forms) []) (sym (form_here forms k b lt)) (gap_at_most (length (forms_of forms)) k (gap (forms_of forms) []) (subst (λ n. k < n) (sym (length-map forms form_of)) lt))
+      gap_here k b lt = subst (λ (form : Form). gap_of (form.high -ℤ form.low) ≤ room (forms_of forms) []) (sym (form_here forms k b lt))
+          (gap_at_most (length (forms_of forms)) k (gap (forms_of forms) []) (subst (λ n. k < n) (sym (length-map forms form_of)) lt))
 
   pub fraction_told : (members : List ℕ) (f : ℕ) (u : ℤ) → DescentFromStart (node_system system (forms_of forms) above) (point members)
       → IsFeasibleAt (node_system system (forms_of forms) above) members → IsFirstFraction (node_system system (forms_of forms) above) members (forms_of forms) f u
@@ -130,10 +132,12 @@ module _ (system : LinearSystem) (before : ℕ) (forms : List Bounded) (above : 
 -- ---- the rows that code keeps
 
 -- they make the node's system
-pub node_is : (system : LinearSystem) (forms : List Form) (above : List SplitSide) (rows slice : List Row) → slice ≡ rows → map linear_row rows ≡ map (side_row forms) above → with_rows system (map linear_row slice) ≡ node_system system forms above
+pub node_is : (system : LinearSystem) (forms : List Form) (above : List SplitSide) (rows slice : List Row) → slice ≡ rows
+    → map linear_row rows ≡ map (side_row forms) above → with_rows system (map linear_row slice) ≡ node_system system forms above
 node_is system forms above rows slice e are = ap (λ xs. with_rows system xs) (ap (map linear_row) e ∙ are)
 
-pub row_count : (system : LinearSystem) (further : List LinearRow) (split : List Row) (count n : ℕ) → count ≡ length system.rows → map linear_row split ≡ further → n ≡ length split → count + n ≡ length (system.rows ++ further)
+pub row_count : (system : LinearSystem) (further : List LinearRow) (split : List Row) (count n : ℕ) → count ≡ length system.rows
+    → map linear_row split ≡ further → n ≡ length split → count + n ≡ length (system.rows ++ further)
 row_count system further split count n own behind is =
     let b = length-map split linear_row in
     let c = length-append system.rows further in
@@ -163,20 +167,24 @@ test_zero z e = ap (λ x. int_lt x (pos 0) || int_lt (pos 0) x) e
 test_other : (z : ℤ) → z ≢ pos 0 → (int_lt z (pos 0) || int_lt (pos 0) z) ≡ true
 test_other z ne = grind (arith, ints)
 
-from_next : (m : ℕ → ℤ) (row k : ℕ) (xs : List Weight) (b : Bool) → (int_lt (m row) (pos 0) || int_lt (pos 0) (m row)) ≡ b → (if b then (record { row = row; multiplier = m row } ∷ weights_from m (suc row) k) else weights_from m (suc row) k) ≡ xs → weights_from m row (suc k) ≡ xs
+from_next : (m : ℕ → ℤ) (row k : ℕ) (xs : List Weight) (b : Bool) → (int_lt (m row) (pos 0) || int_lt (pos 0) (m row)) ≡ b
+    → (if b then (record { row = row; multiplier = m row } ∷ weights_from m (suc row) k) else weights_from m (suc row) k) ≡ xs → weights_from m row (suc k) ≡ xs
 from_next m row k xs b e is = ap (λ x. if x then (record { row = row; multiplier = m row } ∷ weights_from m (suc row) k) else weights_from m (suc row) k) e ∙ is
 
 next_count : (row rows : ℕ) → row < rows → rows - row ≡ suc (rows - (row + 1))
 next_count row rows lt = omega arith
 
 pub weights_skip : (m : ℕ → ℤ) (row rows : ℕ) → row < rows → m row ≡ pos 0 → weights_from m row (rows - row) ≡ weights_from m (row + 1) (rows - (row + 1))
-weights_skip m row rows lt e = ap (weights_from m row) (next_count row rows lt) ∙ from_next m row (rows - (row + 1)) _ false (test_zero (m row) e) (ap (λ n. weights_from m n (rows - (row + 1))) (one row))
+weights_skip m row rows lt e = ap (weights_from m row) (next_count row rows lt)
+    ∙ from_next m row (rows - (row + 1)) _ false (test_zero (m row) e) (ap (λ n. weights_from m n (rows - (row + 1))) (one row))
   where
     one : (n : ℕ) → suc n ≡ n + 1
     one n = omega arith
 
 pub weights_take : (m : ℕ → ℤ) (row rows : ℕ) → row < rows → m row ≢ pos 0 → weights_from m row (rows - row) ≡ record { row = row; multiplier = m row } ∷ weights_from m (row + 1) (rows - (row + 1))
-weights_take m row rows lt ne = ap (weights_from m row) (next_count row rows lt) ∙ from_next m row (rows - (row + 1)) _ true (test_other (m row) ne) (ap (λ n. record { row = row; multiplier = m row } ∷ weights_from m n (rows - (row + 1))) (one row))
+weights_take m row rows lt ne = ap (weights_from m row) (next_count row rows lt)
+    ∙ from_next m row (rows - (row + 1)) _ true (test_other (m row) ne)
+    (ap (λ n. record { row = row; multiplier = m row } ∷ weights_from m n (rows - (row + 1))) (one row))
   where
     one : (n : ℕ) → suc n ≡ n + 1
     one n = omega arith

@@ -53,7 +53,8 @@ WayStands system forms (s ∷ way) = StepStands system forms (sides_on way) s ×
 -- ---- the outcome at the root
 
 -- an end is that of the whole
-pub end_up : (system : LinearSystem) (forms : List Form) (way : List Step) (o : BranchOutcome) → IsEnd o → WayStands system forms way → BranchFrom system forms (sides_on way) o → Branching system forms o
+pub end_up : (system : LinearSystem) (forms : List Form) (way : List Step) (o : BranchOutcome) → IsEnd o → WayStands system forms way
+    → BranchFrom system forms (sides_on way) o → Branching system forms o
 end_up system forms [] o end stands b = b
 end_up system forms (goes_low f u ∷ way) o end (s, stands) b = end_up system forms way o end stands (low_ends s.members f u s.outcome s.first b end)
 end_up system forms (goes_high f u t ∷ way) o end ((s, low), stands) b = end_up system forms way o end stands (high_ends s.members f u t s.outcome s.first low b end)
@@ -87,7 +88,8 @@ pub record GoesOn (system : LinearSystem) (forms : List Form) (way : List Step) 
   pub some : 0 < length next
   pub less : work_on forms next ≤ pending_on forms way
 
-pub climb : (system : LinearSystem) (forms : List Form) (way : List Step) (t : SplitTree) → WayStands system forms way → BranchFrom system forms (sides_on way) (tree t) → IsDone system forms way t ⊎ GoesOn system forms way t
+pub climb : (system : LinearSystem) (forms : List Form) (way : List Step) (t : SplitTree) → WayStands system forms way
+    → BranchFrom system forms (sides_on way) (tree t) → IsDone system forms way t ⊎ GoesOn system forms way t
 climb system forms [] t stands b = inl (record { whole = t; outcome = b; nodes = refl; none = refl })
 climb system forms (goes_low f u ∷ way) t (s, stands) b = inr (record {
   next = goes_high f u t ∷ way;
@@ -145,13 +147,15 @@ module _ (system : LinearSystem) (forms : List Form) (bounded : AreBounded syste
   way_within (goes_low f u ∷ way) (s, stands) = within_low system forms (sides_on way) (way_within way stands) f u
   way_within (goes_high f u t ∷ way) ((s, low), stands) = within_high system forms (sides_on way) (way_within way stands) f u
 
-  interval : (way : List Step) (f : ℕ) (u : ℤ) → WayStands system forms way → IsFractionAt system forms (sides_on way) f u → (low_at forms (sides_on way) f ≤ℤ u) × (u <ℤ high_at forms (sides_on way) f)
+  interval : (way : List Step) (f : ℕ) (u : ℤ) → WayStands system forms way → IsFractionAt system forms (sides_on way) f u
+      → (low_at forms (sides_on way) f ≤ℤ u) × (u <ℤ high_at forms (sides_on way) f)
   interval way f u stands s = split_within system forms (sides_on way) s.members f u bounded.positive (way_within way stands) s.outcome s.first
 
   room_low : (way : List Step) (f : ℕ) (u : ℤ) → WayStands system forms way → IsFractionAt system forms (sides_on way) f u → room forms (sides_on way ++ low_side f u ∷ []) < room forms (sides_on way)
   room_low way f u stands s = let i = interval way f u stands s in gap-low forms (sides_on way) f u s.side.form i.0 i.1
 
-  room_high : (way : List Step) (f : ℕ) (u : ℤ) → WayStands system forms way → IsFractionAt system forms (sides_on way) f u → room forms (sides_on way ++ high_side f u ∷ []) < room forms (sides_on way)
+  room_high : (way : List Step) (f : ℕ) (u : ℤ) → WayStands system forms way → IsFractionAt system forms (sides_on way) f u
+      → room forms (sides_on way ++ high_side f u ∷ []) < room forms (sides_on way)
   room_high way f u stands s = let i = interval way f u stands s in gap-high forms (sides_on way) f u s.side.form i.0 i.1
 
   few_sides : (way : List Step) → WayStands system forms way → length (sides_on way) + room forms (sides_on way) < 1 + room forms []
@@ -174,13 +178,16 @@ module _ (system : LinearSystem) (forms : List Form) (bounded : AreBounded syste
   each_side : (way : List Step) → WayStands system forms way → All (IsSideOf forms) (sides_on way)
   each_side [] stands = All-nil (IsSideOf forms)
   each_side (goes_low f u ∷ way) (s, stands) = All-append (IsSideOf forms) (sides_on way) (low_side f u ∷ []) (each_side way stands) (one_side (low_side f u) s.side)
-  each_side (goes_high f u t ∷ way) ((s, low), stands) = All-append (IsSideOf forms) (sides_on way) (high_side f u ∷ []) (each_side way stands) (one_side (high_side f u) (record { form = s.side.form; low = s.side.low; high = s.side.high }))
+  each_side (goes_high f u t ∷ way) ((s, low), stands) =
+      All-append (IsSideOf forms) (sides_on way) (high_side f u ∷ []) (each_side way stands)
+      (one_side (high_side f u) (record { form = s.side.form; low = s.side.low; high = s.side.high }))
 
   pub sides_asked : (way : List Step) → WayStands system forms way → AreSidesOf forms (sides_on way)
   sides_asked way stands = record { each = each_side way stands; few = few_sides way stands }
 
   -- a split leaves less to do
-  pub split_falls : (way : List Step) (f : ℕ) (u : ℤ) → WayStands system forms way → IsFractionAt system forms (sides_on way) f u → work forms (sides_on way ++ low_side f u ∷ []) < work forms (sides_on way)
+  pub split_falls : (way : List Step) (f : ℕ) (u : ℤ) → WayStands system forms way → IsFractionAt system forms (sides_on way) f u
+      → work forms (sides_on way ++ low_side f u ∷ []) < work forms (sides_on way)
   split_falls way f u stands s =
       let a = work_is forms way in
       let b = work_is forms (goes_low f u ∷ way) in
@@ -211,10 +218,12 @@ path_start system forms above nodes e f = record { way = []; sides = e; nodes_ar
 pub path_sides : (system : LinearSystem) (forms : List Form) (above : List SplitSide) (nodes : List TreeNode) → AreBounded system forms → IsPath system forms above nodes → AreSidesOf forms above
 path_sides system forms above nodes bounded p = subst (AreSidesOf forms) (sym p.sides) (sides_asked system forms bounded p.way p.stands)
 
-pub path_stopped : (system : LinearSystem) (forms : List Form) (above : List SplitSide) (nodes : List TreeNode) (w : WideAt) → IsPath system forms above nodes → DescentFromStart (node_system system forms above) (wide w) → Branching system forms (stopped above w)
+pub path_stopped : (system : LinearSystem) (forms : List Form) (above : List SplitSide) (nodes : List TreeNode) (w : WideAt)
+    → IsPath system forms above nodes → DescentFromStart (node_system system forms above) (wide w) → Branching system forms (stopped above w)
 path_stopped system forms above nodes w p d = end_up system forms p.way (stopped above w) tt p.stands (subst (λ xs. BranchFrom system forms xs (stopped above w)) p.sides (passes w d))
 
-pub path_found : (system : LinearSystem) (forms : List Form) (above : List SplitSide) (nodes : List TreeNode) (values : List Fraction) → IsPath system forms above nodes → IsWholePoint system forms above values → IsFoundPoint system forms above values
+pub path_found : (system : LinearSystem) (forms : List Form) (above : List SplitSide) (nodes : List TreeNode) (values : List Fraction)
+    → IsPath system forms above nodes → IsWholePoint system forms above values → IsFoundPoint system forms above values
 path_found system forms above nodes values p w = record {
   members = w.members;
   outcome = end_up system forms p.way (found w.members above) tt p.stands (subst (λ xs. BranchFrom system forms xs (found w.members above)) p.sides (whole w.members w.outcome w.all));
@@ -231,7 +240,8 @@ module _ (system : LinearSystem) (forms : List Form) (above : List SplitSide) (n
   }
 
   pub path_split_falls : (f : ℕ) (u : ℤ) → IsFractionAt system forms above f u → work forms (above ++ low_side f u ∷ []) < work forms above
-  path_split_falls f u s = subst (λ xs. work forms (xs ++ low_side f u ∷ []) < work forms xs) (sym p.sides) (split_falls system forms bounded p.way f u p.stands (subst (λ xs. IsFractionAt system forms xs f u) p.sides s))
+  path_split_falls f u s = subst (λ xs. work forms (xs ++ low_side f u ∷ []) < work forms xs) (sym p.sides)
+      (split_falls system forms bounded p.way f u p.stands (subst (λ xs. IsFractionAt system forms xs f u) p.sides s))
 
 -- behind a leaf the tree is whole
 pub record IsLast (system : LinearSystem) (forms : List Form) (above : List SplitSide) (nodes : List TreeNode) : Type 0 where

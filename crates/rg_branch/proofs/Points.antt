@@ -39,23 +39,33 @@ positive_of z h unless = ⊎_elim (λ less. less) (λ e. absurd (unless e)) (spl
 pub zero_is_whole : (node : LinearSystem) (members : List ℕ) (before : ℕ) (b : Bounded) → IsFormOf node before b → b.times ≡ pos 0 → IsWholeThere node members (form_of b)
 zero_is_whole node members before b is e scale v basic = (pos 0, zero_value node before b is e v ∙ sym (zero-*ℤ (b.scale *ℤ scale)))
 
-module _ (node : LinearSystem) (members : List ℕ) (before : ℕ) (b : Bounded) (is : IsFormOf node before b) (lt : before + b.row < length node.rows) (value : Fraction) (reads : (scale : ℤ) (v : ℕ → ℤ) → IsBasicPoint node members scale v → IsValue value (v (row_variable node (before + b.row))) scale) where
+module _ (node : LinearSystem) (members : List ℕ) (before : ℕ) (b : Bounded) (is : IsFormOf node before b) (lt : before + b.row < length node.rows)
+    (value : Fraction) (reads : (scale : ℤ) (v : ℕ → ℤ) → IsBasicPoint node members scale v → IsValue value (v (row_variable node (before + b.row))) scale) where
   pub reads_low : IsFree node members → IsBetween node members (form_of b) → (b.low *ℤ unit_of b.scale value) ≤ℤ multiplied b.times value (row_at node (before + b.row)).constant
   reads_low free between =
       let (scale, v, point, at_zero) = zero_point_of node members free in
       let basic : IsBasicPoint node members scale v = record { point = point; zero = at_zero } in
-      not_below (numerator_of value) (denominator_of value) (row_at node (before + b.row)).constant b.times b.scale scale (v (row_variable node (before + b.row))) (scaled_value node (form_of b) v) value.positive point.positive (reads scale v basic) (form_value node before b is scale v point lt) b.low (between scale v basic).0
+      not_below (numerator_of value) (denominator_of value) (row_at node (before + b.row)).constant b.times b.scale scale
+      (v (row_variable node (before + b.row))) (scaled_value node (form_of b) v) value.positive point.positive (reads scale v basic)
+      (form_value node before b is scale v point lt) b.low (between scale v basic).0
 
   pub reads_high : IsFree node members → IsBetween node members (form_of b) → multiplied b.times value (row_at node (before + b.row)).constant ≤ℤ (b.high *ℤ unit_of b.scale value)
   reads_high free between =
       let (scale, v, point, at_zero) = zero_point_of node members free in
       let basic : IsBasicPoint node members scale v = record { point = point; zero = at_zero } in
-      not_above (numerator_of value) (denominator_of value) (row_at node (before + b.row)).constant b.times b.scale scale (v (row_variable node (before + b.row))) (scaled_value node (form_of b) v) value.positive point.positive (reads scale v basic) (form_value node before b is scale v point lt) b.high (between scale v basic).1
+      not_above (numerator_of value) (denominator_of value) (row_at node (before + b.row)).constant b.times b.scale scale
+      (v (row_variable node (before + b.row))) (scaled_value node (form_of b) v) value.positive point.positive (reads scale v basic)
+      (form_value node before b is scale v point lt) b.high (between scale v basic).1
 
-  pub reads_floor : (u : ℤ) → (u *ℤ unit_of b.scale value) <ℤ multiplied b.times value (row_at node (before + b.row)).constant → multiplied b.times value (row_at node (before + b.row)).constant <ℤ ((u +ℤ pos 1) *ℤ unit_of b.scale value) → HasFloor node members (form_of b) u
+  pub reads_floor : (u : ℤ) → (u *ℤ unit_of b.scale value) <ℤ multiplied b.times value (row_at node (before + b.row)).constant
+      → multiplied b.times value (row_at node (before + b.row)).constant <ℤ ((u +ℤ pos 1) *ℤ unit_of b.scale value) → HasFloor node members (form_of b) u
   reads_floor u low high scale v basic = (
-    above (numerator_of value) (denominator_of value) (row_at node (before + b.row)).constant b.times b.scale scale (v (row_variable node (before + b.row))) (scaled_value node (form_of b) v) value.positive basic.point.positive (reads scale v basic) (form_value node before b is scale v basic.point lt) u low,
-    below (numerator_of value) (denominator_of value) (row_at node (before + b.row)).constant b.times b.scale scale (v (row_variable node (before + b.row))) (scaled_value node (form_of b) v) value.positive basic.point.positive (reads scale v basic) (form_value node before b is scale v basic.point lt) (u +ℤ pos 1) high,
+    above (numerator_of value) (denominator_of value) (row_at node (before + b.row)).constant b.times b.scale scale
+        (v (row_variable node (before + b.row))) (scaled_value node (form_of b) v) value.positive basic.point.positive (reads scale v basic)
+        (form_value node before b is scale v basic.point lt) u low,
+    below (numerator_of value) (denominator_of value) (row_at node (before + b.row)).constant b.times b.scale scale
+        (v (row_variable node (before + b.row))) (scaled_value node (form_of b) v) value.positive basic.point.positive (reads scale v basic)
+        (form_value node before b is scale v basic.point lt) (u +ℤ pos 1) high,
   )
 
   pub reads_whole : (u : ℤ) → multiplied b.times value (row_at node (before + b.row)).constant ≡ u *ℤ unit_of b.scale value → IsWholeThere node members (form_of b)
@@ -67,7 +77,8 @@ module _ (node : LinearSystem) (members : List ℕ) (before : ℕ) (b : Bounded)
 
 -- ---- the forms in order
 
-pub one_more_whole : (node : LinearSystem) (members : List ℕ) (forms : List Bounded) (n : ℕ) → AreWholeBelow node members (forms_of forms) n → IsWholeThere node members (form_at (forms_of forms) n) → AreWholeBelow node members (forms_of forms) (n + 1)
+pub one_more_whole : (node : LinearSystem) (members : List ℕ) (forms : List Bounded) (n : ℕ) → AreWholeBelow node members (forms_of forms) n
+    → IsWholeThere node members (form_at (forms_of forms) n) → AreWholeBelow node members (forms_of forms) (n + 1)
 one_more_whole node members forms n all here g lt = ⊎_elim (λ e. subst (λ x. IsWholeThere node members (form_at (forms_of forms) x)) (sym e) here) (λ ne. all g (omega arith)) (equal_or_not g n)
 
 -- the form with this number, where the code has read it

@@ -3,7 +3,7 @@ use Rattle.std.proofs.Common.{◌≡◌, ◌⊎◌, inl, inr, ⊎_elim, ℕ, zer
 use Rattle.std.specs.Prelude.{ℤ, pos, neg_ℤ, ◌+ℤ◌, ◌*ℤ◌, ◌≤ℤ◌, ◌<ℤ◌, slice_index_or}
 use Rattle.std.proofs.lemmas.Int.{ints}
 use Rattle.std.proofs.lemmas.Bool.{cases_lt}
-use Rattle.std.proofs.lemmas.List.{get_or_default, length-map, map-append, take-map, take_at, get_or-map, get_or_at, get_or-append_right, reverse-append, reverse-reverse}
+use Rattle.std.proofs.lemmas.List.{length-map, map-append, take-map, take_at, get_or-map, get_or_at, get_or-append_right, reverse-append, reverse-reverse}
 use Rattle.std.specs.Arc.{arc_slice_items}
 use Rattle.rg_integers.specs.Range.{InRange}
 use Rattle.rg_integers.proofs.Ranges.{in_range-neg}
@@ -20,9 +20,6 @@ use Rattle.rg_branch.proofs.Orders.{product_between, high_constant}
 use Rattle.rg_branch.proofs.Points.{form_is}
 
 -- ---- one side
-
-pub coeffs_fit : (system : LinearSystem) (before : ℕ) (b : Bounded) → IsFormOf system before b → All InRange (arc_slice_items b.coeffs)
-coeffs_fit system before b is k d lt = subst InRange (sym (get_or_default (arc_slice_items b.coeffs) k d (pos 0) lt)) (is.coeffs_in_range k (subst (λ n. k < n) is.one_each lt))
 
 -- a row fits: one number a column, and all in range
 record RowFits (columns : ℕ) (row : LinearRow) : Type 0 where
@@ -90,19 +87,23 @@ module _ (system : LinearSystem) (before : ℕ) (forms : List Bounded) (can : Ca
 no_side : SplitSide
 no_side = record { form = 0; at = pos 0; high = false }
 
-module _ (system : LinearSystem) (before : ℕ) (forms : List Bounded) (above : List SplitSide) (can : CanBranch system before forms) (asked : AreSidesOf (forms_of forms) above) (well : IsWellFormed system) where
+module _ (system : LinearSystem) (before : ℕ) (forms : List Bounded) (above : List SplitSide) (can : CanBranch system before forms)
+    (asked : AreSidesOf (forms_of forms) above) (well : IsWellFormed system) where
   count : length (node_system system (forms_of forms) above).rows ≡ length system.rows + length above
   count = length-append system.rows (map (side_row (forms_of forms)) above) ∙ ap (λ n. length system.rows + n) (length-map above (side_row (forms_of forms)))
 
-  behind : (i : ℕ) → length system.rows ≤ i → i - length system.rows < length above → row_at (node_system system (forms_of forms) above) i ≡ side_row (forms_of forms) (slice_index_or above (i - length system.rows) no_side)
+  behind : (i : ℕ) → length system.rows ≤ i → i - length system.rows < length above
+      → row_at (node_system system (forms_of forms) above) i ≡ side_row (forms_of forms) (slice_index_or above (i - length system.rows) no_side)
   behind i past lt =
       get_or-append_right system.rows (map (side_row (forms_of forms)) above) (length system.rows) i (record { coeffs = []; constant = pos 0 }) refl past
       ∙ get_or-map (side_row (forms_of forms)) above (i - length system.rows) no_side (record { coeffs = []; constant = pos 0 }) lt
 
   fits : (i : ℕ) → i < length (node_system system (forms_of forms) above).rows → RowFits system.columns (row_at (node_system system (forms_of forms) above) i)
   fits i lt = ⊎_elim
-      (λ front. subst (RowFits system.columns) (sym (front_row system (forms_of forms) above i front)) (record { one_each = well.one_each i front; coeffs = λ j b. well.coeffs i j front b; constant = well.constants i front }))
-      (λ past. (let k : i - length system.rows < length above = (let c = count in omega arith) in subst (RowFits system.columns) (sym (behind i past k)) (row_fits system before forms can _ (asked.each (i - length system.rows) no_side k))))
+      (λ front. subst (RowFits system.columns) (sym (front_row system (forms_of forms) above i front))
+      (record { one_each = well.one_each i front; coeffs = λ j b. well.coeffs i j front b; constant = well.constants i front }))
+      (λ past. (let k : i - length system.rows < length above = (let c = count in omega arith) in
+      subst (RowFits system.columns) (sym (behind i past k)) (row_fits system before forms can _ (asked.each (i - length system.rows) no_side k))))
       (cases_lt i (length system.rows))
 
   pub rows_well_formed : IsWellFormed (node_system system (forms_of forms) above)
@@ -135,7 +136,8 @@ turns_back : (back : List SplitSide) → (turned_back back ≡ []) ⊎ TurnsBack
 turns_back [] = inl refl
 turns_back (side ∷ outer) = go side.high (λ j. if side.high then turned_back outer else (record side { high = true } ∷ outer)) (turns_back outer)
   where
-    go : (high : Bool) → turned_back (side ∷ outer) ≡ (if high then turned_back outer else (record side { high = true } ∷ outer)) → (turned_back outer ≡ []) ⊎ TurnsBackAt outer → (turned_back (side ∷ outer) ≡ []) ⊎ TurnsBackAt (side ∷ outer)
+    go : (high : Bool) → turned_back (side ∷ outer) ≡ (if high then turned_back outer else (record side { high = true } ∷ outer))
+        → (turned_back outer ≡ []) ⊎ TurnsBackAt outer → (turned_back (side ∷ outer) ≡ []) ⊎ TurnsBackAt (side ∷ outer)
     go false e rest = inr (record { outer = outer; side = side; inner = []; is = refl; turned_is = e })
     go true e (inl none) = inl (e ∙ none)
     go true e (inr at) = inr (record { outer = at.outer; side = at.side; inner = side ∷ at.inner; is = ap (λ xs. side ∷ xs) at.is; turned_is = e ∙ at.turned_is })
@@ -150,7 +152,8 @@ turns above = ⊎_elim
       outer = reverse at.outer;
       side = at.side;
       inner = reverse at.inner;
-      is = sym (reverse-reverse above) ∙ ap reverse at.is ∙ reverse-append at.inner (at.side ∷ at.outer) ∙ ap (λ xs. xs ++ reverse at.inner) (reverse-cons at.side at.outer) ∙ append_assoc (reverse at.outer) (at.side ∷ []) (reverse at.inner);
+      is = sym (reverse-reverse above) ∙ ap reverse at.is ∙ reverse-append at.inner (at.side ∷ at.outer)
+          ∙ ap (λ xs. xs ++ reverse at.inner) (reverse-cons at.side at.outer) ∙ append_assoc (reverse at.outer) (at.side ∷ []) (reverse at.inner);
       turned_is = ap reverse at.turned_is ∙ reverse-cons (record at.side { high = true }) at.outer;
     }))
     (turns_back (reverse above))
@@ -166,7 +169,8 @@ module _ (forms : List Form) (above : List SplitSide) (rows : List Row) (new : L
   turns_at : TurnsAt above → TurnsTo forms rows new last
   turns_at at = record {
     asked = subst (IsSideOf forms) (sym same) (record { form = before.form; low = before.low; high = before.high });
-    rows_are = ap (λ xs. xs ++ side_row forms last ∷ []) outer_rows ∙ sym (map-append (side_row forms) at.outer (last ∷ [])) ∙ ap (λ side. map (side_row forms) (at.outer ++ side ∷ [])) same ∙ ap (map (side_row forms)) (sym (next ∙ at.turned_is));
+    rows_are = ap (λ xs. xs ++ side_row forms last ∷ []) outer_rows ∙ sym (map-append (side_row forms) at.outer (last ∷ []))
+        ∙ ap (λ side. map (side_row forms) (at.outer ++ side ∷ [])) same ∙ ap (map (side_row forms)) (sym (next ∙ at.turned_is));
   }
     where
       count : length new ≡ length at.outer + 1
@@ -177,7 +181,9 @@ module _ (forms : List Form) (above : List SplitSide) (rows : List Row) (new : L
           (length new - 1) (omega (arith, count))
 
       before : IsSideOf forms at.side
-      before = subst (IsSideOf forms) (ap (λ xs. slice_index_or xs (length at.outer) at.side) at.is ∙ get_or_at at.outer at.side at.inner at.side (length at.outer) refl) (each (length at.outer) at.side (omega (arith, ap length at.is, length-append at.outer (at.side ∷ at.inner))))
+      before = subst (IsSideOf forms) (ap (λ xs. slice_index_or xs (length at.outer) at.side) at.is
+          ∙ get_or_at at.outer at.side at.inner at.side (length at.outer) refl)
+          (each (length at.outer) at.side (omega (arith, ap length at.is, length-append at.outer (at.side ∷ at.inner))))
 
       outer_rows : map linear_row (take (length new - 1) rows) ≡ map (side_row forms) at.outer
       outer_rows = sym (take-map linear_row (length new - 1) rows) ∙ ap (take (length new - 1)) (are ∙ ap (map (side_row forms)) at.is)

@@ -17,7 +17,9 @@ use Rattle.rg_branch.specs.Asked.{IsFormOf}
 
 -- ---- a form is a multiple of a row
 
-pub form_value : (node : LinearSystem) (before : ℕ) (b : Bounded) → IsFormOf node before b → (scale : ℤ) (v : ℕ → ℤ) → IsPoint node scale v → before + b.row < length node.rows → scaled_value node (form_of b) v ≡ b.times *ℤ (v (row_variable node (before + b.row)) -ℤ ((row_at node (before + b.row)).constant *ℤ scale))
+pub form_value : (node : LinearSystem) (before : ℕ) (b : Bounded) → IsFormOf node before b → (scale : ℤ) (v : ℕ → ℤ) → IsPoint node scale v
+    → before + b.row < length node.rows → scaled_value node (form_of b) v
+    ≡ b.times *ℤ (v (row_variable node (before + b.row)) -ℤ ((row_at node (before + b.row)).constant *ℤ scale))
 form_value node before b is scale v p lt =
     sum_below-same node.columns _ (λ j. b.times *ℤ (entry node (before + b.row) j *ℤ v j)) (λ j h. ap (λ z. z *ℤ v j) (is.multiple j h) ∙ turn b.times (entry node (before + b.row) j) (v j))
     ∙ sum_below-times node.columns b.times (λ j. entry node (before + b.row) j *ℤ v j)
@@ -30,7 +32,8 @@ form_value node before b is scale v p lt =
     rest a b c e = omega (arith, ints)
 
 pub zero_value : (node : LinearSystem) (before : ℕ) (b : Bounded) → IsFormOf node before b → b.times ≡ pos 0 → (v : ℕ → ℤ) → scaled_value node (form_of b) v ≡ pos 0
-zero_value node before b is e v = sum_below-zero node.columns _ (λ j h. ap (λ z. z *ℤ v j) (is.multiple j h ∙ ap (λ t. t *ℤ entry node (before + b.row) j) e ∙ zero-*ℤ (entry node (before + b.row) j)) ∙ zero-*ℤ (v j))
+zero_value node before b is e v = sum_below-zero node.columns _
+    (λ j h. ap (λ z. z *ℤ v j) (is.multiple j h ∙ ap (λ t. t *ℤ entry node (before + b.row) j) e ∙ zero-*ℤ (entry node (before + b.row) j)) ∙ zero-*ℤ (v j))
 
 -- ---- over the denominator of the row's value
 

@@ -35,4 +35,6 @@ number_at_first lts tree start effect g = number_without_way lts tree start effe
 -- and so has what is no state
 pub number_past : (lts : System) (tree : List Arc) (start : ℤ) (effect : ℕ → ℤ) (q : ℕ) → IsInRange lts → IsTree lts tree → states lts ≤ q → potential lts tree start effect q ≡ start
 number_past lts tree start effect q fine g le =
-    number_without_way lts tree start effect q (not_entered (λ s. []) tree q (λ a has same. (let lt = (arc_in_range lts fine a.from a.label a.to (tree_arcs lts (lts.initial ∷ []) tree a g has)).2 in omega arith)))
+    number_without_way lts tree start effect q
+    (not_entered (λ s. []) tree q (λ a has same.
+    (let lt = (arc_in_range lts fine a.from a.label a.to (tree_arcs lts (lts.initial ∷ []) tree a g has)).2 in omega arith)))

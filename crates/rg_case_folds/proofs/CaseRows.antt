@@ -45,7 +45,9 @@ problem_name_no_arc lts class (Event s t) name has =
 problem_name_no_arc lts class (States s s') name has = ⊎_elim (λ is. subst (λ n. ¬ IsArcRow n) is (λ h. h)) (λ there. absurd (nothing name there)) (Contains-cons_cases row_name.Apart name [] has)
 
 pub name_no_arc : (lts : System) (class : Class) (problem : Problem) (number : ℕ) (name : RowName) → Contains (names_of lts class problem number) name → ¬ IsArcRow name
-name_no_arc lts class problem number name has = each_name lts class problem number (λ n. ¬ IsArcRow n) (problem_name_no_arc lts class problem) (λ c q lt h. h) (λ c q lt h. h) (λ c u lt used h. h) (λ c u lt used h. h) (λ c u lt used differ h. h) name has
+name_no_arc lts class problem number name has =
+    each_name lts class problem number (λ n. ¬ IsArcRow n) (problem_name_no_arc lts class problem) (λ c q lt h. h) (λ c q lt h. h)
+    (λ c u lt used h. h) (λ c u lt used h. h) (λ c u lt used differ h. h) name has
 
 -- where Start is no column they are not of tokens
 problem_name_no_tokens : (lts : System) (class : Class) (problem : Problem) (name : RowName) → Contains (problem_rows lts class problem) name → ¬ IsTokensRow name
@@ -55,7 +57,9 @@ problem_name_no_tokens lts class (States s s') name has =
     ⊎_elim (λ is. subst (λ n. ¬ IsTokensRow n) is (λ h. h)) (λ there. absurd (nothing name there)) (Contains-cons_cases row_name.Apart name [] has)
 
 pub name_no_tokens : (lts : System) (class : Class) (problem : Problem) (number : ℕ) (name : RowName) → has_start class ≡ false → Contains (names_of lts class problem number) name → ¬ IsTokensRow name
-name_no_tokens lts class problem number name none has = each_name lts class problem number (λ n. ¬ IsTokensRow n) (problem_name_no_tokens lts class problem) (λ c q lt h. true≢false (sym c ∙ none)) (λ c q lt h. h) (λ c u lt used h. h) (λ c u lt used h. h) (λ c u lt used differ h. h) name has
+name_no_tokens lts class problem number name none has =
+    each_name lts class problem number (λ n. ¬ IsTokensRow n) (problem_name_no_tokens lts class problem) (λ c q lt h. true≢false (sym c ∙ none))
+    (λ c q lt h. h) (λ c u lt used h. h) (λ c u lt used h. h) (λ c u lt used differ h. h) name has
 
 -- ---- rows of arcs
 

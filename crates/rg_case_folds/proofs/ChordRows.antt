@@ -24,7 +24,7 @@ use Rattle.rg_case_folds.proofs.Potentials.{chord_equations}
 
 -- ---- lists
 
-map_numbers : (f : ℕ → ℤ) (a n j : ℕ) → j < n → slice_index_or (map f (numbers_from a n)) j (pos 0) ≡ f (a + j)
+pub map_numbers : (f : ℕ → ℤ) (a n j : ℕ) → j < n → slice_index_or (map f (numbers_from a n)) j (pos 0) ≡ f (a + j)
 map_numbers f a zero j lt = absurd (omega arith)
 map_numbers f a (suc n) zero lt = ap f (last a)
   where
@@ -42,7 +42,9 @@ abbrev pub coeffs_sum : ℕ → List ℤ → (ℕ → ℤ) → ℤ
 coeffs_sum n coeffs x = sum_below n (λ j. slice_index_or coeffs j (pos 0) *ℤ x j)
 
 vector_sum : (lts : System) (tree : List Arc) (effect : ℕ → ℤ) (a : Arc) → coeffs_sum (labels lts) (chord_vector lts tree a) effect ≡ chord_sum lts tree effect a
-vector_sum lts tree effect a = sum_below-same (labels lts) (λ j. slice_index_or (chord_vector lts tree a) j (pos 0) *ℤ effect j) (λ t. chord_entry tree a t *ℤ effect t) (λ j lt. ap (λ z. z *ℤ effect j) (map_numbers (chord_entry tree a) 0 (labels lts) j lt ∙ ap (chord_entry tree a) (zero-add j)))
+vector_sum lts tree effect a = sum_below-same (labels lts) (λ j. slice_index_or (chord_vector lts tree a) j (pos 0) *ℤ effect j)
+    (λ t. chord_entry tree a t *ℤ effect t) (λ j lt. ap (λ z. z *ℤ effect j)
+    (map_numbers (chord_entry tree a) 0 (labels lts) j lt ∙ ap (chord_entry tree a) (zero-add j)))
 
 -- the vector at a place is that of the chord at it
 place_sum : (lts : System) (tree : List Arc) (effect : ℕ → ℤ) (p : ℕ) → p < length (chords lts tree)
@@ -52,7 +54,7 @@ place_sum lts tree effect p lt =
     ∙ vector_sum lts tree effect (chord_at lts tree p)
 
 -- a place that is kept is a chord's
-kept_place : (lts : System) (tree : List Arc) (kept : List ℕ) (p : ℕ) → KeepsChords lts tree kept → Contains kept p → p < length (chords lts tree)
+pub kept_place : (lts : System) (tree : List Arc) (kept : List ℕ) (p : ℕ) → KeepsChords lts tree kept → Contains kept p → p < length (chords lts tree)
 kept_place lts tree kept p is has =
     let among = kept_is (vector_at (chord_vectors lts tree)) (λ i. IsZeroVector (vector_at (chord_vectors lts tree) i)) [] (numbers_from 0 (length (chord_vectors lts tree))) kept p is has in
     let below = (numbers_from-Contains 0 (length (chord_vectors lts tree)) p among).1 in
@@ -83,7 +85,8 @@ no_constants lts tree kept i lt = ap (λ (r : LinearRow). r.constant) (row_is lt
 
 -- the value of row i at a point
 row_of_point : (lts : System) (tree : List Arc) (kept : List ℕ) (effect : ℕ → ℤ) (i : ℕ) → i < length (chord_system lts tree kept).rows
-    → values_of (chord_system lts tree kept) (pos 1) effect (row_variable (chord_system lts tree kept) i) ≡ coeffs_sum (labels lts) (vector_at (chord_vectors lts tree) (slice_index_or kept i 0)) effect
+    → values_of (chord_system lts tree kept) (pos 1) effect (row_variable (chord_system lts tree kept) i)
+    ≡ coeffs_sum (labels lts) (vector_at (chord_vectors lts tree) (slice_index_or kept i 0)) effect
 row_of_point lts tree kept effect i lt =
     let p = values_of-point (chord_system lts tree kept) (pos 1) effect one in
     p.rows i lt
@@ -135,11 +138,13 @@ rows_zero lts tree kept effect is = (rows, sums)
         let below : p < 0 + length (chord_vectors lts tree) = omega arith in
         ap (chord_sum lts tree effect) (sym e ∙ get_or_default (chords lts tree) p a (record { from = 0; label = 0; to = 0 }) lt)
         ∙ sym (place_sum lts tree effect p lt)
-        ∙ stays zeros p (item_stays (vector_at (chord_vectors lts tree)) (λ i. IsZeroVector (vector_at (chord_vectors lts tree) i)) [] (numbers_from 0 (length (chord_vectors lts tree))) kept p is (Contains-numbers_from 0 (length (chord_vectors lts tree)) p (omega arith) below))
+        ∙ stays zeros p (item_stays (vector_at (chord_vectors lts tree)) (λ i. IsZeroVector (vector_at (chord_vectors lts tree) i)) []
+        (numbers_from 0 (length (chord_vectors lts tree))) kept p is (Contains-numbers_from 0 (length (chord_vectors lts tree)) p (omega arith) below))
 
 follows_same : (system : LinearSystem) (members : List ℕ) (v u : ℕ → ℤ) → ((j : ℕ) → j < system.columns → v j ≡ u j) → FollowsRelations system members v → FollowsRelations system members u
 follows_same system members v u agree follows t k lt row =
-    ap (λ z. k.d *ℤ z) (sym (agree t lt)) ∙ follows t k lt row ∙ sum_below-same system.columns (λ j. k.coefficient j *ℤ v j) (λ j. k.coefficient j *ℤ u j) (λ j lt'. ap (λ z. k.coefficient j *ℤ z) (agree j lt'))
+    ap (λ z. k.d *ℤ z) (sym (agree t lt)) ∙ follows t k lt row
+    ∙ sum_below-same system.columns (λ j. k.coefficient j *ℤ v j) (λ j. k.coefficient j *ℤ u j) (λ j lt'. ap (λ z. k.coefficient j *ℤ z) (agree j lt'))
 
 -- the numbers that effects give along the tree keep every arc exactly where the effects follow the relations
 pub effects_exact : (lts : System) (tree : List Arc) (basis : CycleBasis) (start : ℤ) (effect : ℕ → ℤ) → IsInRange lts → IsTree lts tree → IsBasis lts tree basis
@@ -147,9 +152,14 @@ pub effects_exact : (lts : System) (tree : List Arc) (basis : CycleBasis) (start
 effects_exact lts tree basis start effect fine g is =
     let sums = chord_equations lts tree start effect fine g in
     let rows = rows_zero lts tree basis.kept effect is.kept in
-    let exact = cycle_is_exact (chord_system lts tree basis.kept) basis.members (no_constants lts tree basis.kept) is.cycle (pos 1) (values_of (chord_system lts tree basis.kept) (pos 1) effect) (values_of-point (chord_system lts tree basis.kept) (pos 1) effect one) in (
-      (λ keeps. follows_same (chord_system lts tree basis.kept) basis.members (values_of (chord_system lts tree basis.kept) (pos 1) effect) effect (λ j lt. values_of-column (chord_system lts tree basis.kept) (pos 1) effect j lt) (exact.0 (rows.0 (sums.0 keeps)))),
-      (λ follows. sums.1 (rows.1 (exact.1 (follows_same (chord_system lts tree basis.kept) basis.members effect (values_of (chord_system lts tree basis.kept) (pos 1) effect) (λ j lt. sym (values_of-column (chord_system lts tree basis.kept) (pos 1) effect j lt)) follows)))),
+    let exact = cycle_is_exact (chord_system lts tree basis.kept) basis.members (no_constants lts tree basis.kept) is.cycle (pos 1)
+    (values_of (chord_system lts tree basis.kept) (pos 1) effect) (values_of-point (chord_system lts tree basis.kept) (pos 1) effect one) in (
+      (λ keeps. follows_same (chord_system lts tree basis.kept) basis.members (values_of (chord_system lts tree basis.kept) (pos 1) effect) effect
+          (λ j lt. values_of-column (chord_system lts tree basis.kept) (pos 1) effect j lt) (exact.0 (rows.0 (sums.0 keeps)))),
+      (λ follows. sums.1 (rows.1
+          (exact.1 (follows_same (chord_system lts tree basis.kept) basis.members effect
+          (values_of (chord_system lts tree basis.kept) (pos 1) effect)
+          (λ j lt. sym (values_of-column (chord_system lts tree basis.kept) (pos 1) effect j lt)) follows)))),
     )
   where
     one : pos 0 <ℤ pos 1

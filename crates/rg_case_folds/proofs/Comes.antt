@@ -1,10 +1,10 @@
 -- What calls give, from the computations that they come to.
-use Rattle.std.proofs.Common.{◌≡◌, refl, Result, Ok, Err, inl, inr}
+use Rattle.std.proofs.Common.{◌≡◌, refl, Result, Ok, Err}
 use Rattle.std.specs.Prelude.{IfOk}
 use Rattle.rg_integers.specs.declared.term.Wide.{Wide}
 use Rattle.rg_fraction.specs.declared.fold_stop.FoldStop.{FoldStop}
 use Rattle.rg_fraction.specs.declared.fold_stop.FoldStop.TheVariants as stop
-use Rattle.rg_folds.specs.Fold.{and_then, Comes}
+use Rattle.rg_folds.specs.Fold.{Comes}
 
 -- where each result of one computation is one of another
 pub comes_by : {T X : Type 0} (fold other : Result X Wide → Type 0) (view : T → X) (given : Result T FoldStop) → Comes fold view given
@@ -12,12 +12,6 @@ pub comes_by : {T X : Type 0} (fold other : Result X Wide → Type 0) (view : T 
 comes_by fold other view (Ok v) h leads = leads (Ok (view v)) h
 comes_by fold other view (Err (stop.Wide w)) h leads = leads (Err w) h
 comes_by fold other view (Err stop.NoMemory) h leads = h
-
--- where what stops one computation stops another
-pub comes_stopped : {T X U Y : Type 0} (fold : Result X Wide → Type 0) (view : T → X) (other : Result Y Wide → Type 0) (seen : U → Y) (e : FoldStop)
-    → Comes fold view (Err e) → ((w : Wide) → fold (Err w) → other (Err w)) → Comes other seen (Err e)
-comes_stopped fold view other seen (stop.Wide w) h leads = leads w h
-comes_stopped fold view other seen stop.NoMemory h leads = h
 
 -- what is true of the value
 pub comes_value : {T X : Type 0} (fold : Result X Wide → Type 0) (view : T → X) (P : T → Type 0) (given : Result T FoldStop) → Comes fold view given
@@ -29,20 +23,3 @@ comes_value fold view P (Err e) h shows = tt
 pub comes_unless : {U Y : Type 0} (other : Result Y Wide → Type 0) (seen : U → Y) (e : FoldStop) → ((w : Wide) → e ≡ stop.Wide w → other (Err w)) → Comes other seen (Err e)
 comes_unless other seen (stop.Wide w) leads = leads w refl
 comes_unless other seen stop.NoMemory leads = tt
-
--- ---- one computation after another
-
-pub then_made : {X Y : Type 0} (first : Result X Wide → Type 0) (next : X → Result Y Wide → Type 0) (x : X) → first (Ok x)
-    → (r : Result Y Wide) → next x r → and_then first next r
-then_made first next x made (Ok y) h = (x, made, h)
-then_made first next x made (Err w) h = inr (x, made, h)
-
--- where the first gave x, the next one on x
-pub comes_then : {T X Y : Type 0} (first : Result X Wide → Type 0) (next : X → Result Y Wide → Type 0) (view : T → Y) (x : X) → first (Ok x)
-    → (given : Result T FoldStop) → Comes (next x) view given → Comes (and_then first next) view given
-comes_then first next view x made given h = comes_by (next x) (and_then first next) view given h (then_made first next x made)
-
--- where the first stops
-pub comes_fails : {T X U Y : Type 0} (first : Result X Wide → Type 0) (view : T → X) (next : X → Result Y Wide → Type 0) (seen : U → Y) (e : FoldStop)
-    → Comes first view (Err e) → Comes (and_then first next) seen (Err e)
-comes_fails first view next seen e h = comes_stopped first view (and_then first next) seen e h (λ w stops. inl stops)

@@ -104,9 +104,13 @@ effect_is lts tree basis start value first effect scale t h is e v lt fold =
         let (over, positive) = joined_over (scale *ℤ d) term (λ f. effect f *ℤ (basis.relation t).coefficient f) h (free_columns lts basis) sum
         (λ f k has (q, divided, product). (product_over scale (effect f) ((basis.relation t).coefficient f) d (value f) q k (v.values f has) divided product, product.2.positive)) in
         let total = where_sum (λ f. is_in basis.members f && has_label f lts.arcs) (λ f. effect f *ℤ (basis.relation t).coefficient f) (labels lts) (λ f lt' fails. none f (row.over f) fails)
-        ∙ sum_below-same (labels lts) (λ f. effect f *ℤ (basis.relation t).coefficient f) (λ f. (basis.relation t).coefficient f *ℤ effect f) (λ f lt'. *ℤ_comm (effect f) ((basis.relation t).coefficient f))
-        ∙ sym (e.follows t (basis.relation t) lt row) in
-        (mul-cancel (h.top *ℤ scale) (effect t *ℤ h.bottom) d (positive_differs d row.positive) (mul_assoc h.top scale d ∙ over ∙ ap (λ z. z *ℤ h.bottom) total ∙ mul_rotate d (effect t) h.bottom), positive)
+        ∙ sum_below-same (labels lts) (λ f. effect f *ℤ (basis.relation t).coefficient f) (λ f. (basis.relation t).coefficient f *ℤ effect f)
+        (λ f lt'. *ℤ_comm (effect f) ((basis.relation t).coefficient f))
+        ∙ sym (e.follows t (basis.relation t) lt row) in (
+          mul-cancel (h.top *ℤ scale) (effect t *ℤ h.bottom) d (positive_differs d row.positive)
+              (mul_assoc h.top scale d ∙ over ∙ ap (λ z. z *ℤ h.bottom) total ∙ mul_rotate d (effect t) h.bottom),
+          positive,
+        )
       where
         times_zero : (z k : ℤ) → k ≡ pos 0 → z *ℤ k ≡ pos 0
         times_zero z k p = ap (λ y. z *ℤ y) p ∙ *ℤ-zero z
@@ -117,7 +121,9 @@ effect_is lts tree basis start value first effect scale t h is e v lt fold =
         none : (f : ℕ) → (¬ Contains basis.members f → (basis.relation t).coefficient f ≡ pos 0) → (is_in basis.members f && has_label f lts.arcs) ≡ false
             → effect f *ℤ (basis.relation t).coefficient f ≡ pos 0
         none f over fails = ⊎_elim
-            (λ member. zero_times (effect f) ((basis.relation t).coefficient f) (e.unused f (⊎_elim (λ label. absurd (true≢false (sym (and_from (is_in basis.members f) (has_label f lts.arcs) member label) ∙ fails))) (λ label. label) (cases_Bool (has_label f lts.arcs)))))
+            (λ member. zero_times (effect f) ((basis.relation t).coefficient f)
+            (e.unused f (⊎_elim (λ label. absurd (true≢false (sym (and_from (is_in basis.members f) (has_label f lts.arcs) member label) ∙ fails))) (λ label. label)
+            (cases_Bool (has_label f lts.arcs)))))
             (λ outside'. times_zero (effect f) ((basis.relation t).coefficient f) (over (λ has. true≢false (sym (has_in basis.members f has) ∙ outside'))))
             (cases_Bool (is_in basis.members f))
 

@@ -33,7 +33,7 @@ use Rattle.rg_integers.proofs.ListSums.{sum_over-same, sum_over-plus, sum_over-t
 
 -- ---- lists of labels
 
-dependent : (lts : System) (basis : CycleBasis) (t : ℕ) → Contains (dependent_labels (labels lts) basis) t → (t < labels lts) × ¬ Contains basis.members t
+pub dependent : (lts : System) (basis : CycleBasis) (t : ℕ) → Contains (dependent_labels (labels lts) basis) t → (t < labels lts) × ¬ Contains basis.members t
 dependent lts basis t has =
     let (e, _, lt) = where_is (λ u. not (is_in basis.members u)) 0 (labels lts) t has in
     (omega arith, not_in basis.members t (not-true (is_in basis.members t) e))
@@ -57,7 +57,7 @@ common_bottom d (t ∷ ts) each_positive =
     more c k b (q, e) = (c *ℤ q, ap (λ z. c *ℤ z) e ∙ mul_left_comm c k q)
 
 -- the other factor
-part_exact : (d b : ℤ) → Divides d b → b ≡ d *ℤ int_div b d
+pub part_exact : (d b : ℤ) → Divides d b → b ≡ d *ℤ int_div b d
 part_exact d b (q, e) = sym (exact b d (subst (λ n. unsigned_abs d ∣ n) (sym (ap unsigned_abs e ∙ unsigned_abs-mul d q)) (dvd-mul_right (unsigned_abs d) (unsigned_abs q)))) ∙ *ℤ_comm (int_div b d) d
 
 -- ---- the free labels' coefficients
@@ -110,7 +110,8 @@ free_sum lts tree basis counts effect part b is follows divides =
     (λ t. sum_over (λ f. (counts t *ℤ part t) *ℤ ((basis.relation t).coefficient f *ℤ effect f)) free) (λ t. b *ℤ (counts t *ℤ effect t))
     dependents one_relation ∙ sum_over-times b (λ t. counts t *ℤ effect t) dependents)
     ∙ sym (mul-add b (sum_over (λ f. counts f *ℤ effect f) free) (sum_over (λ t. counts t *ℤ effect t) dependents))
-    ∙ ap (λ z. b *ℤ z) (both_sums (λ t. is_in basis.members t) (λ t. counts t *ℤ effect t) 0 (labels lts) ∙ sum_below-same (labels lts) (λ i. counts (0 + i) *ℤ effect (0 + i)) (λ i. counts i *ℤ effect i) (λ i lt. ap (λ k. counts k *ℤ effect k) (zero-add i)))
+    ∙ ap (λ z. b *ℤ z) (both_sums (λ t. is_in basis.members t) (λ t. counts t *ℤ effect t) 0 (labels lts)
+    ∙ sum_below-same (labels lts) (λ i. counts (0 + i) *ℤ effect (0 + i)) (λ i. counts i *ℤ effect i) (λ i lt. ap (λ k. counts k *ℤ effect k) (zero-add i)))
   where
     free : List ℕ
     free = free_labels (labels lts) basis
@@ -123,7 +124,9 @@ free_sum lts tree basis counts effect part b is follows divides =
     inner f ts =
         *ℤ_comm (sum_over (λ t. counts t *ℤ ((basis.relation t).coefficient f *ℤ part t)) ts) (effect f)
         ∙ sym (sum_over-times (effect f) (λ t. counts t *ℤ ((basis.relation t).coefficient f *ℤ part t)) ts)
-        ∙ sum_over-same (λ t. effect f *ℤ (counts t *ℤ ((basis.relation t).coefficient f *ℤ part t))) (λ t. (counts t *ℤ part t) *ℤ ((basis.relation t).coefficient f *ℤ effect f)) ts (λ t has. turn (effect f) (counts t) ((basis.relation t).coefficient f) (part t))
+        ∙ sum_over-same (λ t. effect f *ℤ (counts t *ℤ ((basis.relation t).coefficient f *ℤ part t)))
+        (λ t. (counts t *ℤ part t) *ℤ ((basis.relation t).coefficient f *ℤ effect f)) ts
+        (λ t has. turn (effect f) (counts t) ((basis.relation t).coefficient f) (part t))
       where
         turn : (e c k p : ℤ) → e *ℤ (c *ℤ (k *ℤ p)) ≡ (c *ℤ p) *ℤ (k *ℤ e)
         turn e c k p = simp ring
@@ -165,22 +168,32 @@ pub terms_value : (it : Setting) (terms : List Term) (start : ℤ) (effect : ℕ
     → FollowsRelations (chord_system it.lts it.tree it.basis.kept) it.basis.members effect → UnusedAreZero it.lts effect → terms_fold it terms (Ok scaled)
     → dot scaled.numbers (column_values it.lts it.basis it.class start effect) ≡ scaled.multiple *ℤ value_in (numbers_along it.lts it.tree start effect) terms
 terms_value it terms start effect scaled is names no_start follows unused (free, substituted, scales) =
-    let (b, positive, divides) = common_bottom (λ t. (it.basis.relation t).d) (dependent_labels (labels it.lts) it.basis) (λ t has. (is.relations t (dependent it.lts it.basis t has).0 (dependent it.lts it.basis t has).1).positive) in
+    let (b, positive, divides) = common_bottom (λ t. (it.basis.relation t).d) (dependent_labels (labels it.lts) it.basis)
+    (λ t has. (is.relations t (dependent it.lts it.basis t has).0 (dependent it.lts it.basis t has).1).positive) in
     let part : ℕ → ℤ = λ t. int_div b (it.basis.relation t).d in
-    let parts : (t : ℕ) → Contains (dependent_labels (labels it.lts) it.basis) t → b ≡ (it.basis.relation t).d *ℤ int_div b (it.basis.relation t).d = λ t has. part_exact (it.basis.relation t).d b (divides t has) in
+    let parts : (t : ℕ) → Contains (dependent_labels (labels it.lts) it.basis) t → b ≡ (it.basis.relation t).d *ℤ int_div b (it.basis.relation t).d =
+    λ t has. part_exact (it.basis.relation t).d b (divides t has) in
     let counts = count_of it.tree terms in
-    let x : ℕ → ℤ = λ f. (count_of it.tree terms f *ℤ b) +ℤ sum_over (λ t. count_of it.tree terms t *ℤ ((it.basis.relation t).coefficient f *ℤ int_div b (it.basis.relation t).d)) (dependent_labels (labels it.lts) it.basis) in
-    let over = picked_over it.lts it.basis (count_of it.tree terms) b x (λ t. has_label t it.lts.arcs) (free_labels (labels it.lts) it.basis) free (λ f h fold. coefficient_over it.lts it.basis (count_of it.tree terms) f h b part parts fold) substituted in
-    let free_value = dot_picked (λ t. has_label t it.lts.arcs) x effect (free_labels (labels it.lts) it.basis) unused ∙ free_sum it.lts it.tree it.basis (count_of it.tree terms) effect part b is follows parts in
-    mul-cancel (dot scaled.numbers (column_values it.lts it.basis it.class start effect)) (scaled.multiple *ℤ value_in (numbers_along it.lts it.tree start effect) terms) b (positive_differs b positive)
-    (columns (has_start it.class) refl b x (pick (λ t. has_label t it.lts.arcs) (free_labels (labels it.lts) it.basis) free) over free_value scales ∙ ap (λ z. (scaled.multiple *ℤ z) *ℤ b) (sym (rewritten it.lts it.tree start effect terms names)))
+    let x : ℕ → ℤ = λ f. (count_of it.tree terms f *ℤ b)
+    +ℤ sum_over (λ t. count_of it.tree terms t *ℤ ((it.basis.relation t).coefficient f *ℤ int_div b (it.basis.relation t).d))
+    (dependent_labels (labels it.lts) it.basis) in
+    let over = picked_over it.lts it.basis (count_of it.tree terms) b x (λ t. has_label t it.lts.arcs) (free_labels (labels it.lts) it.basis) free
+    (λ f h fold. coefficient_over it.lts it.basis (count_of it.tree terms) f h b part parts fold) substituted in
+    let free_value = dot_picked (λ t. has_label t it.lts.arcs) x effect (free_labels (labels it.lts) it.basis) unused
+    ∙ free_sum it.lts it.tree it.basis (count_of it.tree terms) effect part b is follows parts in
+    mul-cancel (dot scaled.numbers (column_values it.lts it.basis it.class start effect))
+    (scaled.multiple *ℤ value_in (numbers_along it.lts it.tree start effect) terms) b (positive_differs b positive)
+    (columns (has_start it.class) refl b x (pick (λ t. has_label t it.lts.arcs) (free_labels (labels it.lts) it.basis) free) over free_value scales
+    ∙ ap (λ z. (scaled.multiple *ℤ z) *ℤ b) (sym (rewritten it.lts it.tree start effect terms names)))
   where
     columns : (s : Bool) → has_start it.class ≡ s → (b : ℤ) (x : ℕ → ℤ) (rs : List Ratio)
         → AllOver b rs (picked (λ t. has_label t it.lts.arcs) (free_labels (labels it.lts) it.basis) x)
         → dot (picked (λ t. has_label t it.lts.arcs) (free_labels (labels it.lts) it.basis) x) (picked (λ t. has_label t it.lts.arcs) (free_labels (labels it.lts) it.basis) effect) ≡ b *ℤ
         sum_below (labels it.lts) (λ t. count_of it.tree terms t *ℤ effect t)
         → scaled_fold ((if s then (whole (start_of terms) ∷ []) else []) ++ rs) (Ok scaled)
-        → dot scaled.numbers ((if s then (start ∷ []) else []) ++ picked (λ t. has_label t it.lts.arcs) (free_labels (labels it.lts) it.basis) effect) *ℤ b ≡ (scaled.multiple *ℤ ((start_of terms *ℤ start) +ℤ sum_below (labels it.lts) (λ t. count_of it.tree terms t *ℤ effect t))) *ℤ b
+        → dot scaled.numbers ((if s then (start ∷ []) else [])
+        ++ picked (λ t. has_label t it.lts.arcs) (free_labels (labels it.lts) it.basis) effect) *ℤ b
+        ≡ (scaled.multiple *ℤ ((start_of terms *ℤ start) +ℤ sum_below (labels it.lts) (λ t. count_of it.tree terms t *ℤ effect t))) *ℤ b
     columns true e b x rs over value scales =
         scaled_dot b (whole (start_of terms) ∷ rs) ((start_of terms *ℤ b) ∷ picked (λ t. has_label t it.lts.arcs) (free_labels (labels it.lts) it.basis) x)
         (start ∷ picked (λ t. has_label t it.lts.arcs) (free_labels (labels it.lts) it.basis) effect) scaled (whole_over b (start_of terms), over) scales
@@ -190,7 +203,8 @@ terms_value it terms start effect scaled is names no_start follows unused (free,
         close : (c b z s m : ℤ) → (((c *ℤ b) *ℤ z) +ℤ (b *ℤ s)) *ℤ m ≡ (m *ℤ ((c *ℤ z) +ℤ s)) *ℤ b
         close c b z s m = simp ring (omega (arith, ints))
     columns false e b x rs over value scales =
-        scaled_dot b rs (picked (λ t. has_label t it.lts.arcs) (free_labels (labels it.lts) it.basis) x) (picked (λ t. has_label t it.lts.arcs) (free_labels (labels it.lts) it.basis) effect) scaled over scales
+        scaled_dot b rs (picked (λ t. has_label t it.lts.arcs) (free_labels (labels it.lts) it.basis) x)
+        (picked (λ t. has_label t it.lts.arcs) (free_labels (labels it.lts) it.basis) effect) scaled over scales
         ∙ ap (λ z. z *ℤ scaled.multiple) value
         ∙ close (start_of terms) b (sum_below (labels it.lts) (λ t. count_of it.tree terms t *ℤ effect t)) scaled.multiple
         ∙ ap (λ z. (scaled.multiple *ℤ ((start_of terms *ℤ z) +ℤ sum_below (labels it.lts) (λ t. count_of it.tree terms t *ℤ effect t))) *ℤ b) (sym (no_start e))

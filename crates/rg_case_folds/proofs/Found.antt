@@ -35,7 +35,8 @@ use Rattle.rg_case_folds.specs.Places.{AreValuesOf}
 use Rattle.rg_case_folds.proofs.Signs.{AllPositive, all_multiple}
 use Rattle.rg_case_folds.proofs.Items.{each_length}
 use Rattle.rg_case_folds.proofs.Wholes.{product_fits, each_at, divides_at}
-use Rattle.rg_case_folds.proofs.Products.{mul_right_comm, itself_taken, once, none_of, weak}
+use Rattle.rg_case_folds.proofs.Products.{mul_right_comm, itself_taken, once, none_of}
+use Rattle.rg_fraction.proofs.Orders.{weak}
 use Rattle.std.proofs.Math.IntN.{*ℤ_comm, zero-*ℤ}
 use Rattle.rg_case_folds.proofs.EffectValues.{effect_is}
 
@@ -81,8 +82,12 @@ made_at : (rs found : List Ratio) (m scale z : ℤ) (i : ℕ) → i < length rs 
 made_at rs found m scale z i lt multiple products (over, positive) =
     let (q, is) = divides_at rs m i (whole (pos 0)) (all_divide (map (λ r. r.bottom) rs) m multiple) lt in
     let (same, fits) = product_fits (ratio_at rs i) (ratio_at found i) m q positive is (each_at (λ r. mul r (whole m)) rs found (whole (pos 0)) (whole (pos 0)) i products lt) in
-    let top : top_at found i ≡ (ratio_at rs i).top *ℤ q = ap (λ (r : Ratio). r.top) same in
-    (same ∙ ap whole (sym top), subst InRange (sym top) fits, ap (λ z. z *ℤ scale) top ∙ mul_right_comm (ratio_at rs i).top q scale ∙ ap (λ z. z *ℤ q) over ∙ mul_assoc z (ratio_at rs i).bottom q ∙ ap (λ y. z *ℤ y) (sym is))
+    let top : top_at found i ≡ (ratio_at rs i).top *ℤ q = ap (λ (r : Ratio). r.top) same in (
+      same ∙ ap whole (sym top),
+      subst InRange (sym top) fits,
+      ap (λ z. z *ℤ scale) top ∙ mul_right_comm (ratio_at rs i).top q scale
+          ∙ ap (λ z. z *ℤ q) over ∙ mul_assoc z (ratio_at rs i).bottom q ∙ ap (λ y. z *ℤ y) (sym is),
+    )
 
 pub not_bounded : (o : Option ℕ) → IsNone o → is_some o ≡ false
 not_bounded None e = refl
@@ -110,7 +115,9 @@ module _ (lts : System) (tree : List Arc) (basis : CycleBasis) (start : Ratio) (
       (each_at (effect_fold lts basis value) (all_numbers (labels lts)) effects 0 (whole (pos 0)) t made (subst (λ n. t < n) (sym (all_length (labels lts))) lt))))
 
   pub start_at : IsOverAt scale (ratio_at (effects ++ start ∷ []) (labels lts)) first
-  start_at = subst (λ r. IsOverAt scale r first) (sym (get_or-append_right effects (start ∷ []) (labels lts) (labels lts) (whole (pos 0)) effects_count (omega arith) ∙ ap (λ k. ratio_at (start ∷ []) k) (itself_taken (labels lts)))) (v.start_is, v.start_bottom)
+  start_at = subst (λ r. IsOverAt scale r first)
+      (sym (get_or-append_right effects (start ∷ []) (labels lts) (labels lts) (whole (pos 0)) effects_count (omega arith)
+      ∙ ap (λ k. ratio_at (start ∷ []) k) (itself_taken (labels lts)))) (v.start_is, v.start_bottom)
 
 products_are : (s : Setting) (start : Ratio) (value : ℕ → Ratio) (first : ℤ) (effect : ℕ → ℤ) (scale : ℤ) (effects found : List Ratio) → s.class.plain ≡ false
     → IsNone s.class.bound → IsBasis s.lts s.tree s.basis → AreEffects s.lts s.tree s.basis effect → AreValuesOf s.lts s.basis start value first effect scale
@@ -143,16 +150,20 @@ products_are s start value first effect scale effects found plain bound is e v m
         last le = let k = many in omega arith
 
     past : (m : ℤ) → each (λ r. mul r (whole m)) (effects ++ start ∷ []) (Ok found) → (i : ℕ) → length (effects ++ start ∷ []) ≤ i → ratio_at found i ≡ whole (top_at found i)
-    past m products i le = let beyond = get_or_past found i (whole (pos 0)) (subst (λ n. n ≤ i) (sym (each_length (λ r. mul r (whole m)) (effects ++ start ∷ []) found products)) le) in beyond ∙ ap (λ (r : Ratio). whole r.top) (sym beyond)
+    past m products i le = let beyond = get_or_past found i (whole (pos 0))
+        (subst (λ n. n ≤ i) (sym (each_length (λ r. mul r (whole m)) (effects ++ start ∷ []) found products)) le) in beyond ∙ ap (λ (r : Ratio). whole r.top) (sym beyond)
 
     past_fits : (m : ℤ) → each (λ r. mul r (whole m)) (effects ++ start ∷ []) (Ok found) → (i : ℕ) → length (effects ++ start ∷ []) ≤ i → InRange (top_at found i)
-    past_fits m products i le = let beyond = get_or_past found i (whole (pos 0)) (subst (λ n. n ≤ i) (sym (each_length (λ r. mul r (whole m)) (effects ++ start ∷ []) found products)) le) in subst (λ (r : Ratio). InRange r.top) (sym beyond) zero_in_range
+    past_fits m products i le = let beyond = get_or_past found i (whole (pos 0))
+        (subst (λ n. n ≤ i) (sym (each_length (λ r. mul r (whole m)) (effects ++ start ∷ []) found products)) le) in
+        subst (λ (r : Ratio). InRange r.top) (sym beyond) zero_in_range
 
 -- times n
 times_at : (products found : List Ratio) (n : ℤ) (i : ℕ) → i < length products → each (λ r. mul r (whole n)) products (Ok found)
     → ratio_at products i ≡ whole (top_at products i) → (ratio_at found i ≡ whole (top_at found i)) × InRange (top_at found i) × (top_at found i ≡ top_at products i *ℤ n)
 times_at products found n i lt times is =
-    let (same, fits) = product_fits (whole (top_at products i)) (ratio_at found i) n n (omega (arith, ints)) (once n) (subst (λ r. mul r (whole n) (Ok (ratio_at found i))) is (each_at (λ r. mul r (whole n)) products found (whole (pos 0)) (whole (pos 0)) i times lt)) in
+    let (same, fits) = product_fits (whole (top_at products i)) (ratio_at found i) n n (omega (arith, ints)) (once n)
+    (subst (λ r. mul r (whole n) (Ok (ratio_at found i))) is (each_at (λ r. mul r (whole n)) products found (whole (pos 0)) (whole (pos 0)) i times lt)) in
     let top : top_at found i ≡ top_at products i *ℤ n = ap (λ (r : Ratio). r.top) same in
     (same ∙ ap whole (sym top), subst InRange (sym top) fits, top)
 
@@ -199,7 +210,9 @@ pub found_is : (s : Setting) (start : Ratio) (value : ℕ → Ratio) (first : �
 found_is s start value first effect scale effects found numbers plain bound is e v made whole_made =
     let (m, multiple, (products, are, times)) = subst (λ b. whole_by s.class b (effects ++ start ∷ []) found) (ap₂ ◌||◌ plain (not_bounded s.class.bound bound)) whole_made in
     let f = products_are s start value first effect scale effects products plain bound is e v made m multiple are in
-    times_are s.lts s.class products found first effect scale m numbers (each_length (λ r. mul r (whole m)) (effects ++ start ∷ []) products are ∙ length-append effects (start ∷ []) ∙ ap (λ n. n + 1) (effects_count s.lts s.tree s.basis start value first effect scale effects is e v made)) f times
+    times_are s.lts s.class products found first effect scale m numbers
+    (each_length (λ r. mul r (whole m)) (effects ++ start ∷ []) products are ∙ length-append effects (start ∷ [])
+    ∙ ap (λ n. n + 1) (effects_count s.lts s.tree s.basis start value first effect scale effects is e v made)) f times
 
 -- ---- the rows over the multiple
 
@@ -255,9 +268,11 @@ columns_times : (lts : System) (basis : CycleBasis) (class : Class) (a b first o
 columns_times lts basis class a b first other x y start same = go (has_start class)
   where
     rest : map (λ z. a *ℤ z) (picked (λ t. has_label t lts.arcs) (free_labels (labels lts) basis) x) ≡ map (λ z. b *ℤ z) (picked (λ t. has_label t lts.arcs) (free_labels (labels lts) basis) y)
-    rest = picked_times a b (λ t. has_label t lts.arcs) (free_labels (labels lts) basis) x y (λ t has. (let (_, _, lt) = where_is (λ t. is_in basis.members t) 0 (labels lts) t has in same t (omega arith)))
+    rest = picked_times a b (λ t. has_label t lts.arcs) (free_labels (labels lts) basis) x y
+        (λ t has. (let (_, _, lt) = where_is (λ t. is_in basis.members t) 0 (labels lts) t has in same t (omega arith)))
 
-    go : (c : Bool) → map (λ z. a *ℤ z) ((if c then (first ∷ []) else []) ++ picked (λ t. has_label t lts.arcs) (free_labels (labels lts) basis) x) ≡ map (λ z. b *ℤ z) ((if c then (other ∷ []) else []) ++ picked (λ t. has_label t lts.arcs) (free_labels (labels lts) basis) y)
+    go : (c : Bool) → map (λ z. a *ℤ z) ((if c then (first ∷ []) else []) ++ picked (λ t. has_label t lts.arcs) (free_labels (labels lts) basis) x)
+        ≡ map (λ z. b *ℤ z) ((if c then (other ∷ []) else []) ++ picked (λ t. has_label t lts.arcs) (free_labels (labels lts) basis) y)
     go true = ap₂ (λ z l. z ∷ l) start rest
     go false = rest
 
@@ -265,7 +280,8 @@ columns_times lts basis class a b first other x y start same = go (has_start cla
 row_over : (row : LinearRow) (xs ys : List ℤ) (a b : ℤ) → pos 0 <ℤ a → pos 0 <ℤ b → map (λ z. a *ℤ z) xs ≡ map (λ z. b *ℤ z) ys
     → pos 0 ≤ℤ (dot row.coeffs xs +ℤ (row.constant *ℤ b)) → pos 0 ≤ℤ (dot row.coeffs ys +ℤ (row.constant *ℤ a))
 row_over row xs ys a b pa pb same met = factor_not_negative b (dot row.coeffs ys +ℤ (row.constant *ℤ a)) pb
-    (subst (λ z. pos 0 ≤ℤ z) (spread a (dot row.coeffs xs) row.constant b ∙ ap (λ z. z +ℤ (row.constant *ℤ (a *ℤ b))) dots ∙ shut b (dot row.coeffs ys) row.constant a) (mul_not_negative a (dot row.coeffs xs +ℤ (row.constant *ℤ b)) (weak a pa) met))
+    (subst (λ z. pos 0 ≤ℤ z) (spread a (dot row.coeffs xs) row.constant b ∙ ap (λ z. z +ℤ (row.constant *ℤ (a *ℤ b))) dots
+    ∙ shut b (dot row.coeffs ys) row.constant a) (mul_not_negative a (dot row.coeffs xs +ℤ (row.constant *ℤ b)) (weak a pa) met))
   where
     spread : (a s c b : ℤ) → a *ℤ (s +ℤ (c *ℤ b)) ≡ (a *ℤ s) +ℤ (c *ℤ (a *ℤ b))
     spread a s c b = simp ring

@@ -67,7 +67,9 @@ unused_is_free lts tree basis t fine reached g is lt unused = ⊎_elim (λ has. 
     impossible : ¬ Contains basis.members t → ⊥
     impossible outside =
         let row = is.relations t lt outside in
-        one (basis.relation t).d ((basis.relation t).coefficient t) (ap (λ b. (basis.relation t).d *ℤ (if b then pos 1 else pos 0)) (sym (eq-eqb t t refl)) ∙ relation_at lts tree basis t t fine reached g is lt outside lt unused) (row.over t outside) row.positive
+        one (basis.relation t).d ((basis.relation t).coefficient t)
+        (ap (λ b. (basis.relation t).d *ℤ (if b then pos 1 else pos 0)) (sym (eq-eqb t t refl))
+        ∙ relation_at lts tree basis t t fine reached g is lt outside lt unused) (row.over t outside) row.positive
 
 pub unused_is_unnamed : (lts : System) (tree : List Arc) (basis : CycleBasis) (t u : ℕ) → IsInRange lts → IsAllReachable lts → IsTree lts tree → IsBasis lts tree basis
     → u < labels lts → has_label u lts.arcs ≡ false → (basis.relation t).coefficient u ≡ pos 0
@@ -84,4 +86,6 @@ unused_is_unnamed lts tree basis t u fine reached g is lt' unused =
     differs outside same = outside (subst (Contains basis.members) (sym same) (unused_is_free lts tree basis u fine reached g is lt' unused))
 
     named : t < labels lts → ¬ Contains basis.members t → (basis.relation t).coefficient u ≡ pos 0
-    named lt outside = zero_times (basis.relation t).d ((basis.relation t).coefficient u) (ap (λ b. (basis.relation t).d *ℤ (if b then pos 1 else pos 0)) (sym (ne_eqb t u (differs outside))) ∙ relation_at lts tree basis t u fine reached g is lt outside lt' unused)
+    named lt outside = zero_times (basis.relation t).d ((basis.relation t).coefficient u)
+        (ap (λ b. (basis.relation t).d *ℤ (if b then pos 1 else pos 0)) (sym (ne_eqb t u (differs outside)))
+        ∙ relation_at lts tree basis t u fine reached g is lt outside lt' unused)

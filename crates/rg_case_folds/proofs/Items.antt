@@ -12,7 +12,8 @@ pub from_index : {A : Type 0} (all : List A) (i : ℕ) (d : A) → i < length al
 from_index all i d lt = drop-cons all i d lt ∙ ap (λ n. slice_index_or all i d ∷ drop n all) (sym (add-one i))
 
 -- what is made of the items from i on stands behind what is made so far
-module _ {A X : Type 0} (make : A → Result X Wide → Type 0) (all : List A) (i : ℕ) (d : A) (xs : List X) (so_far : (r : Result (List X) Wide) → each make (drop i all) r → each make all (behind xs r)) where
+module _ {A X : Type 0} (make : A → Result X Wide → Type 0) (all : List A) (i : ℕ) (d : A) (xs : List X)
+    (so_far : (r : Result (List X) Wide) → each make (drop i all) r → each make all (behind xs r)) where
   here_each : i < length all → (r : Result (List X) Wide) → each make (slice_index_or all i d ∷ drop (i + 1) all) r → each make all (behind xs r)
   here_each lt r h = so_far r (subst (λ l. each make l r) (sym (from_index all i d lt)) h)
 

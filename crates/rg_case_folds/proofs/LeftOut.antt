@@ -34,7 +34,8 @@ finds_at q t (a ∷ arcs) q' has = ⊎_elim here (λ there. later ((a.from == q)
 -- the label of an arc is found
 pub finds_label : (a : Arc) (arcs : List Arc) → Contains arcs a → has_label a.label arcs ≡ true
 finds_label a [] has = absurd (nothing a has)
-finds_label a (b ∷ arcs) has = ⊎_elim (λ is. ap (λ c. if c then true else has_label a.label arcs) (eq-eqb b.label a.label (ap (λ (x : Arc). x.label) is))) (λ there. later (b.label == a.label) (finds_label a arcs there)) (Contains-cons_cases b a arcs has)
+finds_label a (b ∷ arcs) has = ⊎_elim (λ is. ap (λ c. if c then true else has_label a.label arcs)
+    (eq-eqb b.label a.label (ap (λ (x : Arc). x.label) is))) (λ there. later (b.label == a.label) (finds_label a arcs there)) (Contains-cons_cases b a arcs has)
   where
     later : (c : Bool) → has_label a.label arcs ≡ true → (if c then true else has_label a.label arcs) ≡ true
     later true e = refl

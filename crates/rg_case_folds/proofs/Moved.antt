@@ -34,8 +34,10 @@ along_is effect number out (a ∷ tree) way z e whole_effects at (m, added, rest
   where
     joined : IsWholeAt m (z +ℤ sum_over e (way a.from ++ a.label ∷ []))
     joined =
-        let (is, fits) = add_whole (z +ℤ sum_over e (way a.from)) (e a.label) m (subst (λ g. add (whole (z +ℤ sum_over e (way a.from))) g (Ok m)) (whole_effects a.label) (subst (λ f. add f (effect a.label) (Ok m)) (at a.from).0 added)) in
-        let longer : (z +ℤ sum_over e (way a.from)) +ℤ e a.label ≡ z +ℤ sum_over e (way a.from ++ a.label ∷ []) = close z (sum_over e (way a.from)) (e a.label) (sum_over e (way a.from ++ a.label ∷ [])) (sum_over-append e (way a.from) (a.label ∷ [])) in
+        let (is, fits) = add_whole (z +ℤ sum_over e (way a.from)) (e a.label) m
+        (subst (λ g. add (whole (z +ℤ sum_over e (way a.from))) g (Ok m)) (whole_effects a.label) (subst (λ f. add f (effect a.label) (Ok m)) (at a.from).0 added)) in
+        let longer : (z +ℤ sum_over e (way a.from)) +ℤ e a.label ≡ z +ℤ sum_over e (way a.from ++ a.label ∷ []) =
+        close z (sum_over e (way a.from)) (e a.label) (sum_over e (way a.from ++ a.label ∷ [])) (sum_over-append e (way a.from) (a.label ∷ [])) in
         (is ∙ ap whole longer, subst InRange longer fits)
       where
         close : (z w l s : ℤ) → s ≡ w +ℤ (l +ℤ pos 0) → (z +ℤ w) +ℤ l ≡ z +ℤ s
@@ -91,18 +93,23 @@ least_from_is : (f : Ratio) (rest : List Ratio) → AllWhole (f ∷ rest) → Co
 least_from_is f [] all = ((0, omega arith, refl), λ r has. ⊎_elim (λ is. subst (λ (g : Ratio). f.top ≤ℤ g.top) is (itself f.top)) (λ there. absurd (nothing r there)) (Contains-cons_cases f r [] has))
 least_from_is f (g ∷ rest) all =
     let (is, below_f, below_g) = lesser_is f g (all f (first f (g ∷ rest))) (all g (behind f g (g ∷ rest) (first g rest))) in
-    let one : (lesser f g).bottom ≡ pos 1 = ⊎_elim (λ e. subst (λ (r : Ratio). r.bottom ≡ pos 1) (sym e) (all f (first f (g ∷ rest)))) (λ e. subst (λ (r : Ratio). r.bottom ≡ pos 1) (sym e) (all g (behind f g (g ∷ rest) (first g rest)))) is in
-    let (has, low) = least_from_is (lesser f g) rest (λ r h. ⊎_elim (λ e. subst (λ (r : Ratio). r.bottom ≡ pos 1) e one) (λ there. all r (behind f r (g ∷ rest) (behind g r rest there))) (Contains-cons_cases (lesser f g) r rest h)) in (
+    let one : (lesser f g).bottom ≡ pos 1 = ⊎_elim (λ e. subst (λ (r : Ratio). r.bottom ≡ pos 1) (sym e) (all f (first f (g ∷ rest))))
+    (λ e. subst (λ (r : Ratio). r.bottom ≡ pos 1) (sym e) (all g (behind f g (g ∷ rest) (first g rest)))) is in
+    let (has, low) = least_from_is (lesser f g) rest
+    (λ r h. ⊎_elim (λ e. subst (λ (r : Ratio). r.bottom ≡ pos 1) e one) (λ there. all r (behind f r (g ∷ rest) (behind g r rest there)))
+    (Contains-cons_cases (lesser f g) r rest h)) in (
       ⊎_elim
           (λ e. ⊎_elim (λ e'. subst (Contains (f ∷ g ∷ rest)) (sym e' ∙ e) (first f (g ∷ rest))) (λ e'. subst (Contains (f ∷ g ∷ rest)) (sym e' ∙ e) (behind f g (g ∷ rest) (first g rest))) is)
           (λ there. behind f (least_from (lesser f g) rest) (g ∷ rest) (behind g (least_from (lesser f g) rest) rest there))
           (Contains-cons_cases (lesser f g) (least_from (lesser f g) rest) rest has),
       λ r h.
           ⊎_elim
-          (λ e. subst (λ (q : Ratio). (least_from (lesser f g) rest).top ≤ℤ q.top) e (after (least_from (lesser f g) rest).top (lesser f g).top f.top (low (lesser f g) (first (lesser f g) rest)) below_f))
+          (λ e. subst (λ (q : Ratio). (least_from (lesser f g) rest).top ≤ℤ q.top) e
+          (after (least_from (lesser f g) rest).top (lesser f g).top f.top (low (lesser f g) (first (lesser f g) rest)) below_f))
           (λ there.
           ⊎_elim
-          (λ e. subst (λ (q : Ratio). (least_from (lesser f g) rest).top ≤ℤ q.top) e (after (least_from (lesser f g) rest).top (lesser f g).top g.top (low (lesser f g) (first (lesser f g) rest)) below_g))
+          (λ e. subst (λ (q : Ratio). (least_from (lesser f g) rest).top ≤ℤ q.top) e
+          (after (least_from (lesser f g) rest).top (lesser f g).top g.top (low (lesser f g) (first (lesser f g) rest)) below_g))
           (λ later. low r (behind (lesser f g) r rest later))
           (Contains-cons_cases g r rest there))
           (Contains-cons_cases f r (g ∷ rest) h),

@@ -135,7 +135,9 @@ each_name lts class problem number P of_problem tokens cap up down makes name ha
         (Contains-append_cases (map row_name.Up (used_labels lts)) (map row_name.Down (used_labels lts)) name h')
     parts (inr (inr (inr (inr h)))) =
         let (c, h') = of_optional class.nonbranching (map row_name.Makes (makers lts problem number)) name h in
-        of_labels (may_make lts problem number) row_name.Makes (λ u lt e. makes c u lt (and_parts (has_label u lts.arcs) (not (u == case_consumer lts problem number)) e).0 (differs u (case_consumer lts problem number) (has_label u lts.arcs) e)) h'
+        of_labels (may_make lts problem number) row_name.Makes
+        (λ u lt e. makes c u lt (and_parts (has_label u lts.arcs) (not (u == case_consumer lts problem number)) e).0 (differs u
+        (case_consumer lts problem number) (has_label u lts.arcs) e)) h'
 
 -- ---- they stand
 
@@ -182,7 +184,8 @@ pub names_labels : (lts : System) (class : Class) (problem : Problem) (number : 
     → Contains (names_of lts class problem number) name → NamesLabels (labels lts) (row_expression lts class problem number [] name).terms
 names_labels lts class (Event s t) number name (_, label, _) has =
     each_name lts class (Event s t) number (λ n. NamesLabels (labels lts) (row_expression lts class (Event s t) number [] n).terms)
-    (λ n h. each_problem_name lts class s t (λ n. NamesLabels (labels lts) (row_expression lts class (Event s t) number [] n).terms) (λ pure. (label, tt)) (λ pure plain. tt) (λ pure plain q has'. tt) (λ pure plain. (label, tt)) (λ pure plain q has'. tt) n h)
+    (λ n h. each_problem_name lts class s t (λ n. NamesLabels (labels lts) (row_expression lts class (Event s t) number [] n).terms)
+    (λ pure. (label, tt)) (λ pure plain. tt) (λ pure plain q has'. tt) (λ pure plain. (label, tt)) (λ pure plain q has'. tt) n h)
     (λ c q lt. tt)
     (λ c q lt. tt)
     (λ c u lt _. (lt, tt))
@@ -191,7 +194,8 @@ names_labels lts class (Event s t) number name (_, label, _) has =
     name has
 names_labels lts class (States s s') number name asked has =
     each_name lts class (States s s') number (λ n. NamesLabels (labels lts) (row_expression lts class (States s s') number [] n).terms)
-    (λ n h. ⊎_elim (λ is. subst (λ m. NamesLabels (labels lts) (row_expression lts class (States s s') number [] m).terms) is (apart_names (labels lts) s s' (order_of lts class number))) (λ there. absurd (nothing n there)) (Contains-cons_cases row_name.Apart n [] h))
+    (λ n h. ⊎_elim (λ is. subst (λ m. NamesLabels (labels lts) (row_expression lts class (States s s') number [] m).terms) is
+    (apart_names (labels lts) s s' (order_of lts class number))) (λ there. absurd (nothing n there)) (Contains-cons_cases row_name.Apart n [] h))
     (λ c q lt. tt)
     (λ c q lt. tt)
     (λ c u lt _. (lt, tt))

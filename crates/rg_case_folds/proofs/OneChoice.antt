@@ -27,7 +27,8 @@ same_free : (s : CaseSetting) (case : CaseSystem) (v : ℕ → ℤ) (times start
     → effect t ≡ effect' t
 same_free s case v times start start' effect effect' t c g g' lt has =
     ⊎_elim
-    (λ used. at_column (where_has (λ t. is_in s.basis.members t && has_label t s.lts.arcs) 0 (labels s.lts) t (and_from (is_in s.basis.members t) (has_label t s.lts.arcs) (has_in s.basis.members t has) used) (omega arith) (omega arith)))
+    (λ used. at_column (where_has (λ t. is_in s.basis.members t && has_label t s.lts.arcs) 0 (labels s.lts) t
+    (and_from (is_in s.basis.members t) (has_label t s.lts.arcs) (has_in s.basis.members t has) used) (omega arith) (omega arith)))
     (λ unused. g.effects.unused t unused ∙ sym (g'.effects.unused t unused))
     (cases_Bool (has_label t s.lts.arcs))
   where
@@ -44,7 +45,9 @@ pub one_choice : (s : CaseSetting) (case : CaseSystem) (v : ℕ → ℤ) (times 
     → AreGivenBy s.setting case v times start effect → AreGivenBy s.setting case v times start' effect'
     → (has_start s.class ≡ true → start ≡ start') × ((t : ℕ) → t < labels s.lts → effect t ≡ effect' t)
 one_choice s case v times start start' effect effect' c g g' = (
-  λ starts. sym (first_value s.lts s.basis s.class start effect starts) ∙ same_column s.setting case v times start start' effect effect' 0 g g' (start_below s case c.is_case starts) ∙ first_value s.lts s.basis s.class start' effect' starts,
+  λ starts. sym (first_value s.lts s.basis s.class start effect starts)
+      ∙ same_column s.setting case v times start start' effect effect' 0 g g' (start_below s case c.is_case starts)
+      ∙ first_value s.lts s.basis s.class start' effect' starts,
   λ t lt. ⊎_elim (λ has. same_free s case v times start start' effect effect' t c g g' lt has) (λ outside. dependent t lt outside) (is_member s.basis.members t),
 )
   where

@@ -48,7 +48,7 @@ same_parts m (x ∷ xs) (y ∷ ys) ne e = ap₂ ◌∷◌ (mul-cancel_left m x y
     tail : map (λ z. m *ℤ z) (x ∷ xs) ≡ map (λ z. m *ℤ z) (y ∷ ys) → map (λ z. m *ℤ z) xs ≡ map (λ z. m *ℤ z) ys
     tail e = cc
 
-not_none : (g : ℕ) → pos (max g 1) ≢ pos 0
+pub not_none : (g : ℕ) → pos (max g 1) ≢ pos 0
 not_none g e = let h : 1 ≤ max g 1 = omega arith in absurd (go (max g 1) h e)
   where
     go : (n : ℕ) → 1 ≤ n → pos n ≡ pos 0 → ⊥
@@ -120,7 +120,8 @@ system_one s = and_then_one _ _
 -- ---- places
 
 pub effect_one : (lts : System) (basis : CycleBasis) (value : ℕ → Ratio) (t : ℕ) → IsOne (effect_fold lts basis value t)
-effect_one lts basis value t = either_one (not (has_label t lts.arcs)) _ _ (gives_one _) (either_one (is_in basis.members t) _ _ (gives_one _) (joined_one add _ add_one (λ f. and_then_one _ _ (quotient_one _ _) (λ k. two_terms_one _ _ _ _)) _ _))
+effect_one lts basis value t = either_one (not (has_label t lts.arcs)) _ _ (gives_one _)
+    (either_one (is_in basis.members t) _ _ (gives_one _) (joined_one add _ add_one (λ f. and_then_one _ _ (quotient_one _ _) (λ k. two_terms_one _ _ _ _)) _ _))
 
 pub whole_one : (class : Class) (numbers : List Ratio) → IsOne (made_whole class numbers)
 whole_one class numbers = either_one (class.plain || is_some class.bound) _ _ (gives_one _) (and_then_one _ _ (multiple_one _) (λ m. and_then_one _ _ (each_one _ (λ r. two_terms_one _ _ _ _) _)
@@ -184,7 +185,10 @@ leaf_of_shares_one lts tree basis expression shares =
     (λ chord_shares. and_then_one _ _ (scaled_one (map (λ r. r.multiplier) shares ++ chord_shares))
     (λ scaled. and_then_one _ _ (tree_one expression (named_from (map (λ r. r.name) shares ++ map arc_name (chord_arcs lts tree basis)) scaled.numbers) [] (reverse tree))
     (λ arcs. and_then_one _ _ (parts_one (scaled.numbers ++ map (λ x. x.multiplier) arcs))
-    (λ parts. leaf_one lts expression (not_zero (named_from (map (λ r. r.name) shares) parts ++ map (λ a. record { multiplier = multiplier_among (chord_arcs lts tree basis ++ map (λ x. x.arc) arcs) (drop (length shares) parts) a; name = arc_name a }) lts.arcs))))))
+    (λ parts. leaf_one lts expression (not_zero
+    (named_from (map (λ r. r.name) shares) parts
+    ++ map (λ a. record { multiplier = multiplier_among (chord_arcs lts tree basis ++ map (λ x. x.arc) arcs) (drop (length shares) parts) a; name = arc_name a })
+    lts.arcs))))))
 
 pub spread_one : (s : CaseSetting) (case : CaseSystem) (sides : List SplitSide) (above : List Side) (weights : List Weight) → IsOne (spread_fold s case sides above weights)
 spread_one s case sides above weights =

@@ -66,7 +66,8 @@ module _ (labels : ℕ) (basis : CycleBasis) (counts counts' : ℕ → ℤ) (opp
       → further add (dependent_term basis counts' f) s' ts (Ok h') → h' ≡ negated h
   negated_further f [] s s' h h' same e e' = e' ∙ same ∙ ap negated (sym e)
   negated_further f (t ∷ ts) s s' h h' same (p, made, (more, sum, rest)) (p', made', (more', sum', rest')) =
-      negated_further f ts more more' h h' (negated_sum s p more more' sum (subst (λ (r : Ratio). add (negated s) r (Ok more')) (negated_term f t p p' made made') (subst (λ (r : Ratio). add r p' (Ok more')) same sum'))) rest rest'
+      negated_further f ts more more' h h' (negated_sum s p more more' sum
+      (subst (λ (r : Ratio). add (negated s) r (Ok more')) (negated_term f t p p' made made') (subst (λ (r : Ratio). add r p' (Ok more')) same sum'))) rest rest'
 
   negated_coefficient : (f : ℕ) (h h' : Ratio) → coefficient_fold labels basis counts f (Ok h) → coefficient_fold labels basis counts' f (Ok h') → h' ≡ negated h
   negated_coefficient f h h' fold fold' = negated_further f (dependent_labels labels basis) (whole (counts f)) (whole (counts' f)) h h' (ap whole (opposite f)) fold fold'
@@ -104,9 +105,13 @@ bottoms_same lts basis class start start' rs = go (has_start class)
 -- a variable and its opposite are multiplied alike
 pub same_multiple : (it : Setting) (v : Variable) (s s' : Scaled) → terms_fold it (plus v ∷ []) (Ok s) → terms_fold it (minus v ∷ []) (Ok s') → s'.multiple ≡ s.multiple
 same_multiple it v s s' (free, substituted, (m, multiple, (ps, products, e))) (free', substituted', (m', multiple', (ps', products', e'))) =
-    let negatives : free' ≡ map negated free = negated_all (labels it.lts) it.basis (count_of it.tree (plus v ∷ [])) (count_of it.tree (minus v ∷ [])) (λ t. opposite (variable_count it.tree v t)) (free_labels (labels it.lts) it.basis) free free' substituted substituted' in
-    let bottoms = ap (λ rs. map (λ (r : Ratio). r.bottom) (columns_of it.lts it.basis it.class (start_of (minus v ∷ [])) rs)) negatives ∙ bottoms_same it.lts it.basis it.class (start_of (plus v ∷ [])) (start_of (minus v ∷ [])) free in
-    let one = (multiple_one (map (λ (r : Ratio). r.bottom) (columns_of it.lts it.basis it.class (start_of (plus v ∷ [])) free))).one (Ok m') (Ok m) (subst (λ ds. multiple_of_all ds (Ok m')) bottoms multiple') multiple in
+    let negatives : free' ≡ map negated free =
+    negated_all (labels it.lts) it.basis (count_of it.tree (plus v ∷ [])) (count_of it.tree (minus v ∷ []))
+    (λ t. opposite (variable_count it.tree v t)) (free_labels (labels it.lts) it.basis) free free' substituted substituted' in
+    let bottoms = ap (λ rs. map (λ (r : Ratio). r.bottom) (columns_of it.lts it.basis it.class (start_of (minus v ∷ [])) rs)) negatives
+    ∙ bottoms_same it.lts it.basis it.class (start_of (plus v ∷ [])) (start_of (minus v ∷ [])) free in
+    let one = (multiple_one (map (λ (r : Ratio). r.bottom) (columns_of it.lts it.basis it.class (start_of (plus v ∷ [])) free))).one (Ok m') (Ok m)
+    (subst (λ ds. multiple_of_all ds (Ok m')) bottoms multiple') multiple in
     let same : m' ≡ m = cc in
     ap (λ (x : Scaled). x.multiple) e' ∙ same ∙ sym (ap (λ (x : Scaled). x.multiple) e)
   where

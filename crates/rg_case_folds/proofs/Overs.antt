@@ -25,7 +25,8 @@ use Rattle.rg_case_folds.proofs.Scaling.{whole_ratio}
 use Rattle.rg_case_folds.proofs.Potentials.{counted, led_below}
 use Rattle.rg_case_folds.proofs.Lists.{nothing, first, behind}
 use Rattle.rg_case_folds.specs.Places.{IsReduced}
-use Rattle.rg_case_folds.proofs.Products.{mul_rotate, weak, and_nothing, itself}
+use Rattle.rg_case_folds.proofs.Products.{mul_rotate, and_nothing, itself}
+use Rattle.rg_fraction.proofs.Orders.{weak}
 use Rattle.std.proofs.Math.IntN.{*ℤ_comm}
 use Rattle.rg_case_folds.proofs.Found.{IsOverAt}
 
@@ -72,7 +73,8 @@ sum_in_range f g z pf pg (top, bottom, is) = smaller z ((int_div f.bottom (int_g
         right t u d' e' G = simp ring (omega (arith, ints))
 
     product : z *ℤ (int_div f.bottom (int_gcd f.bottom g.bottom) *ℤ g.bottom) ≡ (f.top *ℤ int_div g.bottom (int_gcd f.bottom g.bottom)) -ℤ (neg_ℤ g.top *ℤ int_div f.bottom (int_gcd f.bottom g.bottom))
-    product = close z f.bottom g.bottom f.top g.top (int_gcd f.bottom g.bottom) (int_div f.bottom (int_gcd f.bottom g.bottom)) (int_div g.bottom (int_gcd f.bottom g.bottom)) (positive_differs _ gcd_positive) divides divides' is.value
+    product = close z f.bottom g.bottom f.top g.top (int_gcd f.bottom g.bottom) (int_div f.bottom (int_gcd f.bottom g.bottom))
+        (int_div g.bottom (int_gcd f.bottom g.bottom)) (positive_differs _ gcd_positive) divides divides' is.value
 
     smaller : (z m t : ℤ) → pos 0 <ℤ m → z *ℤ m ≡ t → InRange t → InRange z
     smaller z m t h e fits = below (unsigned_abs z) (unsigned_abs m) (unsigned_abs t) _ (some m h) (sym (unsigned_abs-mul z m) ∙ ap unsigned_abs e) fits
@@ -91,7 +93,9 @@ along_over : (k : ℤ) (effect number out : ℕ → Ratio) (tree : List Arc) (wa
     → ((s : ℕ) → IsReduced (number s)) → along_tree effect number tree (Ok out) → (s : ℕ) → IsOverAt k (out s) (z +ℤ sum_over e (ways_from way tree s))
     × IsReduced (out s)
 along_over k effect number out [] way z e overs at reduced made s = subst (λ (f : ℕ → Ratio). IsOverAt k (f s) (z +ℤ sum_over e (way s)) × IsReduced (f s)) (sym made) (at s, reduced s)
-along_over k effect number out (a ∷ tree) way z e overs at reduced (m, added, rest) s = along_over k effect (λ q. if q == a.to then m else number q) out tree (λ q. if q == a.to then (way a.from ++ a.label ∷ []) else way q) z e (λ b has. overs b (behind a b tree has)) next reduced_next rest s
+along_over k effect number out (a ∷ tree) way z e overs at reduced (m, added, rest) s =
+    along_over k effect (λ q. if q == a.to then m else number q) out tree (λ q. if q == a.to then (way a.from ++ a.label ∷ []) else way q) z e
+    (λ b has. overs b (behind a b tree has)) next reduced_next rest s
   where
     joined : IsOverAt k m (z +ℤ sum_over e (way a.from ++ a.label ∷ []))
     joined = (
@@ -197,7 +201,9 @@ least_from_over k f (g ∷ rest) positive all =
     let (a, of_f) = all f (first f (g ∷ rest)) in
     let (b, of_g) = all g (behind f g (g ∷ rest) (first g rest)) in
     let (l, of_l, is, below_f, below_g) = lesser_over k a b f g positive of_f of_g in
-    let (c, over, has, low) = least_from_over k (lesser f g) rest positive (λ r h. ⊎_elim (λ e. (l, subst (λ q. IsOverAt k q l) e of_l)) (λ there. all r (behind f r (g ∷ rest) (behind g r rest there))) (Contains-cons_cases (lesser f g) r rest h)) in (
+    let (c, over, has, low) = least_from_over k (lesser f g) rest positive
+    (λ r h. ⊎_elim (λ e. (l, subst (λ q. IsOverAt k q l) e of_l)) (λ there. all r (behind f r (g ∷ rest) (behind g r rest there)))
+    (Contains-cons_cases (lesser f g) r rest h)) in (
       c,
       over,
       ⊎_elim

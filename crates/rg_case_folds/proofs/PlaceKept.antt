@@ -63,7 +63,8 @@ shifted_at list numbers n p some (count, at) made =
             (subst (λ f. add f (negated (least_of list)) (Ok (ratio_at numbers s))) (at s lt).0
             (each_at (λ m. add m (negated (least_of list))) list numbers (whole (pos 0)) (whole (pos 0)) s made (subst (λ k. s < k) (sym count) lt)))),
       ),
-      λ s lt. above (p s) (least_of list).top (subst (λ (r : Ratio). (least_of list).top ≤ℤ r.top) (at s lt).0 (low (ratio_at list s) (Contains-get_or list s (whole (pos 0)) (subst (λ k. s < k) (sym count) lt)))),
+      λ s lt. above (p s) (least_of list).top (subst (λ (r : Ratio). (least_of list).top ≤ℤ r.top)
+          (at s lt).0 (low (ratio_at list s) (Contains-get_or list s (whole (pos 0)) (subst (λ k. s < k) (sym count) lt)))),
       place (least_of list) has,
     )
   where
@@ -140,16 +141,21 @@ lift_kept lts class (States s s') number found moved numbers x fine in_range k l
         let bound = lifted_parts (is_some class.marking) class.plain (is_some class.bound) e in
         let made : each (λ r. add r (whole (pos by))) moved (Ok numbers) = subst (λ b. lift_by lts class (States s s') b moved numbers) e lift in
         let multiple : IsMultiple (unwrap_or class.marking 1) (unsigned_abs (x (Tokens lts.initial)) + by) =
-        subst (λ a. IsMultiple (unwrap_or class.marking 1) (a + by)) top (missing_is_least (unwrap_or class.marking 1) (unsigned_abs (top_at moved lts.initial)) (some (unwrap_or class.marking 1) (multiple_positive class in_range))).0 in (
+        subst (λ a. IsMultiple (unwrap_or class.marking 1) (a + by)) top
+        (missing_is_least (unwrap_or class.marking 1) (unsigned_abs (top_at moved lts.initial))
+        (some (unwrap_or class.marking 1) (multiple_positive class in_range))).0 in (
           shifted (pos by) x,
           record {
             keeps = lifted_keeps lts class bound (pos by) (natural by) x s s' number k.keeps;
             at = (
               each_length (λ r. add r (whole (pos by))) moved numbers made ∙ k.at.0,
-              λ q lt. add_whole (x (Tokens q)) (pos by) (ratio_at numbers q) (subst (λ f. add f (whole (pos by)) (Ok (ratio_at numbers q))) (k.at.1 q lt).0 (each_at (λ r. add r (whole (pos by))) moved numbers (whole (pos 0)) (whole (pos 0)) q made (subst (λ c. q < c) (sym k.at.0) lt))),
+              λ q lt. add_whole (x (Tokens q)) (pos by) (ratio_at numbers q)
+                  (subst (λ f. add f (whole (pos by)) (Ok (ratio_at numbers q)))
+                  (k.at.1 q lt).0 (each_at (λ r. add r (whole (pos by))) moved numbers (whole (pos 0)) (whole (pos 0)) q made (subst (λ c. q < c) (sym k.at.0) lt))),
             );
             effects = k.effects;
-            start = allows_all class.marking (unsigned_abs (x (Tokens lts.initial) +ℤ pos by)) (subst (IsMultiple (unwrap_or class.marking 1)) (sym (more (x (Tokens lts.initial)) (unsigned_abs (x (Tokens lts.initial))) by low)) multiple);
+            start = allows_all class.marking (unsigned_abs (x (Tokens lts.initial) +ℤ pos by))
+                (subst (IsMultiple (unwrap_or class.marking 1)) (sym (more (x (Tokens lts.initial)) (unsigned_abs (x (Tokens lts.initial))) by low)) multiple);
           },
         )
 
@@ -188,11 +194,12 @@ kept_is it case first effect scale m found numbers out plain bound c e positive 
           (f.fits (labels it.lts)) f.is_whole same (subst (λ r. along_tree (ratio_at found) (λ q. r) it.tree (Ok out)) (f.is_whole (labels it.lts)) made)),
     )
 
-    -- the it.number of each state is so many steps
+    -- the number of each state is so many steps
     steps_at : (s : ℕ) → (u : ℤ) × (potential it.lts it.tree (top_at found (labels it.lts)) (found_effect it.lts found) s ≡ pos (unwrap_or it.class.marking 1) *ℤ u)
     steps_at s =
         let (u, is) = steps (labels it.lts) in
-        let (w, is') = sum_times (pos (unwrap_or it.class.marking 1)) (labels it.lts) (λ t. pos (parikh it.tree s t) *ℤ found_effect it.lts found t) (λ t lt. scaled (pos (unwrap_or it.class.marking 1)) (pos (parikh it.tree s t)) (found_effect it.lts found t) (used t (has_label t it.lts.arcs))) in
+        let (w, is') = sum_times (pos (unwrap_or it.class.marking 1)) (labels it.lts) (λ t. pos (parikh it.tree s t) *ℤ found_effect it.lts found t)
+        (λ t lt. scaled (pos (unwrap_or it.class.marking 1)) (pos (parikh it.tree s t)) (found_effect it.lts found t) (used t (has_label t it.lts.arcs))) in
         (u +ℤ w, join (pos (unwrap_or it.class.marking 1)) (top_at found (labels it.lts)) (sum_below (labels it.lts) (λ t. pos (parikh it.tree s t) *ℤ found_effect it.lts found t)) u w is is')
       where
         used : (t : ℕ) (b : Bool) → (u : ℤ) × ((if b then top_at found t else pos 0) ≡ pos (unwrap_or it.class.marking 1) *ℤ u)
@@ -226,7 +233,8 @@ kept_is it case first effect scale m found numbers out plain bound c e positive 
     other_case impure =
         let starts : has_start it.class ≡ false = ap₂ (λ x y. x || y) impure (ap₂ (λ x y. x || y) plain (not_bounded it.class.bound bound)) in
         let moved = subst (λ b. shift_by b (map out (all_numbers (states it.lts))) numbers) (moves false impure) shift in
-        let (by, at', above, (l, l_lt, by_is)) = shifted_at (map out (all_numbers (states it.lts))) numbers (states it.lts) (potential it.lts it.tree (top_at found (labels it.lts)) (found_effect it.lts found)) (let lt = c.in_range.initial in omega arith) at moved in (
+        let (by, at', above, (l, l_lt, by_is)) = shifted_at (map out (all_numbers (states it.lts))) numbers (states it.lts)
+        (potential it.lts it.tree (top_at found (labels it.lts)) (found_effect it.lts found)) (let lt = c.in_range.initial in omega arith) at moved in (
           shifted by (numbers_along it.lts it.tree (top_at found (labels it.lts)) (found_effect it.lts found)),
           record {
             keeps = at_one it.lts it.class it.problem it.number m (shifted by (numbers_along it.lts it.tree (top_at found (labels it.lts)) (found_effect it.lts found))) plain bound f.positive

@@ -85,7 +85,8 @@ fits_most z h = at_most (unsigned_abs z) (2 ^ 127) h
 -- ---- lists of weights
 
 pub listed : (xs : List ℤ) (f : ℕ → ℕ) (n : ℕ) → length xs ≡ n → ((i : ℕ) → i < n → unsigned_abs (number_at xs i) ≡ f i) → map unsigned_abs xs ≡ map f (range_with_len 0 n)
-listed xs f n count same = ext_get_or 0 (map unsigned_abs xs) (map f (range_with_len 0 n)) (length-map xs unsigned_abs ∙ count ∙ sym (length-map-range_with_len f 0 n)) (λ i lt. at i (subst (λ k. i < k) (length-map xs unsigned_abs ∙ count) lt))
+listed xs f n count same = ext_get_or 0 (map unsigned_abs xs) (map f (range_with_len 0 n))
+    (length-map xs unsigned_abs ∙ count ∙ sym (length-map-range_with_len f 0 n)) (λ i lt. at i (subst (λ k. i < k) (length-map xs unsigned_abs ∙ count) lt))
   where
     at : (i : ℕ) → i < n → slice_index_or (map unsigned_abs xs) i 0 ≡ slice_index_or (map f (range_with_len 0 n)) i 0
     at i lt = get_or-map unsigned_abs xs i (pos 0) 0 (subst (λ k. i < k) (sym count) lt) ∙ same i lt ∙ sym (get_or-map-range_with_len f 0 n i i 0 lt (zero-add i))
@@ -106,7 +107,8 @@ taken_length g n = length-map (all_numbers n) g ∙ all_length n
 -- what is put, by label
 pub given_at : (g e : ℕ → ℤ) (n i : ℕ) (post : List ℤ) → each (λ u. whole_sum (g u) (e u)) (all_numbers n) (Ok post) → i < n → (number_at post i ≡ g i +ℤ e i) × InRange (number_at post i)
 given_at g e n i post made lt =
-    let (fits, is) = subst (λ u. whole_sum (g u) (e u) (Ok (number_at post i))) (all_at n i lt) (each_at (λ u. whole_sum (g u) (e u)) (all_numbers n) post 0 (pos 0) i made (subst (λ k. i < k) (sym (all_length n)) lt)) in
+    let (fits, is) = subst (λ u. whole_sum (g u) (e u) (Ok (number_at post i))) (all_at n i lt)
+    (each_at (λ u. whole_sum (g u) (e u)) (all_numbers n) post 0 (pos 0) i made (subst (λ k. i < k) (sym (all_length n)) lt)) in
     (is ∙ close (g i) (e i), subst InRange (sym is) fits.difference)
   where
     close : (x y : ℤ) → (x *ℤ pos 1) -ℤ (neg_ℤ y *ℤ pos 1) ≡ x +ℤ y
@@ -115,7 +117,8 @@ given_at g e n i post made lt =
 -- what is taken is a number of the sum
 pub taken_in_range : (g e : ℕ → ℤ) (n i : ℕ) (post : List ℤ) → each (λ u. whole_sum (g u) (e u)) (all_numbers n) (Ok post) → i < n → InRange (g i)
 taken_in_range g e n i post made lt =
-    let (fits, is) = subst (λ u. whole_sum (g u) (e u) (Ok (number_at post i))) (all_at n i lt) (each_at (λ u. whole_sum (g u) (e u)) (all_numbers n) post 0 (pos 0) i made (subst (λ k. i < k) (sym (all_length n)) lt)) in
+    let (fits, is) = subst (λ u. whole_sum (g u) (e u) (Ok (number_at post i))) (all_at n i lt)
+    (each_at (λ u. whole_sum (g u) (e u)) (all_numbers n) post 0 (pos 0) i made (subst (λ k. i < k) (sym (all_length n)) lt)) in
     subst InRange (mul-one (g i)) fits.left
 
 pub given_length : (g e : ℕ → ℤ) (n : ℕ) (post : List ℤ) → each (λ u. whole_sum (g u) (e u)) (all_numbers n) (Ok post) → length post ≡ n

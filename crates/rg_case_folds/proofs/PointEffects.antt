@@ -64,7 +64,8 @@ assigned test a (suc n) f = go (test a) (assigned test (suc a) n (λ j. f (suc j
 
     go : (b : Bool) → ((w : ℕ → ℤ) × ((j : ℕ) → j < length (numbers_where test (suc a) n) → f (suc j) ≡ number_at (map w (numbers_where test (suc a) n)) j))
         → ((w : ℕ → ℤ) × ((j : ℕ) → j < length (numbers_where test (suc a) n) → f j ≡ number_at (map w (numbers_where test (suc a) n)) j))
-        → (w : ℕ → ℤ) × ((j : ℕ) → j < length (if b then (a ∷ numbers_where test (suc a) n) else numbers_where test (suc a) n) → f j ≡ number_at (map w (if b then (a ∷ numbers_where test (suc a) n) else numbers_where test (suc a) n)) j)
+        → (w : ℕ → ℤ) × ((j : ℕ) → j < length (if b then (a ∷ numbers_where test (suc a) n) else numbers_where test (suc a) n)
+        → f j ≡ number_at (map w (if b then (a ∷ numbers_where test (suc a) n) else numbers_where test (suc a) n)) j)
     go true (w, h) other = (λ t. if t == a then f 0 else w t, at w h)
     go false other (w, h) = (w, h)
 
@@ -74,8 +75,14 @@ assigned test a (suc n) f = go (test a) (assigned test (suc a) n (λ j. f (suc j
 multiple_below : (n : ℕ) (d : ℕ → ℤ) → ((t : ℕ) → t < n → pos 0 <ℤ d t) → (b : ℤ) × (part : ℕ → ℤ) × (pos 0 <ℤ b) × ((t : ℕ) → t < n → b ≡ d t *ℤ part t)
 multiple_below zero d each_positive = (pos 1, λ t. pos 0, omega (arith, ints), λ t lt. absurd (omega arith))
 multiple_below (suc n) d each_positive =
-    let (b, part, positive, exact) = multiple_below n d (λ t lt. each_positive t (omega arith)) in
-    (b *ℤ d n, λ t. if t == n then b else part t *ℤ d n, mul_positive b (d n) positive (each_positive n (omega arith)), λ t lt. ⊎_elim (λ same. last b part t same) (λ differ. earlier b part t differ (exact t (below t lt differ))) (cases_eq t n))
+    let (b, part, positive, exact) = multiple_below n d (λ t lt. each_positive t (omega arith)) in (
+      b *ℤ d n,
+      λ t. if t == n then b else part t
+          *ℤ d n,
+      mul_positive b (d n) positive (each_positive n (omega arith)),
+      λ t lt. ⊎_elim (λ same. last b part t same)
+          (λ differ. earlier b part t differ (exact t (below t lt differ))) (cases_eq t n),
+    )
   where
     below : (t : ℕ) → t < suc n → t ≢ n → t < n
     below t lt differ = omega arith
@@ -119,7 +126,8 @@ term_value lts basis b part w k j over =
     ⊎_elim
     (λ used.
     ⊎_elim
-    (λ member. ap (λ z. k.coefficient j *ℤ z) (free_effect lts basis b part w j used member) ∙ mul_left_comm (k.coefficient j) b (w j) ∙ ap (λ c. b *ℤ (k.coefficient j *ℤ (if c then w j else pos 0))) (sym used))
+    (λ member. ap (λ z. k.coefficient j *ℤ z) (free_effect lts basis b part w j used member) ∙ mul_left_comm (k.coefficient j) b (w j)
+    ∙ ap (λ c. b *ℤ (k.coefficient j *ℤ (if c then w j else pos 0))) (sym used))
     (λ outside. none (k.coefficient j) b (given_effect lts basis b part w j) (used_value lts w j) (over (λ has. true≢false (sym (has_in basis.members j has) ∙ outside))))
     (cases_Bool (is_in basis.members j)))
     (λ unused. ap (λ z. k.coefficient j *ℤ z) (unused_effect lts basis b part w j unused) ∙ zeros (k.coefficient j) b ∙ ap (λ c. b *ℤ (k.coefficient j *ℤ (if c then w j else pos 0))) (sym unused))
@@ -212,7 +220,8 @@ point_gives it case v c =
         → ((j : ℕ) → j < length (free_columns it.lts it.basis) → v (first_column it.class + j) ≡ number_at (map w (free_columns it.lts it.basis)) j) → (j : ℕ)
         → j < case.columns → b *ℤ v j ≡ number_at (column_values it.lts it.basis it.class (b *ℤ v 0) (given_effect it.lts it.basis b part w)) j
     columns b part w at j lt =
-        let split = columns_split it.lts it.basis it.class (b *ℤ v 0) (given_effect it.lts it.basis b part w) ∙ ap (λ l. (if has_start it.class then ((b *ℤ v 0) ∷ []) else []) ++ l) (free_times b part w) in
+        let split = columns_split it.lts it.basis it.class (b *ℤ v 0) (given_effect it.lts it.basis b part w)
+        ∙ ap (λ l. (if has_start it.class then ((b *ℤ v 0) ∷ []) else []) ++ l) (free_times b part w) in
         let count = values_counted it case (b *ℤ v 0) (given_effect it.lts it.basis b part w) c.is_case in
         let below : j < length (column_values it.lts it.basis it.class (b *ℤ v 0) (given_effect it.lts it.basis b part w)) = omega arith in
         by (has_start it.class) b w at j (subst (λ l. j < length l) split below) ∙ sym (ap (λ l. number_at l j) split)

@@ -22,7 +22,7 @@ use Rattle.rg_case_folds.proofs.Kept.{effects_given, meets_given}
 use Rattle.rg_case_folds.proofs.ColumnValues.{row_sum}
 use Rattle.rg_case_folds.proofs.PointEffects.{point_gives}
 use Rattle.rg_cert_meaning.specs.declared.RowName.TheVariants as row_name
-use Rattle.rg_case_folds.proofs.Products.{weak}
+use Rattle.rg_fraction.proofs.Orders.{weak}
 use Rattle.rg_integers.proofs.Ring.{one-mul}
 use Rattle.rg_cert_meaning.specs.declared.Variable.TheVariants.{Tokens}
 
@@ -33,7 +33,9 @@ row_value_at : (s : CaseSetting) (case : CaseSystem) (v : ℕ → ℤ) (scale ti
 row_value_at s case v scale times start effect i c p g lt =
     (scaled_point (rows_of case) scale times v g.positive p).rows i lt
     ∙ ap (λ z. z +ℤ ((row_at (rows_of case) i).constant *ℤ (times *ℤ scale)))
-    (sum_below-same case.columns (λ j. entry (rows_of case) i j *ℤ (times *ℤ v j)) (λ j. number_at (row_at (rows_of case) i).coeffs j *ℤ number_at (column_values s.lts s.basis s.class start effect) j) (λ j below. ap (λ z. entry (rows_of case) i j *ℤ z) (g.columns j below))
+    (sum_below-same case.columns (λ j. entry (rows_of case) i j *ℤ (times *ℤ v j))
+    (λ j. number_at (row_at (rows_of case) i).coeffs j *ℤ number_at (column_values s.lts s.basis s.class start effect) j)
+    (λ j below. ap (λ z. entry (rows_of case) i j *ℤ z) (g.columns j below))
     ∙ sym (row_sum s case start effect (row_at (rows_of case) i).coeffs c.is_case))
 
 -- the row at a place is that of the kept row there
@@ -43,7 +45,8 @@ row_there case i k lt = get_or-map (λ (k : KeptRow). k.row) case.kept i k (reco
 pub point_meets : (s : CaseSetting) (case : CaseSystem) (v : ℕ → ℤ) (scale times start : ℤ) (effect : ℕ → ℤ) → IsCaseOver s case → IsPoint (rows_of case) scale v
     → AreGivenBy s.setting case v times start effect → MeetsRows (rows_of case) v ↔ MeetsCase s.setting case start effect (times *ℤ scale)
 point_meets s case v scale times start effect c p g = (
-  (λ meets k (i, lt, e). met k (row_at (rows_of case) i) (row_there case i k lt ∙ ap (λ (k : KeptRow). k.row) e) (subst (λ z. pos 0 ≤ℤ z) (value i (counted i lt)) (mul_not_negative times (v (row_variable (rows_of case) i)) (weak times g.positive) (meets i (counted i lt))))),
+  (λ meets k (i, lt, e). met k (row_at (rows_of case) i) (row_there case i k lt ∙ ap (λ (k : KeptRow). k.row) e)
+      (subst (λ z. pos 0 ≤ℤ z) (value i (counted i lt)) (mul_not_negative times (v (row_variable (rows_of case) i)) (weak times g.positive) (meets i (counted i lt))))),
   (λ meets i lt. factor_not_negative times (v (row_variable (rows_of case) i)) g.positive
       (subst (λ z. pos 0 ≤ℤ z) (sym (value i lt))
       (back (slice_index_or case.kept i none) (row_at (rows_of case) i) (row_there case i none (counted' i lt))
@@ -59,7 +62,9 @@ point_meets s case v scale times start effect c p g = (
     counted' : (i : ℕ) → i < length (map (λ k. k.row) case.kept) → i < length case.kept
     counted' i lt = let same = length-map case.kept (λ (k : KeptRow). k.row) in omega arith
 
-    value : (i : ℕ) → i < length (map (λ k. k.row) case.kept) → times *ℤ v (row_variable (rows_of case) i) ≡ dot (row_at (rows_of case) i).coeffs (column_values s.lts s.basis s.class start effect) +ℤ ((row_at (rows_of case) i).constant *ℤ (times *ℤ scale))
+    value : (i : ℕ) → i < length (map (λ k. k.row) case.kept)
+        → times *ℤ v (row_variable (rows_of case) i)
+        ≡ dot (row_at (rows_of case) i).coeffs (column_values s.lts s.basis s.class start effect) +ℤ ((row_at (rows_of case) i).constant *ℤ (times *ℤ scale))
     value i lt = row_value_at s case v scale times start effect i c p g lt
 
     met : (k : KeptRow) (r : LinearRow) → r ≡ k.row → pos 0 ≤ℤ (dot r.coeffs (column_values s.lts s.basis s.class start effect) +ℤ (r.constant *ℤ (times *ℤ scale)))
@@ -79,7 +84,8 @@ given_point s case start effect scale c e positive = (
   record {
     positive = omega (arith, ints);
     effects = e;
-    columns = λ j lt. ap (λ z. pos 1 *ℤ z) (values_of-column (rows_of case) scale (λ j. number_at (column_values s.lts s.basis s.class start effect) j) j lt) ∙ one-mul (number_at (column_values s.lts s.basis s.class start effect) j);
+    columns = λ j lt. ap (λ z. pos 1 *ℤ z) (values_of-column (rows_of case) scale
+        (λ j. number_at (column_values s.lts s.basis s.class start effect) j) j lt) ∙ one-mul (number_at (column_values s.lts s.basis s.class start effect) j);
   },
 )
 

@@ -36,7 +36,8 @@ more_count a b z = let e : pos (a + b) ≡ pos a +ℤ pos b = omega (arith, ints
 pub counted : (n : ℕ) (effect : ℕ → ℤ) (ts : List ℕ) → AllBelow n ts → sum_below n (λ t. pos (count t ts) *ℤ effect t) ≡ sum_over effect ts
 counted n effect [] below = sum_below-zero n (λ t. pos 0 *ℤ effect t) (λ t lt. zero-*ℤ (effect t))
 counted n effect (u ∷ us) (lt, below) =
-    sum_below-same n (λ t. pos ((if t == u then 1 else 0) + count t us) *ℤ effect t) (λ t. (pos (if t == u then 1 else 0) *ℤ effect t) +ℤ (pos (count t us) *ℤ effect t)) (λ t lt'. more_count (if t == u then 1 else 0) (count t us) (effect t))
+    sum_below-same n (λ t. pos ((if t == u then 1 else 0) + count t us) *ℤ effect t)
+    (λ t. (pos (if t == u then 1 else 0) *ℤ effect t) +ℤ (pos (count t us) *ℤ effect t)) (λ t lt'. more_count (if t == u then 1 else 0) (count t us) (effect t))
     ∙ sum_below-plus n (λ t. pos (if t == u then 1 else 0) *ℤ effect t) (λ t. pos (count t us) *ℤ effect t)
     ∙ ap₂ ◌+ℤ◌ (one_effect n u effect lt) (counted n effect us below)
 
@@ -71,7 +72,8 @@ arc_sum lts tree start effect a lt =
     let to : ℕ → ℤ = λ t. pos (parikh tree a.to t) *ℤ effect t in
     let own : ℕ → ℤ = λ t. pos (if t == a.label then 1 else 0) *ℤ effect t in
     let vector : ℕ → ℤ = λ t. chord_entry tree a t *ℤ effect t in
-    let split : sum_below n (λ t. vector t +ℤ to t) ≡ sum_below n (λ t. from t +ℤ own t) = sum_below-same n (λ t. vector t +ℤ to t) (λ t. from t +ℤ own t) (λ t lt'. at_label (t == a.label) (parikh tree a.from t) (parikh tree a.to t) (effect t)) in
+    let split : sum_below n (λ t. vector t +ℤ to t) ≡ sum_below n (λ t. from t +ℤ own t) =
+    sum_below-same n (λ t. vector t +ℤ to t) (λ t. from t +ℤ own t) (λ t lt'. at_label (t == a.label) (parikh tree a.from t) (parikh tree a.to t) (effect t)) in
     let left : sum_below n (λ t. vector t +ℤ to t) ≡ sum_below n vector +ℤ sum_below n to = sum_below-plus n vector to in
     let right : sum_below n (λ t. from t +ℤ own t) ≡ sum_below n from +ℤ sum_below n own = sum_below-plus n from own in
     let one : sum_below n own ≡ effect a.label = one_effect n a.label effect lt in

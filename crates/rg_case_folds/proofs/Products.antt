@@ -1,6 +1,6 @@
 -- Turns of products, and other small laws of numbers.
 use Rattle.std.proofs.Common.{◌≡◌, ℕ, zero, suc, ◌-◌, ◌<◌, sym, arith}
-use Rattle.std.specs.Prelude.{ℤ, pos, ◌+ℤ◌, ◌-ℤ◌, ◌*ℤ◌, ◌<ℤ◌, ◌≤ℤ◌}
+use Rattle.std.specs.Prelude.{ℤ, pos, ◌+ℤ◌, ◌-ℤ◌, ◌*ℤ◌, ◌≤ℤ◌}
 use Rattle.std.proofs.lemmas.Int.{ints}
 use Rattle.std.proofs.Math.IntN.{*ℤ-zero}
 use Rattle.rg_integers.specs.Sum.{sum_below}
@@ -46,9 +46,6 @@ first_of_sum a b c p q = omega (arith, ints)
 
 pub itself_taken : (n : ℕ) → n - n ≡ 0
 itself_taken n = omega arith
-
-pub weak : (z : ℤ) → pos 0 <ℤ z → pos 0 ≤ℤ z
-weak z h = omega (arith, ints)
 
 pub itself : (z : ℤ) → z ≤ℤ z
 itself z = omega (arith, ints)

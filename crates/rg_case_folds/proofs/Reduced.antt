@@ -41,11 +41,14 @@ one_reduced lts basis value t h values lt fold =
     used label =
         let by = subst (λ b. effect_by b (is_in basis.members t)) label fold in
         ⊎_elim
-        (λ member. subst IsReduced (sym (subst (λ b. effect_by true b) member by)) (values t (where_has (λ t. is_in basis.members t && has_label t lts.arcs) 0 (labels lts) t (and_from (is_in basis.members t) (has_label t lts.arcs) member label) (omega arith) (omega arith))))
+        (λ member. subst IsReduced (sym (subst (λ b. effect_by true b) member by))
+        (values t (where_has (λ t. is_in basis.members t && has_label t lts.arcs) 0 (labels lts) t
+        (and_from (is_in basis.members t) (has_label t lts.arcs) member label) (omega arith) (omega arith))))
         (λ outside. joined_reduced term h (free_columns lts basis) (λ f k (q, divided, product). product.2.reduced) (subst (λ b. effect_by true b) outside by))
         (cases_Bool (is_in basis.members t))
 
-module _ (lts : System) (basis : CycleBasis) (start : Ratio) (value : ℕ → Ratio) (first : ℤ) (effect : ℕ → ℤ) (scale : ℤ) (effects : List Ratio) (v : AreValuesOf lts basis start value first effect scale) (made : each (effect_fold lts basis value) (all_numbers (labels lts)) (Ok effects)) where
+module _ (lts : System) (basis : CycleBasis) (start : Ratio) (value : ℕ → Ratio) (first : ℤ) (effect : ℕ → ℤ) (scale : ℤ) (effects : List Ratio)
+    (v : AreValuesOf lts basis start value first effect scale) (made : each (effect_fold lts basis value) (all_numbers (labels lts)) (Ok effects)) where
   count : length effects ≡ labels lts
   count = each_length (effect_fold lts basis value) (all_numbers (labels lts)) effects made ∙ all_length (labels lts)
 
@@ -56,4 +59,5 @@ module _ (lts : System) (basis : CycleBasis) (start : Ratio) (value : ℕ → Ra
       (each_at (effect_fold lts basis value) (all_numbers (labels lts)) effects 0 (whole (pos 0)) t made (subst (λ n. t < n) (sym (all_length (labels lts))) lt))))
 
   pub start_is_reduced : IsReduced (ratio_at (effects ++ start ∷ []) (labels lts))
-  start_is_reduced = subst IsReduced (sym (get_or-append_right effects (start ∷ []) (labels lts) (labels lts) (whole (pos 0)) count (omega arith) ∙ ap (λ k. ratio_at (start ∷ []) k) (itself_taken (labels lts)))) v.start_reduced
+  start_is_reduced = subst IsReduced (sym (get_or-append_right effects (start ∷ []) (labels lts) (labels lts) (whole (pos 0)) count (omega arith)
+      ∙ ap (λ k. ratio_at (start ∷ []) k) (itself_taken (labels lts)))) v.start_reduced

@@ -55,14 +55,17 @@ rewritten lts tree start effect (t ∷ terms) names =
     let n = labels lts in
     let here = variable_value lts tree start effect t.coefficient t.variable terms names in
     let rest = rewritten lts tree start effect terms (names_rest (labels lts) t terms names) in
-    let sums : sum_below (labels lts) (λ u. ((t.coefficient *ℤ variable_count tree t.variable u) +ℤ count_of tree terms u) *ℤ effect u) ≡ (t.coefficient *ℤ sum_below (labels lts) (λ u. variable_count tree t.variable u *ℤ effect u)) +ℤ sum_below (labels lts) (λ u. count_of tree terms u *ℤ effect u) =
+    let sums : sum_below (labels lts) (λ u. ((t.coefficient *ℤ variable_count tree t.variable u) +ℤ count_of tree terms u) *ℤ effect u)
+    ≡ (t.coefficient *ℤ sum_below (labels lts) (λ u. variable_count tree t.variable u *ℤ effect u))
+    +ℤ sum_below (labels lts) (λ u. count_of tree terms u *ℤ effect u) =
     sum_below-same (labels lts) (λ u. ((t.coefficient *ℤ variable_count tree t.variable u) +ℤ count_of tree terms u) *ℤ effect u)
     (λ u. (t.coefficient *ℤ (variable_count tree t.variable u *ℤ effect u)) +ℤ (count_of tree terms u *ℤ effect u))
     (λ u lt. spread t.coefficient (variable_count tree t.variable u) (count_of tree terms u) (effect u))
     ∙ sum_below-plus (labels lts) (λ u. t.coefficient *ℤ (variable_count tree t.variable u *ℤ effect u)) (λ u. count_of tree terms u *ℤ effect u)
     ∙ ap (λ z. z +ℤ sum_below (labels lts) (λ u. count_of tree terms u *ℤ effect u)) (sum_below-times (labels lts) t.coefficient (λ u. variable_count tree t.variable u *ℤ effect u)) in
     ap₂ (λ a b. (t.coefficient *ℤ a) +ℤ b) here rest
-    ∙ close t.coefficient (variable_start t.variable) start (sum_below (labels lts) (λ u. variable_count tree t.variable u *ℤ effect u)) (start_of terms) (sum_below (labels lts) (λ u. count_of tree terms u *ℤ effect u))
+    ∙ close t.coefficient (variable_start t.variable) start (sum_below (labels lts) (λ u. variable_count tree t.variable u *ℤ effect u))
+    (start_of terms) (sum_below (labels lts) (λ u. count_of tree terms u *ℤ effect u))
     ∙ ap (λ z. (((t.coefficient *ℤ variable_start t.variable) +ℤ start_of terms) *ℤ start) +ℤ z) (sym sums)
   where
     spread : (c v k e : ℤ) → ((c *ℤ v) +ℤ k) *ℤ e ≡ (c *ℤ (v *ℤ e)) +ℤ (k *ℤ e)
@@ -127,7 +130,11 @@ further_over b make y f h x (t ∷ ts) (k, made, (g, added, rest)) p each_over =
 pub coefficient_over : (lts : System) (basis : CycleBasis) (counts : ℕ → ℤ) (f : ℕ) (h : Ratio) (b : ℤ) (part : ℕ → ℤ)
     → ((t : ℕ) → Contains (dependent_labels (labels lts) basis) t → b ≡ (basis.relation t).d *ℤ part t) → coefficient_fold (labels lts) basis counts f (Ok h)
     → IsOver b h ((counts f *ℤ b) +ℤ sum_over (λ t. counts t *ℤ ((basis.relation t).coefficient f *ℤ part t)) (dependent_labels (labels lts) basis))
-coefficient_over lts basis counts f h b part divides fold = further_over b (dependent_term basis counts f) (λ t. counts t *ℤ ((basis.relation t).coefficient f *ℤ part t)) (whole (counts f)) h (counts f *ℤ b) (dependent_labels (labels lts) basis) fold (whole_over b (counts f)) made
+coefficient_over lts basis counts f h b part divides fold =
+    further_over b (dependent_term basis counts f) (λ t. counts t *ℤ ((basis.relation t).coefficient f *ℤ part t)) (whole (counts f)) h
+    (counts f *ℤ b) (dependent_labels (labels lts) basis) fold (whole_over b (counts f)) made
   where
     made : (t : ℕ) (k : Ratio) → Contains (dependent_labels (labels lts) basis) t → dependent_term basis counts f t (Ok k) → IsOver b k (counts t *ℤ ((basis.relation t).coefficient f *ℤ part t))
-    made t k has (q, is, product) = times_over b (counts t) q k ((basis.relation t).coefficient f *ℤ part t) product (subst (λ z. IsOver z q ((basis.relation t).coefficient f *ℤ part t)) (sym (divides t has)) (quotient_over ((basis.relation t).coefficient f) (basis.relation t).d (part t) q is))
+    made t k has (q, is, product) = times_over b (counts t) q k ((basis.relation t).coefficient f *ℤ part t) product
+        (subst (λ z. IsOver z q ((basis.relation t).coefficient f *ℤ part t)) (sym (divides t has))
+        (quotient_over ((basis.relation t).coefficient f) (basis.relation t).d (part t) q is))

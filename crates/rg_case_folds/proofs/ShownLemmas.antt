@@ -24,7 +24,9 @@ cycle_is_one lts w w' h h' =
     let arcs : h.arcs ≡ h'.arcs = same_tree lts (lts.initial ∷ []) h.arcs h'.arcs h.is_tree h'.is_tree in
     let keeps' : KeepsChords lts h.arcs h'.kept = subst (λ a. KeepsChords lts a h'.kept) (sym arcs) h'.chords in
     let kept : h.kept ≡ h'.kept = kept_is_one (chord_vectors lts h.arcs) h.kept h'.kept h.chords keeps' in
-    let stops' : CycleWalk (chord_system lts h.arcs h.kept) (too_wide h'.at) = subst (λ k. CycleWalk (chord_system lts h.arcs k) (too_wide h'.at)) (sym kept) (subst (λ a. CycleWalk (chord_system lts a h'.kept) (too_wide h'.at)) (sym arcs) h'.stops) in
+    let stops' : CycleWalk (chord_system lts h.arcs h.kept) (too_wide h'.at) =
+    subst (λ k. CycleWalk (chord_system lts h.arcs k) (too_wide h'.at)) (sym kept)
+    (subst (λ a. CycleWalk (chord_system lts a h'.kept) (too_wide h'.at)) (sym arcs) h'.stops) in
     let at = same_stop h.at h'.at (same_cycle (chord_system lts h.arcs h.kept) (column_set (chord_system lts h.arcs h.kept)) 0 (too_wide h.at) (too_wide h'.at) h.stops stops') in
     h.stands.wide ∙ ap (λ (x : WideAt). x.term) at ∙ sym h'.stands.wide
 

@@ -62,7 +62,9 @@ pub tree_short : (lts : System) (tree : List Arc) → IsInRange lts → IsTree l
 tree_short lts tree fine g =
     let start : List ℕ = lts.initial ∷ [] in
     let alone : IsDistinct start = ((λ has. (let lt = has.1 in omega arith)), tt) in
-    let within : (s : ℕ) → Contains (met_after start tree) s → s < states lts = met_below lts start tree fine g (λ s has. ⊎_elim (λ e. subst (λ x. x < states lts) e fine.initial) (λ none. absurd (let lt = none.1 in omega arith)) (Contains-cons_cases lts.initial s [] has)) in
+    let within : (s : ℕ) → Contains (met_after start tree) s → s < states lts =
+    met_below lts start tree fine g (λ s has. ⊎_elim (λ e. subst (λ x. x < states lts) e fine.initial)
+    (λ none. absurd (let lt = none.1 in omega arith)) (Contains-cons_cases lts.initial s [] has)) in
     let few = no_more (met_after start tree) (numbers_from 0 (states lts)) (order_from_increasing (numbers_from 0 (states lts)) (numbers_from-ordered 0 (states lts)))
     (met_distinct lts start tree g alone) (λ m has. Contains-numbers_from 0 (states lts) m (omega arith) (omega (arith, within m has))) in
     omega (arith, few, met_long start tree, length-numbers_from 0 (states lts))

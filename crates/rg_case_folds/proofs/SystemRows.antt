@@ -18,7 +18,7 @@ use Rattle.rg_case_folds.specs.Rewriting.{has_start, names_of, KeptRow, IsIdle, 
 use Rattle.rg_case_folds.specs.Values.{NamesLabels, column_values, UnusedAreZero, RowIsMet, NameIsMet}
 use Rattle.rg_integers.specs.Sum.{dot}
 use Rattle.rg_linear.proofs.Firsts.{kept_is, item_stays}
-use Rattle.rg_case_folds.proofs.Products.{weak}
+use Rattle.rg_fraction.proofs.Orders.{weak}
 use Rattle.rg_case_folds.proofs.Signs.{row_is_met}
 
 -- the items of a list and the values made of them
@@ -71,7 +71,8 @@ system_is_met s start effect scale case is names positive no_start follows unuse
   (λ met name has. (let (k, has', fold) = made_of (λ n. row_fold s.setting n (row_expression s.lts s.class s.problem s.number [] n)) (names_of s.lts s.class s.problem s.number) all name made has in
       (row_is_met s.setting name (row_expression s.lts s.class s.problem s.number [] name) start effect scale k is (names name has) no_start follows unused fold).0
       (row_met met k (item_stays (λ x. x.row) IsIdle [] all case.kept k keeps has')))),
-  (λ met k has. (let (name, has', fold) = made_from (λ n. row_fold s.setting n (row_expression s.lts s.class s.problem s.number [] n)) (names_of s.lts s.class s.problem s.number) all k made (kept_is (λ x. x.row) IsIdle [] all case.kept k keeps has) in
+  (λ met k has. (let (name, has', fold) = made_from (λ n. row_fold s.setting n (row_expression s.lts s.class s.problem s.number [] n))
+      (names_of s.lts s.class s.problem s.number) all k made (kept_is (λ x. x.row) IsIdle [] all case.kept k keeps has) in
       (row_is_met s.setting name (row_expression s.lts s.class s.problem s.number [] name) start effect scale k is (names name has') no_start follows unused fold).1 (met name has'))),
 )
   where

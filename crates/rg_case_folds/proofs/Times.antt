@@ -100,7 +100,9 @@ rest_none k a r m low high e =
     let part : k *ℤ (m -ℤ a) ≡ r = simp ring (omega (arith, ints)) in
     let same : m -ℤ a ≡ pos 0 = by_lt_z (m -ℤ a) (pos 0)
     (λ less. (let h = mul_negative (m -ℤ a) k less (omega (arith, ints)) in let t : (m -ℤ a) *ℤ k ≡ k *ℤ (m -ℤ a) = simp ring in absurd (omega (arith, ints))))
-    (λ most. by_lt_z (m -ℤ a) (pos 1) (λ few. omega (arith, ints)) (λ more. (let h = mul_not_negative ((m -ℤ a) -ℤ pos 1) k (omega (arith, ints)) (omega (arith, ints)) in let t : ((m -ℤ a) -ℤ pos 1) *ℤ k ≡ (k *ℤ (m -ℤ a)) -ℤ k = simp ring (omega (arith, ints)) in absurd (omega (arith, ints))))) in
+    (λ most. by_lt_z (m -ℤ a) (pos 1) (λ few. omega (arith, ints))
+    (λ more. (let h = mul_not_negative ((m -ℤ a) -ℤ pos 1) k (omega (arith, ints)) (omega (arith, ints)) in
+    let t : ((m -ℤ a) -ℤ pos 1) *ℤ k ≡ (k *ℤ (m -ℤ a)) -ℤ k = simp ring (omega (arith, ints)) in absurd (omega (arith, ints))))) in
     let nothing : k *ℤ (m -ℤ a) ≡ pos 0 = ap (λ z. k *ℤ z) same ∙ *ℤ-zero k in
     (omega (arith, ints), omega (arith, ints))
 

@@ -31,10 +31,10 @@ use Rattle.rg_case_folds.proofs.RowValues.{add_over}
 use Rattle.rg_case_folds.proofs.CaseMeaning.{start_means}
 use Rattle.rg_case_folds.proofs.Forms.{form_of_variable, form_value, form_positive, form_names, bounded_has, start_has}
 use Rattle.rg_case_folds.proofs.Times.{rest_none, allows_by}
-use Rattle.rg_theory.specs.Class.{IsMultiple, AllowsStart}
+use Rattle.rg_theory.specs.Class.{AllowsStart}
 use Rattle.rg_cert_meaning.specs.Refutes.{IsSeparationProblem}
 use Rattle.rg_case_folds.proofs.WholeParts.{whole_tokens, whole_rows}
-use Rattle.rg_case_folds.proofs.WholePoints.{bounded_parts, plain_parts}
+use Rattle.rg_case_folds.proofs.WholePoints.{bounded_parts, plain_parts, plain_splits, allowed}
 use Rattle.rg_case_folds.proofs.Lists.{Contains-of_map, where_is}
 use Rattle.rg_case_folds.specs.Places.{IsReduced, AreValuesOf, AreFormsWhole}
 use Rattle.rg_case_folds.proofs.Wholes.{each_at}
@@ -48,6 +48,14 @@ use Rattle.rg_cert_meaning.specs.declared.RowName.TheVariants as row_name
 use Rattle.rg_cert_meaning.specs.declared.Form.TheVariants as split_form
 use Rattle.rg_cert_meaning.specs.declared.Variable.TheVariants.{Tokens, Effect}
 
+-- ---- numbers with one fractional part
+
+parts_order : (k a b y z r : ℤ) → pos 0 <ℤ k → a ≡ (k *ℤ y) +ℤ r → b ≡ (k *ℤ z) +ℤ r → a ≤ℤ b → y ≤ℤ z
+parts_order k a b y z r h p q le = by_lt_z z y (λ less. (let m = positive_times_less k z y h less in absurd (omega (arith, ints)))) (λ most. most)
+
+parts_less : (k a b y z r : ℤ) → a ≡ (k *ℤ y) +ℤ r → b ≡ (k *ℤ z) +ℤ r → b +ℤ neg_ℤ a ≡ k *ℤ (z +ℤ neg_ℤ y)
+parts_less k a b y z r p q = let d : k *ℤ (z +ℤ neg_ℤ y) ≡ (k *ℤ z) +ℤ neg_ℤ (k *ℤ y) = simp ring (omega (arith, ints)) in omega (arith, ints)
+
 module _ (it : CaseSetting) (case : CaseSystem) (first : ℤ) (effect : ℕ → ℤ)
     (scale : ℤ) (start : Ratio) (value : ℕ → Ratio) (effects found numbers : List Ratio) (out : ℕ → Ratio) (c : IsCaseOver it case)
     (live : IsLive it.lts it.problem) (e : AreEffects it.lts it.tree it.basis effect) (v : AreValuesOf it.lts it.basis start value first effect scale)
@@ -57,6 +65,27 @@ module _ (it : CaseSetting) (case : CaseSystem) (first : ℤ) (effect : ℕ → 
     (shift : shift_by (is_shifted it.class) (map out (all_numbers (states it.lts))) numbers) where
   abbrev x : Variable → ℤ
   x = numbers_along it.lts it.tree first effect
+
+  abbrev worth : Form → ℤ
+  worth split = x (form_variable it.lts.initial split)
+
+  abbrev steps : Form → ℤ
+  steps split = pos (step_of it.class split)
+
+  abbrev HasForm : Form → Type 0
+  HasForm split = Contains (split_forms it.lts it.class it.problem) split
+
+  abbrev KeepsWhole : Problem → (Variable → ℤ) → Type 0
+  KeepsWhole p y = KeepsRowsOver it.lts it.class p it.number (pos 1) y
+
+  abbrev Allows : ℤ → Type 0
+  Allows z = AllowsStart it.class (unsigned_abs z)
+
+  abbrev AreMovedTo : (Variable → ℤ) → Type 0
+  AreMovedTo y = AreMoved it.lts it.class it.problem it.number found numbers y
+
+  abbrev SomeAreKept : Type 0
+  SomeAreKept = (y : Variable → ℤ) × AreMovedTo y × (is_lifted it.class it.problem ≡ false → Allows (y (Tokens it.lts.initial)))
 
   starts : has_start it.class ≡ true
   starts = ap (λ b. it.class.pure || b) whole_class ∙ either_way it.class.pure
@@ -69,22 +98,23 @@ module _ (it : CaseSetting) (case : CaseSystem) (first : ℤ) (effect : ℕ → 
   keeps = (start_means it case first effect scale c e v.positive starts).0 met
 
   -- a variable that has a form is whole, by its steps
-  variable_steps : (split : Form) → Contains (split_forms it.lts it.class it.problem) split → (u : ℤ) × (x (form_variable it.lts.initial split) ≡ scale *ℤ (pos (step_of it.class split) *ℤ u))
+  variable_steps : (split : Form) → HasForm split → (u : ℤ) × (worth split ≡ scale *ℤ (steps split *ℤ u))
   variable_steps split has =
       let f = form_of_variable it case split c.is_case has in
       let (u, is) = whole_forms f.number f.within in
       let form = form_at case.forms f.number in
-      let worth = form_value it case c split form first effect f.made (form_names it.lts it.class it.problem split has) (λ none. absurd (true≢false (sym starts ∙ none))) e in (
+      let names = form_names it.lts it.class it.problem split has in
+      let value_is = form_value it case c split form first effect f.made names (λ none. absurd (true≢false (sym starts ∙ none))) e in (
         u,
-        mul-cancel_left form.scale (x (form_variable it.lts.initial split)) (scale *ℤ (pos (step_of it.class split) *ℤ u)) (positive_differs form.scale (form_positive it case c split form f.made))
-            (sym worth ∙ ap (λ z. pos (step_of it.class split) *ℤ z) is ∙ turn (pos (step_of it.class split)) u form.scale scale),
+        mul-cancel_left form.scale (worth split) (scale *ℤ (steps split *ℤ u)) (positive_differs form.scale (form_positive it case c split form f.made))
+            (sym value_is ∙ ap (λ z. steps split *ℤ z) is ∙ turn (steps split) u form.scale scale),
       )
     where
       turn : (n u f s : ℤ) → n *ℤ (u *ℤ (f *ℤ s)) ≡ f *ℤ (s *ℤ (n *ℤ u))
       turn n u f s = simp ring
 
-  variable_whole : (split : Form) → Contains (split_forms it.lts it.class it.problem) split → (u : ℤ) × (x (form_variable it.lts.initial split) ≡ scale *ℤ u)
-  variable_whole split has = let (u, is) = variable_steps split has in (pos (step_of it.class split) *ℤ u, is)
+  variable_whole : (split : Form) → HasForm split → (u : ℤ) × (worth split ≡ scale *ℤ u)
+  variable_whole split has = let (u, is) = variable_steps split has in (steps split *ℤ u, is)
 
   start_whole : splits_start it.class it.problem ≡ true → (u : ℤ) × (x (Tokens it.lts.initial) ≡ scale *ℤ (pos (unwrap_or it.class.marking 1) *ℤ u))
   start_whole splits = variable_steps split_form.Start (start_has it.lts it.class it.problem splits)
@@ -95,22 +125,26 @@ module _ (it : CaseSetting) (case : CaseSystem) (first : ℤ) (effect : ℕ → 
   same = subst (λ b. whole_by it.class b (effects ++ start ∷ []) found) whole_class whole_made
 
   label_over : (t : ℕ) → t < labels it.lts → IsOverAt scale (ratio_at found t) (effect t)
-  label_over t lt = subst (λ l. IsOverAt scale (ratio_at l t) (effect t)) (sym same) (label_at it.lts it.tree it.basis start value first effect scale effects c.is_basis e v made t lt)
+  label_over t lt = subst (λ l. IsOverAt scale (ratio_at l t) (effect t)) (sym same)
+      (label_at it.lts it.tree it.basis start value first effect scale effects c.is_basis e v made t lt)
 
   start_over : IsOverAt scale (ratio_at found (labels it.lts)) first
-  start_over = subst (λ l. IsOverAt scale (ratio_at l (labels it.lts)) first) (sym same) (start_at it.lts it.tree it.basis start value first effect scale effects c.is_basis e v made)
+  start_over = subst (λ l. IsOverAt scale (ratio_at l (labels it.lts)) first) (sym same)
+      (start_at it.lts it.tree it.basis start value first effect scale effects c.is_basis e v made)
 
   label_reduced : (t : ℕ) → t < labels it.lts → IsReduced (ratio_at found t)
   label_reduced t lt = subst (λ l. IsReduced (ratio_at l t)) (sym same) (effect_reduced it.lts it.basis start value first effect scale effects v made t lt)
 
   start_reduced : IsReduced (ratio_at found (labels it.lts))
-  start_reduced = subst (λ l. IsReduced (ratio_at l (labels it.lts))) (sym same) (start_is_reduced it.lts it.basis start value first effect scale effects v made)
+  start_reduced = subst (λ l. IsReduced (ratio_at l (labels it.lts))) (sym same)
+      (start_is_reduced it.lts it.basis start value first effect scale effects v made)
 
-  -- the it.number of a state, before the shift
+  -- the number of a state, before the shift
   state_over : (s : ℕ) → s < states it.lts → IsOverAt scale (out s) (x (Tokens s)) × IsReduced (out s)
-  state_over s lt = along_gives_over it.lts it.tree scale (ratio_at found) out (ratio_at found (labels it.lts)) first effect s c.in_range c.is_tree (c.reachable.each s lt)
-      (λ a has. label_over a.label (arc_in_range it.lts c.in_range a.from a.label a.to (tree_arcs it.lts (it.lts.initial ∷ []) it.tree a c.is_tree has)).1) start_over start_reduced
-      along
+  state_over s lt =
+      along_gives_over it.lts it.tree scale (ratio_at found) out (ratio_at found (labels it.lts)) first effect s c.in_range c.is_tree (c.reachable.each s lt)
+      (λ a has. label_over a.label (arc_in_range it.lts c.in_range a.from a.label a.to (tree_arcs it.lts (it.lts.initial ∷ []) it.tree a c.is_tree has)).1)
+      start_over start_reduced along
 
   abbrev list : List Ratio
   list = map out (all_numbers (states it.lts))
@@ -119,77 +153,8 @@ module _ (it : CaseSetting) (case : CaseSystem) (first : ℤ) (effect : ℕ → 
   list_length = length-map (all_numbers (states it.lts)) out ∙ all_length (states it.lts)
 
   list_at : (s : ℕ) → s < states it.lts → ratio_at list s ≡ out s
-  list_at s lt = get_or-map out (all_numbers (states it.lts)) s 0 (whole (pos 0)) (subst (λ k. s < k) (sym (all_length (states it.lts))) lt) ∙ ap out (all_at (states it.lts) s lt)
-
-  -- ---- the effects
-
-  module _ (y : Variable → ℤ) (parts : AreWholeParts it.lts scale x y) where
-    effect_whole : (t : ℕ) → t < labels it.lts → top_at found t ≡ y (Effect t)
-    effect_whole t lt =
-        ap (λ (r : Ratio). r.top) (whole_over scale (y (Effect t)) (ratio_at found t) v.positive (subst (IsOverAt scale (ratio_at found t)) times (label_over t lt)) (label_reduced t lt))
-      where
-        none : (s a b : ℤ) → a ≡ pos 0 → b ≡ pos 0 → a ≡ s *ℤ b
-        none s a b p q = p ∙ sym (*ℤ-zero s) ∙ ap (λ z. s *ℤ z) (sym q)
-
-        times : effect t ≡ scale *ℤ y (Effect t)
-        times = ⊎_elim (λ used. parts.effects t used) (λ unused. none scale (effect t) (y (Effect t)) (e.unused t unused) (parts.unused t unused)) (cases_Bool (has_label t it.lts.arcs))
-
-    keeps_whole : KeepsRowsOver it.lts it.class it.problem it.number (pos 1) y
-    keeps_whole = whole_rows it.lts it.class it.problem it.number scale x y c.in_range c.asked live parts keeps
-
-  -- ---- a bounded it.class
-
-  bounded_kept : is_some it.class.bound ≡ true
-      → (y : Variable → ℤ) × AreMoved it.lts it.class it.problem it.number found numbers y × (is_lifted it.class it.problem ≡ false → AllowsStart it.class (unsigned_abs (y (Tokens it.lts.initial))))
-  bounded_kept bound =
-      let (y, parts, allowed_start) = bounded_parts it c.in_range c.is_tree scale v.positive first effect e keeps variable_whole start_whole bound in
-      let kept = keeps_whole y parts in
-      let stays : numbers ≡ list = subst (λ b. shift_by b list numbers) (ap (λ b. not b && (it.class.plain || not it.class.pure)) bound) shift in (
-        y,
-        record {
-          keeps = kept;
-          at = (
-            ap length stays ∙ list_length,
-            λ s lt. (
-              ap (λ l. ratio_at l s) stays ∙ list_at s lt ∙ whole_over scale (y (Tokens s)) (out s) v.positive (subst (IsOverAt scale (out s)) (exact bound y parts s lt) (state_over s lt).0) (state_over s lt).1,
-              fits y kept s lt (whole_tokens it.lts it.class it.problem it.number scale x y s parts keeps),
-            ),
-          );
-          effects = effect_whole y parts;
-        },
-        λ none. allowed_start,
-      )
-    where
-      exact : is_some it.class.bound ≡ true → (y : Variable → ℤ) → AreWholeParts it.lts scale x y → (s : ℕ) → s < states it.lts → x (Tokens s) ≡ scale *ℤ y (Tokens s)
-      exact bound y parts s lt =
-          let (u, is) = variable_whole (split_form.Tokens s) (bounded_has it.lts it.class it.problem s bound lt) in
-          is ∙ ap (λ z. scale *ℤ z) (sym (rest_none scale (y (Tokens s)) parts.rest u parts.not_negative parts.below (sym (parts.tokens s lt) ∙ is)).1)
-
-      bound_in_range : InRange (pos (unwrap_or it.class.bound 0))
-      bound_in_range = let h = few it.class.bound c.numbers.bound in omega (arith, ints, h)
-        where
-          few : (o : Option ℕ) → IfSome o (λ k. (0 < k) × (k ≤ 255)) → unwrap_or o 0 ≤ 255
-          few None h = omega arith
-          few (Some k) h = h.1
-
-      capped : (z k : ℤ) → pos 0 ≤ℤ z → pos 0 ≤ℤ (((negsuc 0 *ℤ z) +ℤ pos 0) +ℤ (k *ℤ pos 1)) → InRange k → InRange z
-      capped z k low high fits = between (unsigned_abs z) (unsigned_abs k) _ (below z k low high) fits
-        where
-          below : (z k : ℤ) → pos 0 ≤ℤ z → pos 0 ≤ℤ (((negsuc 0 *ℤ z) +ℤ pos 0) +ℤ (k *ℤ pos 1)) → unsigned_abs z ≤ unsigned_abs k
-          below z k low high = omega (arith, ints)
-
-          between : (a b n : ℕ) → a ≤ b → b < n → a < n
-          between a b n h g = omega arith
-
-      cap : (p : Problem) (y : Variable → ℤ) (s : ℕ) → s < states it.lts → KeepsRowsOver it.lts it.class p it.number (pos 1) y
-          → pos 0 ≤ℤ (((negsuc 0 *ℤ y (Tokens s)) +ℤ pos 0) +ℤ (pos (unwrap_or it.class.bound 0) *ℤ pos 1))
-      cap (Event a b) y s lt kept = kept (row_name.Cap s) (lt, bound)
-      cap (States a b) y s lt kept = kept (row_name.Cap s) (lt, bound)
-
-      fits : (y : Variable → ℤ) → KeepsRowsOver it.lts it.class it.problem it.number (pos 1) y → (s : ℕ) → s < states it.lts → pos 0 ≤ℤ y (Tokens s) → InRange (y (Tokens s))
-      fits y kept s lt low = capped (y (Tokens s)) (pos (unwrap_or it.class.bound 0)) low (cap it.problem y s lt kept) bound_in_range
-
-  -- ---- a plain it.class without bound
+  list_at s lt = get_or-map out (all_numbers (states it.lts)) s 0 (whole (pos 0)) (subst (λ k. s < k) (sym (all_length (states it.lts))) lt)
+      ∙ ap out (all_at (states it.lts) s lt)
 
   all_over : AreOver scale list
   all_over r has =
@@ -197,112 +162,180 @@ module _ (it : CaseSetting) (case : CaseSystem) (first : ℤ) (effect : ℕ → 
       let (_, _, lt) = where_is (λ q. true) 0 (states it.lts) s within in
       (x (Tokens s), subst (λ q. IsOverAt scale q (x (Tokens s))) is (state_over s (omega arith)).0)
 
-  plain_kept : is_some it.class.bound ≡ false → it.class.plain ≡ true
-      → (y : Variable → ℤ) × AreMoved it.lts it.class it.problem it.number found numbers y × (is_lifted it.class it.problem ≡ false → AllowsStart it.class (unsigned_abs (y (Tokens it.lts.initial))))
+  -- ---- whole parts
+
+  module _ (y : Variable → ℤ) (parts : AreWholeParts it.lts scale x y) where
+    effect_whole : (t : ℕ) → t < labels it.lts → top_at found t ≡ y (Effect t)
+    effect_whole t lt = ap (λ (r : Ratio). r.top)
+        (whole_over scale (y (Effect t)) (ratio_at found t) v.positive (subst (IsOverAt scale (ratio_at found t)) times (label_over t lt)) (label_reduced t lt))
+      where
+        none : (s a b : ℤ) → a ≡ pos 0 → b ≡ pos 0 → a ≡ s *ℤ b
+        none s a b p q = p ∙ sym (*ℤ-zero s) ∙ ap (λ z. s *ℤ z) (sym q)
+
+        times : effect t ≡ scale *ℤ y (Effect t)
+        times = ⊎_elim (λ used. parts.effects t used)
+            (λ unused. none scale (effect t) (y (Effect t)) (e.unused t unused) (parts.unused t unused)) (cases_Bool (has_label t it.lts.arcs))
+
+    keeps_whole : KeepsWhole it.problem y
+    keeps_whole = whole_rows it.lts it.class it.problem it.number scale x y c.in_range c.asked live parts keeps
+
+    not_negative : (s : ℕ) → pos 0 ≤ℤ y (Tokens s)
+    not_negative s = whole_tokens it.lts it.class it.problem it.number scale x y s parts keeps
+
+    -- ---- in a bounded class
+
+    module _ (bound : is_some it.class.bound ≡ true) where
+      exact : (s : ℕ) → s < states it.lts → x (Tokens s) ≡ scale *ℤ y (Tokens s)
+      exact s lt =
+          let (u, is) = variable_whole (split_form.Tokens s) (bounded_has it.lts it.class it.problem s bound lt) in
+          is ∙ ap (λ z. scale *ℤ z) (sym (rest_none scale (y (Tokens s)) parts.rest u parts.not_negative parts.below (sym (parts.tokens s lt) ∙ is)).1)
+
+      fits : (s : ℕ) → s < states it.lts → InRange (y (Tokens s))
+      fits s lt = capped (y (Tokens s)) (unwrap_or it.class.bound 0) (not_negative s) (cap it.problem keeps_whole) (few it.class.bound c.numbers.bound)
+        where
+          few : (o : Option ℕ) → IfSome o (λ k. (0 < k) × (k ≤ 255)) → unwrap_or o 0 ≤ 255
+          few None h = omega arith
+          few (Some k) h = h.1
+
+          capped : (z : ℤ) (k : ℕ) → pos 0 ≤ℤ z → pos 0 ≤ℤ (((negsuc 0 *ℤ z) +ℤ pos 0) +ℤ (pos k *ℤ pos 1)) → k ≤ 255 → InRange z
+          capped z k low high most = omega (arith, ints)
+
+          cap : (p : Problem) → KeepsWhole p y → pos 0 ≤ℤ (((negsuc 0 *ℤ y (Tokens s)) +ℤ pos 0) +ℤ (pos (unwrap_or it.class.bound 0) *ℤ pos 1))
+          cap (Event a b) kept = kept (row_name.Cap s) (lt, bound)
+          cap (States a b) kept = kept (row_name.Cap s) (lt, bound)
+
+      bounded_moved : AreMovedTo y
+      bounded_moved = record {
+        keeps = keeps_whole;
+        at = (ap length stays ∙ list_length, λ s lt. (ap (λ l. ratio_at l s) stays ∙ list_at s lt ∙ out_is s lt, fits s lt));
+        effects = effect_whole;
+      }
+        where
+          stays : numbers ≡ list
+          stays = subst (λ b. shift_by b list numbers) (ap (λ b. not b && (it.class.plain || not it.class.pure)) bound) shift
+
+          out_is : (s : ℕ) → s < states it.lts → out s ≡ whole (y (Tokens s))
+          out_is s lt =
+              let (over, reduced) = state_over s lt in
+              whole_over scale (y (Tokens s)) (out s) v.positive (subst (IsOverAt scale (out s)) (exact s lt) over) reduced
+
+    -- ---- in a plain class without bound, where state l has the least number
+
+    module _ (bound : is_some it.class.bound ≡ false) (plain : it.class.plain ≡ true) (l : ℕ) (l_lt : l < states it.lts) (is : out l ≡ least_of list) where
+      abbrev by : ℤ
+      by = neg_ℤ (y (Tokens l))
+
+      least_over_l : IsOverAt scale (least_of list) (x (Tokens l))
+      least_over_l = subst (λ q. IsOverAt scale q (x (Tokens l))) is (state_over l l_lt).0
+
+      lowest : (s : ℕ) → s < states it.lts → x (Tokens l) ≤ℤ x (Tokens s)
+      lowest s lt =
+          let (least, over, has, low) = least_over scale list (subst (λ k. 0 < k) (sym list_length) (omega arith)) v.positive all_over in
+          let within = Contains-get_or list s (whole (pos 0)) (subst (λ k. s < k) (sym list_length) lt) in
+          subst (λ z. z ≤ℤ x (Tokens s)) (sym (one_value scale (x (Tokens l)) least (least_of list) least_over_l over))
+          (low (ratio_at list s) (x (Tokens s)) within (subst (λ q. IsOverAt scale q (x (Tokens s))) (sym (list_at s lt)) (state_over s lt).0))
+
+      order : (s : ℕ) → s < states it.lts → y (Tokens l) ≤ℤ y (Tokens s)
+      order s lt = parts_order scale (x (Tokens l)) (x (Tokens s)) (y (Tokens l)) (y (Tokens s)) parts.rest v.positive
+          (parts.tokens l l_lt) (parts.tokens s lt) (lowest s lt)
+
+      down : by ≤ℤ pos 0
+      down = turned (y (Tokens l)) (not_negative l)
+        where
+          turned : (z : ℤ) → pos 0 ≤ℤ z → neg_ℤ z ≤ℤ pos 0
+          turned z h = omega (arith, ints)
+
+      above : (s : ℕ) → s < states it.lts → pos 0 ≤ℤ (y (Tokens s) +ℤ by)
+      above s lt = difference (y (Tokens l)) (y (Tokens s)) (order s lt)
+        where
+          difference : (a b : ℤ) → a ≤ℤ b → pos 0 ≤ℤ (b +ℤ neg_ℤ a)
+          difference a b h = omega (arith, ints)
+
+      abbrev low : Variable → ℤ
+      low = lowered (states it.lts) by y
+
+      low_at : (s : ℕ) → s < states it.lts → low (Tokens s) ≡ y (Tokens s) +ℤ by
+      low_at s lt = lowered_at it.lts it.class plain c.in_range by down y above s lt
+
+      plain_moved : AreMovedTo low
+      plain_moved = record {
+        keeps = lowered_keeps it.lts it.class plain c.in_range by down y above it.problem it.number c.asked keeps_whole;
+        at = (each_length (λ m. add m (negated (least_of list))) list numbers shifts ∙ list_length, number_is);
+        effects = effect_whole;
+      }
+        where
+          shifts : shift_by true list numbers
+          shifts = subst (λ b. shift_by b list numbers) (ap₂ (λ a b. not a && (b || not it.class.pure)) bound plain) shift
+
+          number_is : (s : ℕ) → s < states it.lts → (ratio_at numbers s ≡ whole (low (Tokens s))) × InRange (low (Tokens s))
+          number_is s lt =
+              let sum = subst (λ r. add r (negated (least_of list)) (Ok (ratio_at numbers s))) (list_at s lt)
+              (each_at (λ m. add m (negated (least_of list))) list numbers (whole (pos 0)) (whole (pos 0)) s shifts (subst (λ k. s < k) (sym list_length) lt)) in
+              let over = (state_over s lt).0 in
+              let opposite = opposite_over scale (x (Tokens l)) (least_of list) least_over_l in
+              let less = parts_less scale (x (Tokens l)) (x (Tokens s)) (y (Tokens l)) (y (Tokens s)) parts.rest (parts.tokens l l_lt) (parts.tokens s lt) in
+              let added = add_over scale (out s) (negated (least_of list)) (ratio_at numbers s) (x (Tokens s)) (neg_ℤ (x (Tokens l))) sum over.0 opposite.0 in
+              let is_whole = whole_over scale (y (Tokens s) +ℤ by) (ratio_at numbers s) v.positive
+              (subst (IsOverAt scale (ratio_at numbers s)) less (added, sum.2.positive)) sum.2.reduced in (
+                is_whole ∙ ap whole (sym (low_at s lt)),
+                subst InRange (sym (low_at s lt)) (sum_in_range (out s) (negated (least_of list)) (y (Tokens s) +ℤ by) over.1 opposite.1
+                    (subst (λ r. add (out s) (negated (least_of list)) (Ok r)) is_whole sum)),
+              )
+
+      -- of an event the least is 0, at the stopped state; of two states the numbers are moved back
+      allowed_by : (p : Problem) → IsSeparationProblem it.lts p → KeepsWhole p y
+          → (splits_start it.class p ≡ true → (u : ℤ) × (y (Tokens it.lts.initial) ≡ pos (unwrap_or it.class.marking 1) *ℤ u)) → is_lifted it.class p ≡ false
+          → Allows (y (Tokens it.lts.initial) +ℤ by)
+      allowed_by (Event s t) asked kept start_steps none = allowed it.class (unsigned_abs (y (Tokens it.lts.initial) +ℤ by))
+          (λ some. (let (u, steps_are) = start_steps (plain_splits it.class s t some plain) in
+          allows_by it.class (y (Tokens it.lts.initial) +ℤ by) u (less_none (y (Tokens it.lts.initial)) (y (Tokens l)) (unwrap_or it.class.marking 1) u least_none steps_are)))
+        where
+          low_empty : (a l : ℤ) → pos 0 ≤ℤ l → l ≤ℤ a → pos 0 ≤ℤ (((negsuc 0 *ℤ a) +ℤ pos 0) +ℤ (pos 0 *ℤ pos 1)) → l ≡ pos 0
+          low_empty a l h k g = omega (arith, ints)
+
+          low_block : (a e l : ℤ) → pos 0 ≤ℤ l → l ≤ℤ a → pos 0 ≤ℤ (((negsuc 0 *ℤ a) +ℤ ((negsuc 0 *ℤ e) +ℤ pos 0)) +ℤ (negsuc 0 *ℤ pos 1))
+              → pos 0 ≤ℤ (((pos 1 *ℤ e) +ℤ pos 0) +ℤ (pos 1 *ℤ pos 1)) → l ≡ pos 0
+          low_block a e l h k g d = omega (arith, ints)
+
+          less_none : (a l : ℤ) (n : ℕ) (u : ℤ) → l ≡ pos 0 → a ≡ pos n *ℤ u → a +ℤ neg_ℤ l ≡ pos n *ℤ u
+          less_none a l n u e g = same a l e ∙ g
+            where
+              same : (a l : ℤ) → l ≡ pos 0 → a +ℤ neg_ℤ l ≡ a
+              same a l e = omega (arith, ints)
+
+          least_none : y (Tokens l) ≡ pos 0
+          least_none = ⊎_elim
+              (λ pure. low_block (y (Tokens s)) (y (Effect t)) (y (Tokens l)) (not_negative l) (order s asked.0) (kept row_name.Block pure) (kept (row_name.Down t) (asked.1, plain)))
+              (λ impure. low_empty (y (Tokens s)) (y (Tokens l)) (not_negative l) (order s asked.0) (kept row_name.Empty (plain, impure)))
+              (cases_Bool it.class.pure)
+      allowed_by (States s s') asked kept start_steps none = allowed it.class (unsigned_abs (y (Tokens it.lts.initial) +ℤ by))
+          (λ some. absurd (true≢false (sym (lifts (is_some it.class.marking) it.class.plain (is_some it.class.bound) some plain bound) ∙ none)))
+        where
+          lifts : (m p b : Bool) → m ≡ true → p ≡ true → b ≡ false → (m && (p && not b)) ≡ true
+          lifts true true false e f g = refl
+          lifts true true true e f g = absurd (true≢false g)
+          lifts true false b e f g = absurd (true≢false (sym f))
+          lifts false p b e f g = absurd (true≢false (sym e))
+
+  bounded_kept : is_some it.class.bound ≡ true → SomeAreKept
+  bounded_kept bound =
+      let (y, parts, start_allowed) = bounded_parts it c.in_range c.is_tree scale v.positive first effect e keeps variable_whole start_whole bound in
+      (y, bounded_moved y parts bound, λ none. start_allowed)
+
+  plain_kept : is_some it.class.bound ≡ false → it.class.plain ≡ true → SomeAreKept
   plain_kept bound plain =
       let (y, parts, start_steps) = plain_parts it c.in_range c.is_tree scale v.positive first effect e keeps variable_whole start_whole bound plain in
-      let kept = keeps_whole y parts in
-      let shifts = subst (λ b. shift_by b list numbers) (ap₂ (λ a b. not a && (b || not it.class.pure)) bound plain) shift in
       let (least, over, has, low) = least_over scale list (subst (λ k. 0 < k) (sym list_length) (let lt = c.in_range.initial in omega arith)) v.positive all_over in
       let (l, within, is) = Contains-of_map out (all_numbers (states it.lts)) (least_of list) has in
       let (_, _, below) = where_is (λ q. true) 0 (states it.lts) l within in
-      let l_lt : l < states it.lts = omega arith in
-      let over_l = (state_over l l_lt).0 in
-      let order : (s : ℕ) → s < states it.lts → y (Tokens l) ≤ℤ y (Tokens s) = λ s lt. parts_order scale (x (Tokens l)) (x (Tokens s)) (y (Tokens l)) (y (Tokens s)) parts.rest v.positive (parts.tokens l l_lt) (parts.tokens s lt) (low_at y parts l s l_lt lt is least over low) in
-      let le = down (y (Tokens l)) (whole_tokens it.lts it.class it.problem it.number scale x y l parts keeps) in
-      let above : (s : ℕ) → s < states it.lts → pos 0 ≤ℤ (y (Tokens s) +ℤ neg_ℤ (y (Tokens l))) = λ s lt. difference (y (Tokens l)) (y (Tokens s)) (order s lt) in (
+      let l_lt : l < states it.lts = omega arith in (
         lowered (states it.lts) (neg_ℤ (y (Tokens l))) y,
-        record {
-          keeps = lowered_keeps it.lts it.class plain c.in_range (neg_ℤ (y (Tokens l))) le y above it.problem it.number c.asked kept;
-          at = (
-            each_length (λ m. add m (negated (least_of list))) list numbers shifts ∙ list_length,
-            λ s lt.
-                (let sum = subst (λ r. add r (negated (least_of list)) (Ok (ratio_at numbers s))) (list_at s lt) (each_at (λ m. add m (negated (least_of list))) list numbers (whole (pos 0)) (whole (pos 0)) s shifts (subst (λ k. s < k) (sym list_length) lt)) in
-                let at_l = subst (λ q. IsOverAt scale q (x (Tokens l))) is over_l in
-                let opposite = opposite_over scale (x (Tokens l)) (least_of list) at_l in
-                let value_is = whole_over scale (y (Tokens s) +ℤ neg_ℤ (y (Tokens l))) (ratio_at numbers s) v.positive
-                (subst (IsOverAt scale (ratio_at numbers s))
-                (parts_less scale (x (Tokens l)) (x (Tokens s)) (y (Tokens l)) (y (Tokens s)) parts.rest (parts.tokens l l_lt) (parts.tokens s lt)) (
-                  add_over scale (out s) (negated (least_of list)) (ratio_at numbers s) (x (Tokens s)) (neg_ℤ (x (Tokens l))) sum
-                      (state_over s lt).0.0 opposite.0,
-                  sum.2.positive,
-                ))
-                sum.2.reduced in
-                let same_y = lowered_at it.lts it.class plain c.in_range (neg_ℤ (y (Tokens l))) le y above s lt in (
-                  value_is ∙ ap whole (sym same_y),
-                  subst InRange (sym same_y) (sum_in_range (out s) (negated (least_of list)) (y (Tokens s) +ℤ neg_ℤ (y (Tokens l))) (state_over s lt).0.1 opposite.1 (subst (λ r. add (out s) (negated (least_of list)) (Ok r)) value_is sum)),
-                )),
-          );
-          effects = effect_whole y parts;
-        },
-        λ none. subst (λ z. AllowsStart it.class (unsigned_abs z)) (sym (lowered_at it.lts it.class plain c.in_range (neg_ℤ (y (Tokens l))) le y above it.lts.initial c.in_range.initial))
-            (allowed_by it.problem y l bound plain c.asked kept (λ s lt. order s lt) (whole_tokens it.lts it.class it.problem it.number scale x y l parts keeps) start_steps none),
+        plain_moved y parts bound plain l l_lt is,
+        λ none. subst Allows (sym (low_at y parts bound plain l l_lt is it.lts.initial c.in_range.initial))
+            (allowed_by y parts bound plain l l_lt is it.problem c.asked (keeps_whole y parts) start_steps none),
       )
-    where
-      allowed : (o : Option ℕ) (m : ℕ) → (is_some o ≡ true → IfSome o (λ n. IsMultiple n m)) → IfSome o (λ n. IsMultiple n m)
-      allowed None m h = tt
-      allowed (Some n) m h = h refl
 
-      event_splits : (m p b : Bool) → m ≡ true → p ≡ true → (m && (p || b)) ≡ true
-      event_splits true true b e f = refl
-      event_splits true false b e f = absurd (true≢false (sym f))
-      event_splits false p b e f = absurd (true≢false (sym e))
-
-      states_lifts : (m p b : Bool) → m ≡ true → p ≡ true → b ≡ false → (m && (p && not b)) ≡ true
-      states_lifts true true false e f g = refl
-      states_lifts true true true e f g = absurd (true≢false g)
-      states_lifts true false b e f g = absurd (true≢false (sym f))
-      states_lifts false p b e f g = absurd (true≢false (sym e))
-
-      low_empty : (a l : ℤ) → pos 0 ≤ℤ l → l ≤ℤ a → pos 0 ≤ℤ (((negsuc 0 *ℤ a) +ℤ pos 0) +ℤ (pos 0 *ℤ pos 1)) → l ≡ pos 0
-      low_empty a l h k g = omega (arith, ints)
-
-      low_block : (a e l : ℤ) → pos 0 ≤ℤ l → l ≤ℤ a → pos 0 ≤ℤ (((negsuc 0 *ℤ a) +ℤ ((negsuc 0 *ℤ e) +ℤ pos 0)) +ℤ (negsuc 0 *ℤ pos 1))
-          → pos 0 ≤ℤ (((pos 1 *ℤ e) +ℤ pos 0) +ℤ (pos 1 *ℤ pos 1)) → l ≡ pos 0
-      low_block a e l h k g d = omega (arith, ints)
-
-      less_none : (a l : ℤ) (n : ℕ) (u : ℤ) → l ≡ pos 0 → a ≡ pos n *ℤ u → a +ℤ neg_ℤ l ≡ pos n *ℤ u
-      less_none a l n u e g = same a l e ∙ g
-        where
-          same : (a l : ℤ) → l ≡ pos 0 → a +ℤ neg_ℤ l ≡ a
-          same a l e = omega (arith, ints)
-
-      -- of an event the least is 0, at the stopped state; of two states the numbers are moved back
-      allowed_by : (p : Problem) (y : Variable → ℤ) (l : ℕ) → is_some it.class.bound ≡ false → it.class.plain ≡ true → IsSeparationProblem it.lts p
-          → KeepsRowsOver it.lts it.class p it.number (pos 1) y → ((s : ℕ) → s < states it.lts → y (Tokens l) ≤ℤ y (Tokens s)) → pos 0 ≤ℤ y (Tokens l)
-          → (splits_start it.class p ≡ true → (u : ℤ) × (y (Tokens it.lts.initial) ≡ pos (unwrap_or it.class.marking 1) *ℤ u)) → is_lifted it.class p ≡ false
-          → AllowsStart it.class (unsigned_abs (y (Tokens it.lts.initial) +ℤ neg_ℤ (y (Tokens l))))
-      allowed_by (Event s t) y l bound plain asked kept order low steps none =
-          let least = ⊎_elim
-          (λ pure. low_block (y (Tokens s)) (y (Effect t)) (y (Tokens l)) low (order s asked.0) (kept row_name.Block pure) (kept (row_name.Down t) (asked.1, plain)))
-          (λ impure. low_empty (y (Tokens s)) (y (Tokens l)) low (order s asked.0) (kept row_name.Empty (plain, impure)))
-          (cases_Bool it.class.pure) in
-          allowed it.class.marking (unsigned_abs (y (Tokens it.lts.initial) +ℤ neg_ℤ (y (Tokens l))))
-          (λ some. (let (u, is) = steps (event_splits (is_some it.class.marking) it.class.plain (is_some it.class.bound) some plain) in
-          allows_by it.class (y (Tokens it.lts.initial) +ℤ neg_ℤ (y (Tokens l))) u (less_none (y (Tokens it.lts.initial)) (y (Tokens l)) (unwrap_or it.class.marking 1) u least is)))
-      allowed_by (States s s') y l bound plain asked kept order low steps none =
-          allowed it.class.marking (unsigned_abs (y (Tokens it.lts.initial) +ℤ neg_ℤ (y (Tokens l)))) (λ some. absurd (true≢false (sym (states_lifts (is_some it.class.marking) it.class.plain (is_some it.class.bound) some plain bound) ∙ none)))
-
-      down : (z : ℤ) → pos 0 ≤ℤ z → neg_ℤ z ≤ℤ pos 0
-      down z h = omega (arith, ints)
-
-      difference : (a b : ℤ) → a ≤ℤ b → pos 0 ≤ℤ (b +ℤ neg_ℤ a)
-      difference a b h = omega (arith, ints)
-
-      parts_order : (k a b y z r : ℤ) → pos 0 <ℤ k → a ≡ (k *ℤ y) +ℤ r → b ≡ (k *ℤ z) +ℤ r → a ≤ℤ b → y ≤ℤ z
-      parts_order k a b y z r h p q le = by_lt_z z y (λ less. (let m = positive_times_less k z y h less in absurd (omega (arith, ints)))) (λ most. most)
-
-      parts_less : (k a b y z r : ℤ) → a ≡ (k *ℤ y) +ℤ r → b ≡ (k *ℤ z) +ℤ r → b +ℤ neg_ℤ a ≡ k *ℤ (z +ℤ neg_ℤ y)
-      parts_less k a b y z r p q = let d : k *ℤ (z +ℤ neg_ℤ y) ≡ (k *ℤ z) +ℤ neg_ℤ (k *ℤ y) = simp ring (omega (arith, ints)) in omega (arith, ints)
-
-      low_at : (y : Variable → ℤ) → AreWholeParts it.lts scale x y → (l s : ℕ) → l < states it.lts → s < states it.lts → out l ≡ least_of list → (least : ℤ)
-          → IsOverAt scale (least_of list) least → ((r : Ratio) (z : ℤ) → Contains list r → IsOverAt scale r z → least ≤ℤ z) → x (Tokens l) ≤ℤ x (Tokens s)
-      low_at y parts l s l_lt lt is least over low =
-          let same_l = one_value scale (x (Tokens l)) least (least_of list) (subst (λ q. IsOverAt scale q (x (Tokens l))) is (state_over l l_lt).0) over in
-          let h = low (ratio_at list s) (x (Tokens s)) (Contains-get_or list s (whole (pos 0)) (subst (λ k. s < k) (sym list_length) lt)) (subst (λ q. IsOverAt scale q (x (Tokens s))) (sym (list_at s lt)) (state_over s lt).0) in
-          subst (λ z. z ≤ℤ x (Tokens s)) (sym same_l) h
-
-  pub whole_kept : (y : Variable → ℤ) × AreMoved it.lts it.class it.problem it.number found numbers y × (is_lifted it.class it.problem ≡ false → AllowsStart it.class (unsigned_abs (y (Tokens it.lts.initial))))
+  pub whole_kept : SomeAreKept
   whole_kept = ⊎_elim bounded_kept (λ bound. plain_kept bound (plainly it.class.plain (is_some it.class.bound) whole_class bound)) (cases_Bool (is_some it.class.bound))
     where
       plainly : (a b : Bool) → (a || b) ≡ true → b ≡ false → a ≡ true

@@ -26,7 +26,8 @@ use Rattle.rg_cert_meaning.specs.declared.Variable.TheVariants.{Tokens, Effect}
 
 up_to_rest : (k z r : ℤ) → pos 0 <ℤ k → r <ℤ k → pos 0 ≤ℤ ((k *ℤ z) +ℤ r) → pos 0 ≤ℤ z
 up_to_rest k z r hk hr h = by_lt_z z (pos 0)
-    (λ less. (let le : z ≤ℤ negsuc 0 = omega (arith, ints) in let m = positive_times_most k z (negsuc 0) hk le in let e : k *ℤ negsuc 0 ≡ neg_ℤ k = omega (arith, ints) in absurd (omega (arith, ints))))
+    (λ less. (let le : z ≤ℤ negsuc 0 = omega (arith, ints) in let m = positive_times_most k z (negsuc 0) hk le in
+    let e : k *ℤ negsuc 0 ≡ neg_ℤ k = omega (arith, ints) in absurd (omega (arith, ints))))
     (λ most. most)
 
 multiple : (k z : ℤ) → pos 0 <ℤ k → pos 0 ≤ℤ (k *ℤ z) → pos 0 ≤ℤ z

@@ -182,7 +182,7 @@ bounded_splits class (States s s') m b = by (is_some class.marking) (is_some cla
     by true b e f = f
     by false b e f = e
 
-plain_splits : (class : Class) (s t : ℕ) → is_some class.marking ≡ true → class.plain ≡ true → splits_start class (Event s t) ≡ true
+pub plain_splits : (class : Class) (s t : ℕ) → is_some class.marking ≡ true → class.plain ≡ true → splits_start class (Event s t) ≡ true
 plain_splits class s t m p = by (is_some class.marking) class.plain (is_some class.bound) m p
   where
     by : (m p b : Bool) → m ≡ true → p ≡ true → (m && (p || b)) ≡ true
@@ -191,7 +191,7 @@ plain_splits class s t m p = by (is_some class.marking) class.plain (is_some cla
     by false p b e f = e
 
 -- a class without marking allows every start
-allowed : (class : Class) (m : ℕ) → (is_some class.marking ≡ true → AllowsStart class m) → AllowsStart class m
+pub allowed : (class : Class) (m : ℕ) → (is_some class.marking ≡ true → AllowsStart class m) → AllowsStart class m
 allowed class m some = by class.marking some
   where
     by : (o : Option ℕ) → (is_some o ≡ true → IfSome o (λ n. IsMultiple n m)) → IfSome o (λ n. IsMultiple n m)
@@ -208,7 +208,8 @@ module _ (it : CaseSetting) (fine : IsInRange it.lts) (g : IsTree it.lts it.tree
     pub bounded_parts : is_some it.class.bound ≡ true
         → (y : Variable → ℤ) × AreWholeParts it.lts k (numbers_along it.lts it.tree start effect) y × AllowsStart it.class (unsigned_abs (y (Tokens it.lts.initial)))
     bounded_parts bound =
-        let tokens : (q : ℕ) → q < states it.lts → (u : ℤ) × (numbers_along it.lts it.tree start effect (Tokens q) ≡ (k *ℤ u) +ℤ pos 0) = λ q lt. (let (u, h) = whole (split_form.Tokens q) (bounded_has it.lts it.class it.problem q bound lt) in (u, more _ _ h)) in
+        let tokens : (q : ℕ) → q < states it.lts → (u : ℤ) × (numbers_along it.lts it.tree start effect (Tokens q) ≡ (k *ℤ u) +ℤ pos 0) =
+        λ q lt. (let (u, h) = whole (split_form.Tokens q) (bounded_has it.lts it.class it.problem q bound lt) in (u, more _ _ h)) in
         let effects : (t : ℕ) → has_label t it.lts.arcs ≡ true → IsTimes k (effect t) = λ t h. of_arc t (label_found t it.lts.arcs h) in
         let (y, parts, exact) = some_parts it.lts k positive (numbers_along it.lts it.tree start effect) (pos 0) (omega (arith, ints)) positive tokens effects in (
           y,
@@ -234,7 +235,9 @@ module _ (it : CaseSetting) (fine : IsInRange it.lts) (g : IsTree it.lts it.tree
             (w -ℤ u, subst (λ n. effect n ≡ k *ℤ (w -ℤ u)) is (less k _ _ _ u w h h' m))
 
     -- where all effects of labels with an arc are whole
-    pub plain_parts : is_some it.class.bound ≡ false → it.class.plain ≡ true → (y : Variable → ℤ) × AreWholeParts it.lts k (numbers_along it.lts it.tree start effect) y × (splits_start it.class it.problem ≡ true → (u : ℤ) × (y (Tokens it.lts.initial) ≡ pos (unwrap_or it.class.marking 1) *ℤ u))
+    pub plain_parts : is_some it.class.bound ≡ false → it.class.plain ≡ true
+        → (y : Variable → ℤ) × AreWholeParts it.lts k (numbers_along it.lts it.tree start effect) y
+        × (splits_start it.class it.problem ≡ true → (u : ℤ) × (y (Tokens it.lts.initial) ≡ pos (unwrap_or it.class.marking 1) *ℤ u))
     plain_parts bound plain =
         let effects : (t : ℕ) → has_label t it.lts.arcs ≡ true → IsTimes k (effect t) = λ t h. (let (a, has, is) = label_found t it.lts.arcs h in
         let lt : t < labels it.lts = subst (λ n. n < labels it.lts) is (arc_in_range it.lts fine a.from a.label a.to has).1 in
@@ -245,8 +248,15 @@ module _ (it : CaseSetting) (fine : IsInRange it.lts) (g : IsTree it.lts it.tree
         (λ t below. scaled k (pos (parikh it.tree q t)) (effect t)
         (⊎_elim (λ used. effects t used) (λ none. (pos 0, e.unused t none ∙ sym (*ℤ-zero k))) (cases_Bool (has_label t it.lts.arcs)))) in
         (parts.part +ℤ u, joined k start _ parts.part parts.rest u parts.is h)) in
-        let (y, are, exact) = some_parts it.lts k positive (numbers_along it.lts it.tree start effect) parts.rest parts.not_negative parts.below tokens effects in
-        (y, are, λ splits. (let (u, h) = starts splits in (u, start_steps (unwrap_or it.class.marking 1) k (numbers_along it.lts it.tree start effect (Tokens it.lts.initial)) (y (Tokens it.lts.initial)) parts.rest u parts.not_negative parts.below (exact it.lts.initial fine.initial) h)))
+        let (y, are, exact) = some_parts it.lts k positive (numbers_along it.lts it.tree start effect) parts.rest parts.not_negative parts.below tokens effects in (
+          y,
+          are,
+          λ splits. (let (u, h) = starts splits in (
+            u,
+            start_steps (unwrap_or it.class.marking 1) k (numbers_along it.lts it.tree start effect (Tokens it.lts.initial))
+                (y (Tokens it.lts.initial)) parts.rest u parts.not_negative parts.below (exact it.lts.initial fine.initial) h,
+          )),
+        )
       where
         scaled : (k n z : ℤ) → IsTimes k z → IsTimes k (n *ℤ z)
         scaled k n z (u, e) = (n *ℤ u, ap (λ y. n *ℤ y) e ∙ mul_left_comm n k u)
@@ -260,7 +270,9 @@ by_problem : (lts : System) (class : Class) (problem : Problem) (number : ℕ) (
     → KeepsRowsOver lts class problem number k x → (splits_start class problem ≡ true → (u : ℤ) × (y (Tokens lts.initial) ≡ pos (unwrap_or class.marking 1) *ℤ u))
     → HasWholeSolutionIn lts class problem number
 by_problem lts class (Event s t) number k x y fine asked live numbers bound plain are keeps starts =
-    solve_parts lts class (Event s t) number k x y fine asked live (allowed class (unsigned_abs (y (Tokens lts.initial))) (λ some. (let (u, h) = starts (plain_splits class s t some plain) in allows_by class (y (Tokens lts.initial)) u h))) are keeps
+    solve_parts lts class (Event s t) number k x y fine asked live
+    (allowed class (unsigned_abs (y (Tokens lts.initial)))
+    (λ some. (let (u, h) = starts (plain_splits class s t some plain) in allows_by class (y (Tokens lts.initial)) u h))) are keeps
 by_problem lts class (States s s') number k x y fine asked live numbers bound plain are keeps starts =
     solve_lifted lts class s s' number y bound numbers (whole_rows lts class (States s s') number k x y fine asked live are keeps)
 
@@ -272,7 +284,7 @@ module _ (it : CaseSetting) (case : CaseSystem) (c : IsCaseOver it case) (live :
       → IsTimes k (numbers_along it.lts it.tree start effect (form_variable it.lts.initial split)))
       × (splits_start it.class it.problem ≡ true → (u : ℤ) × (numbers_along it.lts it.tree start effect (Tokens it.lts.initial) ≡ k *ℤ (pos (unwrap_or it.class.marking 1) *ℤ u)))
 
-  -- the point gives numbers along the it.tree with whole forms
+  -- the point gives numbers along the tree with whole forms
   point_solution : has_start it.class ≡ true → ((k : ℤ) (start : ℤ) (effect : ℕ → ℤ) → pos 0 <ℤ k → AreEffects it.lts it.tree it.basis effect
       → KeepsRowsOver it.lts it.class it.problem it.number k (numbers_along it.lts it.tree start effect) → WholeAt k start effect
       → HasWholeSolutionIn it.lts it.class it.problem it.number) → HasWholePoint case → HasWholeSolutionIn it.lts it.class it.problem it.number
@@ -321,7 +333,7 @@ module _ (it : CaseSetting) (case : CaseSystem) (c : IsCaseOver it case) (live :
       steps_of tokens allows effect split_form.Start =
           let (w, is) = steps_by it.class (tokens it.lts.initial) allows in (w, number_at_first it.lts it.tree (pos (tokens it.lts.initial)) effect c.is_tree ∙ is)
 
-  -- a it.class without forms
+  -- a class without forms
   no_bound : is_some it.class.bound ≡ false → IsNone it.class.bound
   no_bound e = go it.class.bound e
     where
@@ -338,7 +350,9 @@ module _ (it : CaseSetting) (case : CaseSystem) (c : IsCaseOver it case) (live :
     where
       no_variable : is_some it.class.bound ≡ false → it.class.plain ≡ false → split_forms it.lts it.class it.problem ≡ []
       no_variable b p =
-          ap (λ x. (if x then map split_form.Tokens (all_numbers (states it.lts)) else (if it.class.plain then map split_form.Effect (used_labels it.lts) else [])) ++ (if splits_start it.class it.problem then (split_form.Start ∷ []) else [])) b
+          ap (λ x. (if x then map split_form.Tokens (all_numbers (states it.lts)) else
+          (if it.class.plain then map split_form.Effect (used_labels it.lts) else []))
+          ++ (if splits_start it.class it.problem then (split_form.Start ∷ []) else [])) b
           ∙ ap (λ x. (if x then map split_form.Effect (used_labels it.lts) else []) ++ (if splits_start it.class it.problem then (split_form.Start ∷ []) else [])) p
           ∙ ap (λ x. if x then (split_form.Start ∷ []) else []) (no_splits it.problem)
         where
@@ -369,6 +383,8 @@ pub whole_point_separates : (s : Setting) (problem : Problem) (case : ℕ → Ca
     → SomeCaseHasWholePoint s.lts s.class problem case ↔ IsSeparable s.lts s.class problem
 whole_point_separates s problem case live some c =
     let exact = rows_exact s.lts s.class problem (c 0 some).in_range (c 0 some).asked some in (
-      (λ (number, lt, point). (let (tokens, effect, allows, keeps) = (whole_points_exact (case_at s problem number) (case number) (c number lt) live).0 point in exact.1 (number, lt, tokens, effect, allows, keeps))),
-      (λ separable. (let (number, lt, tokens, effect, allows, keeps) = exact.0 separable in (number, lt, (whole_points_exact (case_at s problem number) (case number) (c number lt) live).1 (tokens, effect, allows, keeps)))),
+      (λ (number, lt, point). (let (tokens, effect, allows, keeps) =
+          (whole_points_exact (case_at s problem number) (case number) (c number lt) live).0 point in exact.1 (number, lt, tokens, effect, allows, keeps))),
+      (λ separable. (let (number, lt, tokens, effect, allows, keeps) = exact.0 separable in
+          (number, lt, (whole_points_exact (case_at s problem number) (case number) (c number lt) live).1 (tokens, effect, allows, keeps)))),
     )

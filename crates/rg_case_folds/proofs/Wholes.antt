@@ -3,11 +3,10 @@ use Rattle.std.proofs.Common.{◌≡◌, ℕ, zero, suc, ◌*◌, ◌<◌, List,
 use Rattle.std.specs.Prelude.{ℤ, pos, neg_ℤ, ◌+ℤ◌, ◌-ℤ◌, ◌*ℤ◌, ◌<ℤ◌, unsigned_abs, int_div}
 use Rattle.std.proofs.lemmas.Int.{ints, unsigned_abs-mul}
 use Rattle.std.specs.Int.{◌∣◌}
-use Rattle.std.proofs.Math.Nat.{one-dvd, dvd-mul_right}
+use Rattle.std.proofs.Math.Nat.{dvd-mul_right}
 use Rattle.std.proofs.Math.IntN.{*ℤ_comm}
 use Rattle.rg_integers.specs.Range.{InRange}
 use Rattle.rg_integers.specs.Divisor.{int_gcd}
-use Rattle.rg_integers.proofs.Ring.{mul-one}
 use Rattle.rg_integers.proofs.Signs.{abs_is}
 use Rattle.rg_integers.proofs.Order.{mul-cancel, positive_differs}
 use Rattle.rg_integers.proofs.Divisors.{gcd_of-only, exact}
@@ -15,15 +14,9 @@ use Rattle.rg_integers.specs.declared.term.Wide.{Wide}
 use Rattle.rg_folds.specs.Fold.{each, Ratio, whole, add, mul}
 use Rattle.rg_folds.proofs.FoldLemmas.{ratio_one}
 use Rattle.rg_case_folds.proofs.Scaling.{Divides, AllDivide, whole_ratio, product_whole}
+use Rattle.rg_fraction.proofs.Ones.{first_part as part_by_one}
 
 -- ---- parts by common divisors
-
-one_part : (z : ℤ) → int_div z (pos 1) ≡ z
-one_part z = sym (mul-one (int_div z (pos 1))) ∙ exact z (pos 1) (one-dvd _)
-
--- 1 alone divides 1
-pub part_by_one : (z : ℤ) → int_div z (int_gcd z (pos 1)) ≡ z
-part_by_one z = ap (λ n. int_div z (pos n)) (sym (gcd_of-only (unsigned_abs z) 1 1 (one-dvd _, one-dvd _, λ k p q. q))) ∙ one_part z
 
 -- a number divides its multiple
 pub part_by_divisor : (m b q : ℤ) → pos 0 <ℤ b → m ≡ b *ℤ q → int_div m (int_gcd m b) ≡ q

@@ -42,11 +42,14 @@ pub record AreAtPoint (lts : System) (basis : CycleBasis) (class : Class) (scale
   pub no_start : IsFalse (has_start class) → start ≡ whole (pos 0)
   pub reduced : (i : ℕ) → i < length (free_columns lts basis) → IsReduced (value (slice_index_or (free_columns lts basis) i 0))
   pub bottoms : (i : ℕ) → i < length (free_columns lts basis) → pos 0 <ℤ (value (slice_index_or (free_columns lts basis) i 0)).bottom
-  pub values : (i : ℕ) → i < length (free_columns lts basis) → SameValue (value (slice_index_or (free_columns lts basis) i 0)).top (value (slice_index_or (free_columns lts basis) i 0)).bottom (v (first_column class + i)) scale
+  pub values : (i : ℕ) → i < length (free_columns lts basis)
+      → SameValue (value (slice_index_or (free_columns lts basis) i 0)).top (value (slice_index_or (free_columns lts basis) i 0)).bottom
+      (v (first_column class + i)) scale
 
 -- every form of the case is a whole number where Start and the effects over the scale are these
 abbrev pub AreFormsWhole : Setting → CaseSystem → ℤ → (ℕ → ℤ) → ℤ → Type 0
-AreFormsWhole s case first effect scale = (f : ℕ) → f < length case.forms → (u : ℤ) × (dot (form_at case.forms f).coeffs (column_values s.lts s.basis s.class first effect) ≡ u *ℤ ((form_at case.forms f).scale *ℤ scale))
+AreFormsWhole s case first effect scale = (f : ℕ) → f < length case.forms
+    → (u : ℤ) × (dot (form_at case.forms f).coeffs (column_values s.lts s.basis s.class first effect) ≡ u *ℤ ((form_at case.forms f).scale *ℤ scale))
 
 -- the numbers of the states that Start and the values of the free labels make on the way to a place
 abbrev pub numbers_fold : Setting → Problem → Ratio → (ℕ → Ratio) → Result (List Ratio) Wide → Type 0

@@ -59,7 +59,8 @@ all_told lts position [] last same = All-nil IsTold
 all_told lts position (texts ∷ more) last (next, first, rest) =
     All-cons IsTold texts more (fields_are first.form (spaced texts) texts (record { fields = first.fields; spelled = refl })) (all_told lts next more last rest)
 
-pub lead_append : (lts : System) (from : Position) (xs : List (List (List ℕ))) (mid : Position) (ys : List (List (List ℕ))) (last : Position) → TextsLeadAll lts from xs mid → TextsLeadAll lts mid ys last
+pub lead_append : (lts : System) (from : Position) (xs : List (List (List ℕ))) (mid : Position) (ys : List (List (List ℕ))) (last : Position)
+    → TextsLeadAll lts from xs mid → TextsLeadAll lts mid ys last
     → TextsLeadAll lts from (xs ++ ys) last
 lead_append lts from [] mid ys last same more = subst (λ p. TextsLeadAll lts p ys last) (sym same) more
 lead_append lts from (texts ∷ xs) mid ys last (next, first, rest) more = (next, first, lead_append lts next xs mid ys last rest more)
@@ -126,7 +127,8 @@ small_split : (z : ℤ) → nat_abs z < 2 ^ 63 → nat_abs z < 10 ^ 64
 small_split z small = omega arith
 
 -- a row of a leaf, by its word and what it speaks of
-subject_leads : (lts : System) (version : Version) (count : Count) (due : ℕ) (m : ℤ) (w : List ℕ) (subject : Subject) → IsWellFormed lts → IsMultiplierInRange m → IsWordOf subject w → IsSubjectOf lts subject
+subject_leads : (lts : System) (version : Version) (count : Count) (due : ℕ) (m : ℤ) (w : List ℕ) (subject : Subject) → IsWellFormed lts
+    → IsMultiplierInRange m → IsWordOf subject w → IsSubjectOf lts subject
     → TextsLead lts (at_row version count due) (signed_decimal m ∷ w ∷ subject_fields lts subject) (at_row version count due)
 subject_leads lts version count due m w of_none fine small word is = record {
   form = row_line lone_form;
@@ -137,7 +139,28 @@ subject_leads lts version count due m w of_none fine small word is = record {
 subject_leads lts version count due m w (of_arc a) fine small word is = record {
   form = row_line arc_form;
   fields = ((m, written_numeral m (small_multiplier m small)), (word, (state_is lts a.from fine is.0, (label_is lts a.label fine is.1, (state_is lts a.to fine is.2, tt)))));
-  right = (((m, written_numeral m (small_multiplier m small), small), (tt, (tt, (tt, (tt, tt))))), (tt, (tt, (there_at lts.state_names a.from is.0, (there_at lts.label_names a.label is.1, (there_at lts.state_names a.to is.2, tt))))));
+  right = (
+    (
+      (
+        m,
+        written_numeral m (small_multiplier m
+            small),
+        small,
+      ),
+      (tt, (tt, (tt, (tt, tt)))),
+    ),
+    (
+      tt,
+      (
+        tt,
+        (
+          there_at lts.state_names a.from
+              is.0,
+          (there_at lts.label_names a.label is.1, (there_at lts.state_names a.to is.2, tt)),
+        ),
+      ),
+    ),
+  );
   leads = refl;
 }
 subject_leads lts version count due m w (of_state q) fine small word is = record {
@@ -164,7 +187,8 @@ row_leads : (lts : System) (version : Version) (count : Count) (due : ℕ) (r : 
 row_leads lts version count due r fine is =
     subject_leads lts version count due r.multiplier (word_and_subject r.name).0 (word_and_subject r.name).1 fine is.multiplier (word_of r.name) (subject_is lts r.name is.name)
 
-rows_lead : (lts : System) (version : Version) (count : Count) (due : ℕ) (rows : List NamedRow) → IsWellFormed lts → All (IsRowOf lts) rows → TextsLeadAll lts (at_row version count due) (map (named_fields lts) rows) (at_row version count due)
+rows_lead : (lts : System) (version : Version) (count : Count) (due : ℕ) (rows : List NamedRow) → IsWellFormed lts → All (IsRowOf lts) rows
+    → TextsLeadAll lts (at_row version count due) (map (named_fields lts) rows) (at_row version count due)
 rows_lead lts version count due [] fine are = refl
 rows_lead lts version count due (r ∷ rows) fine are =
     (at_row version count due, row_leads lts version count due r fine (All-head (IsRowOf lts) r rows are), rows_lead lts version count due rows fine (All-tail (IsRowOf lts) r rows are))
@@ -190,7 +214,8 @@ must_two : (version : Version) → (version ≡ version_one → true ≡ false) 
 must_two version_one fits = let both : true ≡ false = fits refl in absurd cc
 must_two version_two fits = refl
 
-split_leads : (lts : System) (position : Position) (version : Version) (count : Count) (due : ℕ) (form : Form) (at : ℤ) → IsWellFormed lts → IsDue position version count due → IsNodeIn lts version (split_node form at)
+split_leads : (lts : System) (position : Position) (version : Version) (count : Count) (due : ℕ) (form : Form) (at : ℤ) → IsWellFormed lts
+    → IsDue position version count due → IsNodeIn lts version (split_node form at)
     → TextsLead lts position (codes "split" ∷ (form_fields lts form ++ signed_decimal at ∷ [])) (at_node version count (suc due))
 split_leads lts position version count due (split_form.Tokens q) at fine is is_in = record {
   form = split_tokens_line;
@@ -226,27 +251,39 @@ IsTreeIn lts version tree = All (IsNodeIn lts version) (preorder tree)
 tree_leads : (lts : System) (position : Position) (version : Version) (count : Count) (due : ℕ) (tree : Tree) → IsWellFormed lts → IsDue position version count due → IsTreeIn lts version tree
     → TextsLeadAll lts position (flat_map (node_lines lts) (preorder tree)) (at_row version count due)
 tree_leads lts position version count due (leaf rows) fine is are =
-    subst (λ l. TextsLeadAll lts position l (at_row version count due)) (sym (append-nil (node_lines lts (leaf_node rows))))
-    (at_row version count due, record { form = leaf_line; fields = (refl, tt); right = ((tt, tt), (tt, tt)); leads = is.leaf }, rows_lead lts version count due rows fine (All-head (IsNodeIn lts version) (leaf_node rows) [] are).of_system)
+    subst (λ l. TextsLeadAll lts position l (at_row version count due)) (sym (append-nil (node_lines lts (leaf_node rows)))) (
+      at_row version count due,
+      record { form = leaf_line; fields = (refl, tt); right = ((tt, tt), (tt, tt)); leads = is.leaf },
+      rows_lead lts version
+          count due rows fine (All-head (IsNodeIn lts version) (leaf_node rows) [] are).of_system,
+    )
 tree_leads lts position version count due (split form at low high) fine is are =
     let both = sides (IsNodeIn lts version) (preorder low) (preorder high) (All-tail (IsNodeIn lts version) (split_node form at) (preorder low ++ preorder high) are) in
     let below : TextsLeadAll lts (at_node version count (suc due)) (flat_map (node_lines lts) (preorder low ++ preorder high)) (at_row version count due) =
     subst (λ l. TextsLeadAll lts (at_node version count (suc due)) l (at_row version count due)) (sym (flat_map-append (node_lines lts) (preorder low) (preorder high)))
-    (lead_append lts (at_node version count (suc due)) (flat_map (node_lines lts) (preorder low)) (at_row version count (suc due)) (flat_map (node_lines lts) (preorder high)) (at_row version count due)
-    (tree_leads lts (at_node version count (suc due)) version count (suc due) low fine (due_node version count (suc due)) both.0) (tree_leads lts (at_row version count (suc due)) version count due high fine (due_row version count due) both.1)) in
+    (lead_append lts (at_node version count (suc due)) (flat_map (node_lines lts) (preorder low)) (at_row version count (suc due))
+    (flat_map (node_lines lts) (preorder high)) (at_row version count due)
+    (tree_leads lts (at_node version count (suc due)) version count (suc due) low fine (due_node version count (suc due)) both.0)
+    (tree_leads lts (at_row version count (suc due)) version count due high fine (due_row version count due) both.1)) in
     (at_node version count (suc due), split_leads lts position version count due form at fine is (All-head (IsNodeIn lts version) (split_node form at) (preorder low ++ preorder high) are), below)
 
 -- a case
-case_leads : (lts : System) (position : Position) (version : Version) (count : Count) (tree : Tree) → IsWellFormed lts → follows position case_line ≡ to (at_node version count 0) → IsTreeIn lts version tree
+case_leads : (lts : System) (position : Position) (version : Version) (count : Count) (tree : Tree) → IsWellFormed lts
+    → follows position case_line ≡ to (at_node version count 0) → IsTreeIn lts version tree
     → TextsLeadAll lts position (case_lines lts tree) (at_row version count 0)
-case_leads lts position version count tree fine may are =
-    (at_node version count 0, record { form = case_line; fields = (refl, tt); right = ((tt, tt), (tt, tt)); leads = may }, tree_leads lts (at_node version count 0) version count 0 tree fine (due_node version count 0) are)
+case_leads lts position version count tree fine may are = (
+  at_node version count 0,
+  record { form = case_line; fields = (refl, tt); right = ((tt, tt), (tt, tt)); leads = may },
+  tree_leads lts
+      (at_node version count 0) version count 0 tree fine (due_node version count 0) are,
+)
 
 pub end_leads : (lts : System) (position : Position) → follows position end_line ≡ to at_end → TextsLeadAll lts position ((codes "end" ∷ []) ∷ []) at_end
 end_leads lts position may = (at_end, record { form = end_line; fields = (refl, tt); right = ((tt, tt), (tt, tt)); leads = may }, refl)
 
 -- any number of cases, and the end
-cases_lead : (lts : System) (position : Position) (version : Version) (trees : List Tree) → IsWellFormed lts → follows position case_line ≡ to (at_node version several 0) → follows position end_line ≡ to at_end → All (IsTreeIn lts version) trees
+cases_lead : (lts : System) (position : Position) (version : Version) (trees : List Tree) → IsWellFormed lts
+    → follows position case_line ≡ to (at_node version several 0) → follows position end_line ≡ to at_end → All (IsTreeIn lts version) trees
     → TextsLeadAll lts position (flat_map (case_lines lts) trees ++ (codes "end" ∷ []) ∷ []) at_end
 cases_lead lts position version [] fine may ends are = end_leads lts position ends
 cases_lead lts position version (tree ∷ trees) fine may ends are =
@@ -267,7 +304,8 @@ nodes_in lts version (n ∷ nodes) are fits =
     (record { of_system = All-head (IsNodeOf lts) n nodes are; fits = λ first. (either_false (splits_start n) (list_any splits_start nodes) (fits first)).0 })
     (nodes_in lts version nodes (All-tail (IsNodeOf lts) n nodes are) (λ first. (either_false (splits_start n) (list_any splits_start nodes) (fits first)).1))
 
-trees_in : (lts : System) (version : Version) (trees : List Tree) → All (IsTreeOf lts) trees → (version ≡ version_one → list_any splits_start (flat_map preorder trees) ≡ false) → All (IsTreeIn lts version) trees
+trees_in : (lts : System) (version : Version) (trees : List Tree) → All (IsTreeOf lts) trees
+    → (version ≡ version_one → list_any splits_start (flat_map preorder trees) ≡ false) → All (IsTreeIn lts version) trees
 trees_in lts version [] are fits = All-nil (IsTreeIn lts version)
 trees_in lts version (tree ∷ trees) are fits =
     let parts : version ≡ version_one → (list_any splits_start (preorder tree) ≡ false) × (list_any splits_start (flat_map preorder trees) ≡ false) =
@@ -286,7 +324,8 @@ reason_leads lts version (refutes.refuted (Event s t) (tree ∷ [])) fine is fit
   head_leads lts version (of_event s t) fine (is.0, is.1),
   subst (λ l. TextsLeadAll lts (at_one_case version) (l ++ (codes "end" ∷ []) ∷ []) at_end) (sym (append-nil (case_lines lts tree)))
       (lead_append lts (at_one_case version) (case_lines lts tree) (at_row version one 0) ((codes "end" ∷ []) ∷ []) at_end
-      (case_leads lts (at_one_case version) version one tree fine refl (All-head (IsTreeIn lts version) tree [] (trees_in lts version (tree ∷ []) is.3 fits))) (end_leads lts (at_row version one 0) refl)),
+      (case_leads lts (at_one_case version) version one tree fine refl
+      (All-head (IsTreeIn lts version) tree [] (trees_in lts version (tree ∷ []) is.3 fits))) (end_leads lts (at_row version one 0) refl)),
 )
 reason_leads lts version (refutes.refuted (Event s t) (tree ∷ next ∷ more)) fine is fits = absurd (omega (arith, is.2))
 reason_leads lts version (refutes.refuted (States s s') trees) fine is fits =
@@ -296,7 +335,8 @@ marked : (b : Bool) → b ≡ false → (if b then version_two else version_one)
 marked b none = ap (λ c. if c then version_two else version_one) none
 
 -- the lines of a claim
-pub claim_leads : (lts : System) (version : Version) (name : List ℕ) (claim : Claim) → IsWellFormed lts → NamesClass name claim.class → IsReasonOf lts claim.reason → (version ≡ version_one → asks_two claim ≡ false)
+pub claim_leads : (lts : System) (version : Version) (name : List ℕ) (claim : Claim) → IsWellFormed lts → NamesClass name claim.class
+    → IsReasonOf lts claim.reason → (version ≡ version_one → asks_two claim ≡ false)
     → TextsLeadAll lts at_heading (cert_lines version name lts claim.reason) at_end
 unfolding cert_lines
 claim_leads lts version name claim fine named is fits =
@@ -304,5 +344,10 @@ claim_leads lts version name claim fine named is fits =
     λ first. either_false (is_some claim.class.marking) (list_any splits_start (reason_nodes claim.reason)) (fits first) in (
       at_class version,
       heading_leads lts version,
-      (at_reason version, class_leads lts version name claim.class named (λ first. marked (is_some claim.class.marking) (parts first).0), reason_leads lts version claim.reason fine is (λ first. (parts first).1)),
+      (
+        at_reason version,
+        class_leads lts version name claim.class named
+            (λ first. marked (is_some claim.class.marking) (parts first).0),
+        reason_leads lts version claim.reason fine is (λ first. (parts first).1),
+      ),
     )

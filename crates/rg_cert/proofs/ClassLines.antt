@@ -1,5 +1,5 @@
 -- The second line.
-use Rattle.std.proofs.Common.{◌≡◌, ◌≢◌, ℕ, ◌<◌, if◌then◌else◌, IsSome, true, arith, List, [], ◌∷◌, ◌++◌, codes, All, Option, Some, None, IfNone, refl, sym, ap, subst, ◌∙◌}
+use Rattle.std.proofs.Common.{◌≡◌, ◌≢◌, ℕ, ◌<◌, true, arith, List, [], ◌∷◌, ◌++◌, codes, All, Option, Some, None, IfNone, refl, sym, ap, subst, ◌∙◌}
 use Rattle.std.proofs.lemmas.Bool.Decides.{nat_tests}
 use Rattle.std.proofs.lemmas.List.{append_cancel_left}
 use Rattle.std.proofs.lemmas.List.Elements.{All-weaker}
@@ -76,10 +76,3 @@ pub class_passes : (version : Version) (line name : List ℕ) (class : Class) �
     → (text : List ℕ) (other : Class) → NamesClass text other → IsClassIn version other → line ≢ codes "class " ++ text
 class_passes version line name class named is none text other named' fits is' =
     none (subst (IsClassIn version) (one_class name other class (subst (λ t. NamesClass t other) (append_cancel_left (codes "class ") text name (sym is' ∙ is)) named') named) fits)
-
--- which classes a text of the version may have
-pub class_in_one : (class : Class) → IsSome class.marking → ¬ IsClassIn version_one class
-class_in_one class asks fits = let both : version_two ≡ version_one = ap (λ b. if b then version_two else version_one) (sym asks) ∙ fits refl in absurd cc
-
-pub class_in_two : (class : Class) → IsClassIn version_two class
-class_in_two class first = let both : version_two ≡ version_one = first in absurd cc

@@ -1,5 +1,5 @@
 -- Lists that are cut at a byte which doesn't stand before it.
-use Rattle.std.proofs.Common.{◌≡◌, ◌≢◌, ℕ, ◌+◌, ◌-◌, ◌<◌, ◌≤◌, ◌==◌, true, false, List, [], ◌∷◌, ◌++◌, length, take, drop, get_or, All, refl, sym, ap, ap₂, subst, ◌∙◌, arith}
+use Rattle.std.proofs.Common.{◌≡◌, ◌≢◌, ℕ, ◌+◌, ◌-◌, ◌<◌, ◌==◌, true, false, List, [], ◌∷◌, ◌++◌, length, take, drop, get_or, All, refl, sym, ap, ap₂, subst, ◌∙◌, arith}
 use Rattle.std.specs.List.{prefix_len, join_with_byte}
 use Rattle.std.proofs.lemmas.Bool.Decides.{nat_tests}
 use Rattle.std.proofs.lemmas.List.{drop_more, take-append-drop, take_all, length-drop, length-take-le, get_or-take}
@@ -81,9 +81,6 @@ fields_spaced line = same_join (fields line) ∙ join_with_byte-slice_split 32 l
 -- the bytes of a name are no space and no line feed
 name_byte : (b : ℕ) → is_name_byte b ≡ true → (32 < b) × (b < 128)
 name_byte b is = (grind (arith, nat_tests), grind (arith, nat_tests))
-
-pub name_lacks : (c : ℕ) (name : List ℕ) → c ≤ 32 → IsName name → Lacks c name
-name_lacks c name few is = All-weaker (λ b. is_name_byte b ≡ true) (λ b. b ≢ c) (λ b h e. omega (arith, (name_byte b h).0, e, few)) name is.bytes
 
 pub name_above : (name : List ℕ) → IsName name → All (λ b. 32 < b) name
 name_above name is = All-weaker (λ b. is_name_byte b ≡ true) (λ b. 32 < b) (λ b h. (name_byte b h).0) name is.bytes

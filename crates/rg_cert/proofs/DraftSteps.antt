@@ -29,7 +29,8 @@ IsDrafted lts version head position d lines = IsDraftAt lts version head positio
 add_node : (lts : System) (cases : List (List TreeNode)) (nodes : List TreeNode) (n : TreeNode)
     → flat_map (nodes_lines lts) cases ++ nodes_lines lts (nodes ++ n ∷ []) ≡ (flat_map (nodes_lines lts) cases ++ nodes_lines lts nodes) ++ node_lines lts n
 add_node lts cases nodes n =
-    ap (λ l. flat_map (nodes_lines lts) cases ++ (codes "case" ∷ []) ∷ l) (flat_map-append (node_lines lts) nodes (n ∷ []) ∙ ap (λ l. flat_map (node_lines lts) nodes ++ l) (append-nil (node_lines lts n)))
+    ap (λ l. flat_map (nodes_lines lts) cases ++ (codes "case" ∷ []) ∷ l)
+    (flat_map-append (node_lines lts) nodes (n ∷ []) ∙ ap (λ l. flat_map (node_lines lts) nodes ++ l) (append-nil (node_lines lts n)))
     ∙ sym (append_assoc (flat_map (nodes_lines lts) cases) (nodes_lines lts nodes) (node_lines lts n))
 
 -- cases that grow by one
@@ -83,21 +84,27 @@ in_case lts version head count cases asked each none = record { asked = asked; c
 to_is : (p q : Position) → to p ≡ to q → p ≡ q
 to_is p q e = cc
 
-drafted_to : (lts : System) (version : Version) (head : Head) (p next : Position) (d : Draft) (lines : List (List (List ℕ))) → to p ≡ to next → IsDrafted lts version head p d lines → IsDrafted lts version head next d lines
+drafted_to : (lts : System) (version : Version) (head : Head) (p next : Position) (d : Draft) (lines : List (List (List ℕ))) → to p ≡ to next
+    → IsDrafted lts version head p d lines → IsDrafted lts version head next d lines
 drafted_to lts version head p next d lines e is = subst (λ q. IsDrafted lts version head q d lines) (to_is p next e) is
 
-drafted_by : (lts : System) (version : Version) (head : Head) (p : Position) (d new : Draft) (lines : List (List (List ℕ))) → new ≡ d → IsDrafted lts version head p d lines → IsDrafted lts version head p new lines
+drafted_by : (lts : System) (version : Version) (head : Head) (p : Position) (d new : Draft) (lines : List (List (List ℕ))) → new ≡ d
+    → IsDrafted lts version head p d lines → IsDrafted lts version head p new lines
 drafted_by lts version head p d new lines e is = subst (λ x. IsDrafted lts version head p x lines) (sym e) is
 
 -- a split where a node is due
 node_split : (lts : System) (version : Version) (head : Head) (count : Count) (due : ℕ) (texts : List (List ℕ)) (form : Form) (at : ℤ) (d : Draft)
     → IsInTree lts version head count d (suc due) → d.rows ≡ [] → IsSplitLine lts texts form at → (version ≡ version_one → splits_start (split_node form at) ≡ false)
     → IsDrafted lts version head (at_node version count (suc due)) (with_split d form at) ((flat_map (nodes_lines lts) d.cases ++ nodes_lines lts d.nodes) ++ texts ∷ [])
-node_split lts version head count due texts form at d is none line fits =
-    ((refl, in_split lts version head count d due texts form at is line fits, none), add_node lts d.cases d.nodes (split_node form at) ∙ ap (λ l. (flat_map (nodes_lines lts) d.cases ++ nodes_lines lts d.nodes) ++ l) (split_lines lts texts form at line))
+node_split lts version head count due texts form at d is none line fits = (
+  (refl, in_split lts version head count d due texts form at is line fits, none),
+  add_node lts d.cases d.nodes (split_node form at)
+      ∙ ap (λ l. (flat_map (nodes_lines lts) d.cases ++ nodes_lines lts d.nodes) ++ l) (split_lines lts texts form at line),
+)
 
 -- a leaf where a node is due
-node_leaf : (lts : System) (version : Version) (head : Head) (count : Count) (due : ℕ) (texts : List (List ℕ)) (d : Draft) → IsInTree lts version head count d (suc due) → d.rows ≡ [] → texts ≡ codes "leaf" ∷ []
+node_leaf : (lts : System) (version : Version) (head : Head) (count : Count) (due : ℕ) (texts : List (List ℕ)) (d : Draft)
+    → IsInTree lts version head count d (suc due) → d.rows ≡ [] → texts ≡ codes "leaf" ∷ []
     → IsDrafted lts version head (at_row version count due) d ((flat_map (nodes_lines lts) d.cases ++ nodes_lines lts d.nodes) ++ texts ∷ [])
 node_leaf lts version head count due texts d is none line = (
   (refl, is, subst (All (IsRowOf lts)) (sym none) (All-nil (IsRowOf lts))),
@@ -107,7 +114,8 @@ node_leaf lts version head count due texts d is none line = (
 )
 
 -- a row of a leaf
-leaf_row : (lts : System) (version : Version) (head : Head) (count : Count) (due : ℕ) (texts : List (List ℕ)) (r : NamedRow) (d : Draft) → IsInTree lts version head count d (suc due) → All (IsRowOf lts) d.rows
+leaf_row : (lts : System) (version : Version) (head : Head) (count : Count) (due : ℕ) (texts : List (List ℕ)) (r : NamedRow) (d : Draft)
+    → IsInTree lts version head count d (suc due) → All (IsRowOf lts) d.rows
     → IsRowOf lts r → texts ≡ named_fields lts r
     → IsDrafted lts version head (at_row version count due) (record { cases = d.cases; nodes = d.nodes; rows = d.rows ++ r ∷ [] })
     ((flat_map (nodes_lines lts) d.cases ++ nodes_lines lts (d.nodes ++ leaf_node d.rows ∷ [])) ++ texts ∷ [])
@@ -121,7 +129,8 @@ leaf_row lts version head count due texts r d is rows of_system line =
     )
 
 -- the end after a whole case
-last_case : (lts : System) (version : Version) (head : Head) (count : Count) (texts : List (List ℕ)) (d : Draft) → IsInTree lts version head count d 1 → All (IsRowOf lts) d.rows → texts ≡ codes "end" ∷ []
+last_case : (lts : System) (version : Version) (head : Head) (count : Count) (texts : List (List ℕ)) (d : Draft)
+    → IsInTree lts version head count d 1 → All (IsRowOf lts) d.rows → texts ≡ codes "end" ∷ []
     → IsDrafted lts version head at_end (record { cases = d.cases ++ (d.nodes ++ leaf_node d.rows ∷ []) ∷ []; nodes = []; rows = [] })
     ((flat_map (nodes_lines lts) d.cases ++ nodes_lines lts (d.nodes ++ leaf_node d.rows ∷ [])) ++ texts ∷ [])
 last_case lts version head count texts d is rows line = (
@@ -153,21 +162,24 @@ next_case lts version head texts d is rows line = (
 )
 
 -- the end where no case may stand
-no_cases : (lts : System) (version : Version) (head : Head) (texts : List (List ℕ)) → at_last ≡ after_head version head → texts ≡ codes "end" ∷ [] → IsDrafted lts version head at_end blank (texts ∷ [])
+no_cases : (lts : System) (version : Version) (head : Head) (texts : List (List ℕ)) → at_last ≡ after_head version head → texts ≡ codes "end" ∷ []
+    → IsDrafted lts version head at_end blank (texts ∷ [])
 no_cases lts version (of_unreachable s) texts at line = ((All-nil (IsCase lts version), refl), ap (λ l. l ∷ []) (sym line))
 no_cases lts version (of_fork s t s₁ s₂) texts at line = ((All-nil (IsCase lts version), refl), ap (λ l. l ∷ []) (sym line))
 no_cases lts version (of_event s t) texts at line = absurd cc
 no_cases lts version (of_states s s') texts at line = absurd cc
 
 -- the end where any number of cases may stand
-end_of_cases : (lts : System) (version : Version) (head : Head) (texts : List (List ℕ)) → (at_cases version) ≡ after_head version head → texts ≡ codes "end" ∷ [] → IsDrafted lts version head at_end blank (texts ∷ [])
+end_of_cases : (lts : System) (version : Version) (head : Head) (texts : List (List ℕ)) → (at_cases version) ≡ after_head version head
+    → texts ≡ codes "end" ∷ [] → IsDrafted lts version head at_end blank (texts ∷ [])
 end_of_cases lts version (of_unreachable s) texts at line = absurd cc
 end_of_cases lts version (of_fork s t s₁ s₂) texts at line = absurd cc
 end_of_cases lts version (of_event s t) texts at line = absurd cc
 end_of_cases lts version (of_states s s') texts at line = ((All-nil (IsCase lts version), tt), ap (λ l. l ∷ []) (sym line))
 
 -- the first case
-first_case : (lts : System) (version : Version) (head : Head) (count : Count) (texts : List (List ℕ)) → IsCount count head → texts ≡ codes "case" ∷ [] → IsDrafted lts version head (at_node version count 0) blank (texts ∷ [])
+first_case : (lts : System) (version : Version) (head : Head) (count : Count) (texts : List (List ℕ)) → IsCount count head
+    → texts ≡ codes "case" ∷ [] → IsDrafted lts version head (at_node version count 0) blank (texts ∷ [])
 first_case lts version head count texts asked line = ((refl, in_case lts version head count [] asked (All-nil (IsCase lts version)) (λ e. refl), refl), ap (λ l. l ∷ []) (sym line))
 
 one_is : (version : Version) (head : Head) → (at_one_case version) ≡ after_head version head → IsCount one head
@@ -221,43 +233,59 @@ fits_effect lts version texts split_form.Start at asked line first =
 
 -- the first case, or the end, where the version is that of the text
 of_one_case : (lts : System) (version : Version) (head : Head) (form : LineForm) (texts : List (List ℕ)) (next : Position) (d new : Draft) → IsDraftAt lts version head (at_one_case version) d
-    → AreAsked HasFieldForm (fields_of form) texts → follows (at_one_case version) form ≡ to next → Adds lts (at_one_case version) form texts d new → IsDrafted lts version head next new (draft_lines lts (at_one_case version) d ++ texts ∷ [])
+    → AreAsked HasFieldForm (fields_of form) texts → follows (at_one_case version) form ≡ to next → Adds lts (at_one_case version) form texts d new
+    → IsDrafted lts version head next new (draft_lines lts (at_one_case version) d ++ texts ∷ [])
 of_one_case lts version head case_line texts next d new is asked leads adds =
     drafted_to lts version head (at_node version one 0) next new (texts ∷ []) leads
     (drafted_by lts version head (at_node version one 0) blank new (texts ∷ []) (adds ∙ is.1) (first_case lts version head one texts (one_is version head is.0) (one_word (codes "case") texts asked)))
 of_one_case lts version head form texts next d new is asked leads adds = absurd cc
 
 of_cases : (lts : System) (version : Version) (head : Head) (form : LineForm) (texts : List (List ℕ)) (next : Position) (d new : Draft) → IsDraftAt lts version head (at_cases version) d
-    → AreAsked HasFieldForm (fields_of form) texts → follows (at_cases version) form ≡ to next → Adds lts (at_cases version) form texts d new → IsDrafted lts version head next new (draft_lines lts (at_cases version) d ++ texts ∷ [])
+    → AreAsked HasFieldForm (fields_of form) texts → follows (at_cases version) form ≡ to next → Adds lts (at_cases version) form texts d new
+    → IsDrafted lts version head next new (draft_lines lts (at_cases version) d ++ texts ∷ [])
 of_cases lts version head case_line texts next d new is asked leads adds =
     drafted_to lts version head (at_node version several 0) next new (texts ∷ []) leads
-    (drafted_by lts version head (at_node version several 0) blank new (texts ∷ []) (adds ∙ is.1) (first_case lts version head several texts (several_is version head is.0) (one_word (codes "case") texts asked)))
+    (drafted_by lts version head (at_node version several 0) blank new (texts ∷ []) (adds ∙ is.1)
+    (first_case lts version head several texts (several_is version head is.0) (one_word (codes "case") texts asked)))
 of_cases lts version head end_line texts next d new is asked leads adds =
-    drafted_to lts version head at_end next new (texts ∷ []) leads (drafted_by lts version head at_end blank new (texts ∷ []) (adds ∙ is.1) (end_of_cases lts version head texts is.0 (one_word (codes "end") texts asked)))
+    drafted_to lts version head at_end next new (texts ∷ []) leads
+    (drafted_by lts version head at_end blank new (texts ∷ []) (adds ∙ is.1) (end_of_cases lts version head texts is.0 (one_word (codes "end") texts asked)))
 of_cases lts version head form texts next d new is asked leads adds = absurd cc
 
-of_node : (lts : System) (version : Version) (head : Head) (count : Count) (due : ℕ) (form : LineForm) (texts : List (List ℕ)) (next : Position) (d new : Draft) → IsDraftAt lts version head (at_node version count due) d
-    → AreAsked HasFieldForm (fields_of form) texts → follows (at_node version count due) form ≡ to next → Adds lts (at_node version count due) form texts d new → IsDrafted lts version head next new (draft_lines lts (at_node version count due) d ++ texts ∷ [])
+of_node : (lts : System) (version : Version) (head : Head) (count : Count) (due : ℕ) (form : LineForm) (texts : List (List ℕ)) (next : Position)
+    (d new : Draft) → IsDraftAt lts version head (at_node version count due) d
+    → AreAsked HasFieldForm (fields_of form) texts → follows (at_node version count due) form ≡ to next
+    → Adds lts (at_node version count due) form texts d new → IsDrafted lts version head next new (draft_lines lts (at_node version count due) d ++ texts ∷ [])
 of_node lts version head count due split_tokens_line texts next d new is asked leads (form, at, line, same) =
     drafted_to lts version head (at_node version count (suc due)) next new (draft_lines lts (at_node version count due) d ++ texts ∷ []) leads
-    (drafted_by lts version head (at_node version count (suc due)) (with_split d form at) new (draft_lines lts (at_node version count due) d ++ texts ∷ []) same (node_split lts version head count due texts form at d is.1 is.2 line (fits_tokens lts version texts form at asked line)))
+    (drafted_by lts version head (at_node version count (suc due)) (with_split d form at) new
+    (draft_lines lts (at_node version count due) d ++ texts ∷ []) same
+    (node_split lts version head count due texts form at d is.1 is.2 line (fits_tokens lts version texts form at asked line)))
 of_node lts version head count due split_effect_line texts next d new is asked leads (form, at, line, same) =
     drafted_to lts version head (at_node version count (suc due)) next new (draft_lines lts (at_node version count due) d ++ texts ∷ []) leads
-    (drafted_by lts version head (at_node version count (suc due)) (with_split d form at) new (draft_lines lts (at_node version count due) d ++ texts ∷ []) same (node_split lts version head count due texts form at d is.1 is.2 line (fits_effect lts version texts form at asked line)))
+    (drafted_by lts version head (at_node version count (suc due)) (with_split d form at) new
+    (draft_lines lts (at_node version count due) d ++ texts ∷ []) same
+    (node_split lts version head count due texts form at d is.1 is.2 line (fits_effect lts version texts form at asked line)))
 of_node lts version head count due split_start_line texts next d new is asked leads (form, at, line, same) =
     let two = two_leads version _ next leads in
     drafted_to lts version head (at_node version count (suc due)) next new (draft_lines lts (at_node version count due) d ++ texts ∷ []) two.1
-    (drafted_by lts version head (at_node version count (suc due)) (with_split d form at) new (draft_lines lts (at_node version count due) d ++ texts ∷ []) same (node_split lts version head count due texts form at d is.1 is.2 line (fits_two version (split_node form at) two.0)))
+    (drafted_by lts version head (at_node version count (suc due)) (with_split d form at) new
+    (draft_lines lts (at_node version count due) d ++ texts ∷ []) same
+    (node_split lts version head count due texts form at d is.1 is.2 line (fits_two version (split_node form at) two.0)))
 of_node lts version head count due leaf_line texts next d new is asked leads adds =
     drafted_to lts version head (at_row version count due) next new (draft_lines lts (at_node version count due) d ++ texts ∷ []) leads
-    (drafted_by lts version head (at_row version count due) d new (draft_lines lts (at_node version count due) d ++ texts ∷ []) adds (node_leaf lts version head count due texts d is.1 is.2 (one_word (codes "leaf") texts asked)))
+    (drafted_by lts version head (at_row version count due) d new (draft_lines lts (at_node version count due) d ++ texts ∷ []) adds
+    (node_leaf lts version head count due texts d is.1 is.2 (one_word (codes "leaf") texts asked)))
 of_node lts version head count due form texts next d new is asked leads adds = absurd cc
 
-of_row : (lts : System) (version : Version) (head : Head) (count : Count) (due : ℕ) (form : LineForm) (texts : List (List ℕ)) (next : Position) (d new : Draft) → IsDraftAt lts version head (at_row version count due) d
-    → AreAsked HasFieldForm (fields_of form) texts → follows (at_row version count due) form ≡ to next → Adds lts (at_row version count due) form texts d new → IsDrafted lts version head next new (draft_lines lts (at_row version count due) d ++ texts ∷ [])
+of_row : (lts : System) (version : Version) (head : Head) (count : Count) (due : ℕ) (form : LineForm) (texts : List (List ℕ)) (next : Position)
+    (d new : Draft) → IsDraftAt lts version head (at_row version count due) d
+    → AreAsked HasFieldForm (fields_of form) texts → follows (at_row version count due) form ≡ to next
+    → Adds lts (at_row version count due) form texts d new → IsDrafted lts version head next new (draft_lines lts (at_row version count due) d ++ texts ∷ [])
 of_row lts version head count due (row_line row) texts next d new is asked leads (r, of_system, line, same) =
     drafted_to lts version head (at_row version count due) next new (draft_lines lts (at_row version count due) d ++ texts ∷ []) leads
-    (drafted_by lts version head (at_row version count due) (record { cases = d.cases; nodes = d.nodes; rows = d.rows ++ r ∷ [] }) new (draft_lines lts (at_row version count due) d ++ texts ∷ []) same (leaf_row lts version head count due texts r d is.1 is.2 of_system line))
+    (drafted_by lts version head (at_row version count due) (record { cases = d.cases; nodes = d.nodes; rows = d.rows ++ r ∷ [] }) new
+    (draft_lines lts (at_row version count due) d ++ texts ∷ []) same (leaf_row lts version head count due texts r d is.1 is.2 of_system line))
 of_row lts version head count (suc due) split_tokens_line texts next d new is asked leads (form, at, line, same) =
     let closed = leaf_closed (at_row version count (suc due)) d in
     drafted_to lts version head (at_node version count (suc due)) next new (draft_lines lts (at_row version count (suc due)) d ++ texts ∷ []) leads
@@ -282,15 +310,18 @@ of_row lts version head count (suc due) leaf_line texts next d new is asked lead
 of_row lts version head count (suc due) form texts next d new is asked leads adds = absurd cc
 of_row lts version head one zero end_line texts next d new is asked leads adds =
     drafted_to lts version head at_end next new (draft_lines lts (at_row version one zero) d ++ texts ∷ []) leads
-    (drafted_by lts version head at_end (case_closed (at_row version one zero) d) new (draft_lines lts (at_row version one zero) d ++ texts ∷ []) adds (last_case lts version head one texts d is.1 is.2 (one_word (codes "end") texts asked)))
+    (drafted_by lts version head at_end (case_closed (at_row version one zero) d) new
+    (draft_lines lts (at_row version one zero) d ++ texts ∷ []) adds (last_case lts version head one texts d is.1 is.2 (one_word (codes "end") texts asked)))
 of_row lts version head one zero split_start_line texts next d new is asked leads adds = let two = two_leads version long next leads in let both : long ≡ to next = two.1 in absurd cc
 of_row lts version head one zero form texts next d new is asked leads adds = absurd cc
 of_row lts version head several zero end_line texts next d new is asked leads adds =
     drafted_to lts version head at_end next new (draft_lines lts (at_row version several zero) d ++ texts ∷ []) leads
-    (drafted_by lts version head at_end (case_closed (at_row version several zero) d) new (draft_lines lts (at_row version several zero) d ++ texts ∷ []) adds (last_case lts version head several texts d is.1 is.2 (one_word (codes "end") texts asked)))
+    (drafted_by lts version head at_end (case_closed (at_row version several zero) d) new
+    (draft_lines lts (at_row version several zero) d ++ texts ∷ []) adds (last_case lts version head several texts d is.1 is.2 (one_word (codes "end") texts asked)))
 of_row lts version head several zero case_line texts next d new is asked leads adds =
     drafted_to lts version head (at_node version several 0) next new (draft_lines lts (at_row version several zero) d ++ texts ∷ []) leads
-    (drafted_by lts version head (at_node version several 0) (case_closed (at_row version several zero) d) new (draft_lines lts (at_row version several zero) d ++ texts ∷ []) adds (next_case lts version head texts d is.1 is.2 (one_word (codes "case") texts asked)))
+    (drafted_by lts version head (at_node version several 0) (case_closed (at_row version several zero) d) new
+    (draft_lines lts (at_row version several zero) d ++ texts ∷ []) adds (next_case lts version head texts d is.1 is.2 (one_word (codes "case") texts asked)))
 of_row lts version head several zero split_start_line texts next d new is asked leads adds = let two = two_leads version long next leads in let both : long ≡ to next = two.1 in absurd cc
 of_row lts version head several zero form texts next d new is asked leads adds = absurd cc
 
@@ -308,26 +339,32 @@ of_cases_is same version (of_states s s') at = cc
 
 -- a right line makes of a right draft a right one, with one line more
 pub drafted : (lts : System) (version : Version) (head : Head) (position : Position) (form : LineForm) (texts : List (List ℕ)) (next : Position) (d new : Draft) → IsDraftAt lts version head position d
-    → AreAsked HasFieldForm (fields_of form) texts → follows position form ≡ to next → Adds lts position form texts d new → IsDrafted lts version head next new (draft_lines lts position d ++ texts ∷ [])
+    → AreAsked HasFieldForm (fields_of form) texts → follows position form ≡ to next → Adds lts position form texts d new
+    → IsDrafted lts version head next new (draft_lines lts position d ++ texts ∷ [])
 drafted lts version head at_heading form texts next d new is asked leads adds = absurd ((not_early version head at_heading is.0).0 refl)
 drafted lts version head (at_class v) form texts next d new is asked leads adds = absurd ((not_early version head (at_class v) is.0).1 v refl)
 drafted lts version head (at_reason v) form texts next d new is asked leads adds = absurd ((not_early version head (at_reason v) is.0).2 v refl)
 drafted lts version head at_last end_line texts next d new is asked leads adds =
-    drafted_to lts version head at_end next new (texts ∷ []) leads (drafted_by lts version head at_end blank new (texts ∷ []) (adds ∙ is.1) (no_cases lts version head texts is.0 (one_word (codes "end") texts asked)))
+    drafted_to lts version head at_end next new (texts ∷ []) leads
+    (drafted_by lts version head at_end blank new (texts ∷ []) (adds ∙ is.1) (no_cases lts version head texts is.0 (one_word (codes "end") texts asked)))
 drafted lts version head at_last form texts next d new is asked leads adds = absurd cc
 drafted lts version head at_end form texts next d new is asked leads adds = absurd cc
 drafted lts version head (at_one_case same) form texts next d new is asked leads adds =
     let e = of_one_case_is same version head is.0 in
-    of_one_case lts version head form texts next d new (subst (λ v. (at_one_case v) ≡ after_head version head) e is.0, is.1) asked (subst (λ v. follows (at_one_case v) form ≡ to next) e leads) (subst (λ v. Adds lts (at_one_case v) form texts d new) e adds)
+    of_one_case lts version head form texts next d new (subst (λ v. (at_one_case v) ≡ after_head version head) e is.0, is.1) asked
+    (subst (λ v. follows (at_one_case v) form ≡ to next) e leads) (subst (λ v. Adds lts (at_one_case v) form texts d new) e adds)
 drafted lts version head (at_cases same) form texts next d new is asked leads adds =
     let e = of_cases_is same version head is.0 in
-    of_cases lts version head form texts next d new (subst (λ v. (at_cases v) ≡ after_head version head) e is.0, is.1) asked (subst (λ v. follows (at_cases v) form ≡ to next) e leads) (subst (λ v. Adds lts (at_cases v) form texts d new) e adds)
+    of_cases lts version head form texts next d new (subst (λ v. (at_cases v) ≡ after_head version head) e is.0, is.1) asked
+    (subst (λ v. follows (at_cases v) form ≡ to next) e leads) (subst (λ v. Adds lts (at_cases v) form texts d new) e adds)
 drafted lts version head (at_node same count due) form texts next d new is asked leads adds =
     let e = is.0 in
-    of_node lts version head count due form texts next d new (refl, is.1, is.2) asked (subst (λ v. follows (at_node v count due) form ≡ to next) e leads) (subst (λ v. Adds lts (at_node v count due) form texts d new) e adds)
+    of_node lts version head count due form texts next d new (refl, is.1, is.2) asked
+    (subst (λ v. follows (at_node v count due) form ≡ to next) e leads) (subst (λ v. Adds lts (at_node v count due) form texts d new) e adds)
 drafted lts version head (at_row same count due) form texts next d new is asked leads adds =
     let e = is.0 in
-    of_row lts version head count due form texts next d new (refl, is.1, is.2) asked (subst (λ v. follows (at_row v count due) form ≡ to next) e leads) (subst (λ v. Adds lts (at_row v count due) form texts d new) e adds)
+    of_row lts version head count due form texts next d new (refl, is.1, is.2) asked
+    (subst (λ v. follows (at_row v count due) form ≡ to next) e leads) (subst (λ v. Adds lts (at_row v count due) form texts d new) e adds)
 
 due_is : (p next : Position) → to p ≡ to next → due_at next ≡ due_at p
 due_is p next e = ap due_at (sym (to_is p next e))

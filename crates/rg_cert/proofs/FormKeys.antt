@@ -1,12 +1,12 @@
 -- A line has one form: the key of its fields.
-use Rattle.std.proofs.Common.{◌≡◌, inl, inr, ℤ, ◌&&◌, ℕ, nat_lt, Bool, true, false, List, [], ◌∷◌, Option, None, Some, codes, cond, Contains, refl, sym, ap, ◌∙◌, arith}
+use Rattle.std.proofs.Common.{◌≡◌, inl, inr, ℤ, ℕ, nat_lt, Bool, true, false, List, [], ◌∷◌, Option, None, Some, codes, cond, Contains, refl, sym, ap, ◌∙◌, arith}
 use Rattle.std.specs.List.{list_all}
 use Rattle.std.specs.Char.{is_ascii_digit}
 use Rattle.std.specs.Str.{bytes_eq}
 use Rattle.std.proofs.lemmas.Bool.Decides.{nat_tests}
 use Rattle.rg_theory.specs.declared.Class.{Class}
 use Rattle.rg_theory.specs.ClassWords.{NamesClass}
-use Rattle.rg_theory.proofs.ClassTold.{one_class}
+use Rattle.rg_theory.proofs.ClassTold.{one_class, and_left as both}
 use Rattle.rg_theory.proofs.ClassDecided.{Decided, class_of_text}
 use Rattle.rg_cert.specs.Text.{version_one, version_two, class_version}
 use Rattle.rg_cert.specs.Numerals.{IsPlain, IsNumeral}
@@ -23,7 +23,8 @@ begins_word (c ∷ cs) = nat_lt 64 c
 
 abbrev split_key : List (List ℕ) → Option LineForm
 split_key [] = None
-split_key (w ∷ more) = cond (bytes_eq w (codes "tokens")) (Some split_tokens_line) (cond (bytes_eq w (codes "effect")) (Some split_effect_line) (cond (bytes_eq w (codes "start")) (Some split_start_line) (None)))
+split_key (w ∷ more) = cond (bytes_eq w (codes "tokens")) (Some split_tokens_line)
+    (cond (bytes_eq w (codes "effect")) (Some split_effect_line) (cond (bytes_eq w (codes "start")) (Some split_start_line) (None)))
 
 abbrev heading_key : List (List ℕ) → Option LineForm
 heading_key [] = None
@@ -69,10 +70,6 @@ form_key (w ∷ more) = cond (begins_word w) (word_key w more) (row_key more)
 
 digit_low : (c : ℕ) → is_ascii_digit c ≡ true → nat_lt 64 c ≡ false
 digit_low c is = grind (arith, nat_tests)
-
-both : (a b : Bool) → (a && b) ≡ true → a ≡ true
-both true b h = refl
-both false b h = absurd cc
 
 plain_low : (digits : List ℕ) → IsPlain digits → begins_word digits ≡ false
 plain_low [] is = refl

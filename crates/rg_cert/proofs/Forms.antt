@@ -5,7 +5,8 @@ use Rattle.rg_cert.specs.declared.table.LineForm.TheVariants.{Unreachable, Fork,
 use Rattle.rg_cert.specs.declared.table.RowForm.TheVariants as of_row
 
 abbrev pub all_forms : List LineForm
-all_forms = Unreachable ∷ Fork ∷ Event ∷ States ∷ Case ∷ SplitTokens ∷ SplitEffect ∷ SplitStart ∷ Leaf ∷ Row of_row.Lone ∷ Row of_row.Arc ∷ Row of_row.State ∷ Row of_row.Label ∷ Row of_row.Depth ∷ End ∷ []
+all_forms = Unreachable ∷ Fork ∷ Event ∷ States ∷ Case ∷ SplitTokens ∷ SplitEffect ∷ SplitStart ∷ Leaf ∷ Row of_row.Lone ∷ Row of_row.Arc
+    ∷ Row of_row.State ∷ Row of_row.Label ∷ Row of_row.Depth ∷ End ∷ []
 
 -- each form stands in the list
 abbrev pub IsListed : LineForm → Type 0

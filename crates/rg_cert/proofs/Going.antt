@@ -36,10 +36,12 @@ end_here lts position lead = record { lines = (codes "end" ∷ []) ∷ []; lead 
 row_ends : (lts : System) (version : Version) (count : Count) (due : ℕ) → CanEnd lts (at_row version count due)
 row_ends lts version one zero = end_here lts (at_row version one zero) (end_leads lts (at_row version one zero) refl)
 row_ends lts version several zero = end_here lts (at_row version several zero) (end_leads lts (at_row version several zero) refl)
-row_ends lts version count (suc due) = one_more lts (at_row version count (suc due)) (codes "leaf" ∷ []) (at_row version count due) (leaf lts (at_row version count (suc due)) (at_row version count due) refl) (row_ends lts version count due)
+row_ends lts version count (suc due) = one_more lts (at_row version count (suc due)) (codes "leaf" ∷ []) (at_row version count due)
+    (leaf lts (at_row version count (suc due)) (at_row version count due) refl) (row_ends lts version count due)
 
 node_ends : (lts : System) (version : Version) (count : Count) (due : ℕ) → CanEnd lts (at_node version count due)
-node_ends lts version count due = one_more lts (at_node version count due) (codes "leaf" ∷ []) (at_row version count due) (leaf lts (at_node version count due) (at_row version count due) refl) (row_ends lts version count due)
+node_ends lts version count due = one_more lts (at_node version count due) (codes "leaf" ∷ []) (at_row version count due)
+    (leaf lts (at_node version count due) (at_row version count due) refl) (row_ends lts version count due)
 
 last_ends : (lts : System) → CanEnd lts at_last
 last_ends lts = end_here lts at_last (end_leads lts at_last refl)
@@ -53,20 +55,23 @@ all_nets = record { pure = false; plain = false; bound = None; marking = None; n
 
 class_ends : (lts : System) (version : Version) → IsWellFormed lts → CanEnd lts (at_class version)
 class_ends lts version fine =
-    one_more lts (at_class version) _ (at_reason version) (class_leads lts version (class_text all_nets) all_nets (written all_nets (record { bound = tt; marking = tt })) (λ one. refl)) (reason_ends lts version fine)
+    one_more lts (at_class version) _ (at_reason version)
+    (class_leads lts version (class_text all_nets) all_nets (written all_nets (record { bound = tt; marking = tt })) (λ one. refl)) (reason_ends lts version fine)
 
 can_end : (lts : System) (position : Position) → IsWellFormed lts → CanEnd lts position
 can_end lts at_heading fine = one_more lts at_heading _ (at_class version_one) (heading_leads lts version_one) (class_ends lts version_one fine)
 can_end lts (at_class version) fine = class_ends lts version fine
 can_end lts (at_reason version) fine = reason_ends lts version fine
 can_end lts at_last fine = last_ends lts
-can_end lts (at_one_case version) fine = one_more lts (at_one_case version) (codes "case" ∷ []) (at_node version one 0) (case_here lts (at_one_case version) (at_node version one 0) refl) (node_ends lts version one 0)
+can_end lts (at_one_case version) fine = one_more lts (at_one_case version) (codes "case" ∷ []) (at_node version one 0)
+    (case_here lts (at_one_case version) (at_node version one 0) refl) (node_ends lts version one 0)
 can_end lts (at_cases version) fine = end_here lts (at_cases version) (end_leads lts (at_cases version) refl)
 can_end lts (at_node version count due) fine = node_ends lts version count due
 can_end lts (at_row version count due) fine = row_ends lts version count due
 can_end lts at_end fine = record { lines = []; lead = refl }
 
-lead_on : (lts : System) (from : Position) (before : List (List ℕ)) (position : Position) (more : List (List ℕ)) (last : Position) → LinesLead lts from before position → LinesLead lts position more last
+lead_on : (lts : System) (from : Position) (before : List (List ℕ)) (position : Position) (more : List (List ℕ)) (last : Position)
+    → LinesLead lts from before position → LinesLead lts position more last
     → LinesLead lts from (before ++ more) last
 lead_on lts from [] position more last same rest = subst (λ p. LinesLead lts p more last) (sym same) rest
 lead_on lts from (line ∷ before) position more last (next, leads, lead) rest = (next, leads, lead_on lts next before position more last lead rest)

@@ -46,7 +46,8 @@ pub fault_four : (bytes : List ℕ) (lts : System) (version : Version) (name : L
     → FaultFrom lts (after_head version head) last 4 fault → FirstFault bytes lts fault
 fault_four bytes lts version name class after rest head last fault fine is named fits is' line f =
     fault_three bytes lts version name class after rest fault is named fits is'
-    (fault_before lts (at_reason version) (spaced (head_fields lts head)) (after_head version head) rest last 3 fault line.cut (lead_of lts (at_reason version) (head_fields lts head) (after_head version head) (head_leads lts version head fine line.of_system)) f)
+    (fault_before lts (at_reason version) (spaced (head_fields lts head)) (after_head version head) rest last 3 fault line.cut
+    (lead_of lts (at_reason version) (head_fields lts head) (after_head version head) (head_leads lts version head fine line.of_system)) f)
 
 -- the whole text
 pub text_parts : (class : List ℕ) (lts : System) (version : Version) (reason : Reason) (bytes after rest last : List ℕ) → All (IsCase lts version) (reason_cases reason)

@@ -55,7 +55,8 @@ words_above (w ∷ words) text fine has =
 field_above : (field : Field) (text : List ℕ) → is_fine field ≡ true → HasFieldForm field text → IsAbove text
 field_above (word w) text fine is = word_above w text fine is
 field_above (one_of words) text fine has = words_above words text fine has
-field_above (class_words version) text fine (class, named, first) = All-weaker (λ b. is_shown b ≡ true) (λ b. 32 < b) shown_above text (AllPass-from_list_all is_shown text (named_shown text class named))
+field_above (class_words version) text fine (class, named, first) =
+    All-weaker (λ b. is_shown b ≡ true) (λ b. 32 < b) shown_above text (AllPass-from_list_all is_shown text (named_shown text class named))
 field_above state text fine is = name_above text is
 field_above label text fine is = name_above text is
 field_above (number range) text fine (z, is) = All-weaker (λ b. (32 < b) × (b < 128)) (λ b. 32 < b) (λ b h. h.0) text (numeral_shown text z is)

@@ -1,8 +1,7 @@
 -- Which numbers a table of names has.
-use Rattle.std.proofs.Common.{◌≡◌, ◌≢◌, ◌∙◌, ap, sym, subst, refl, ◌⊎◌, inl, inr, ℕ, ◌+◌, ◌<◌, ◌≤◌, arith, Bool, Bor, true, false, cond, List, [], length, get_or, set, slice_get, Contains, Option, None, Some, MatchOption, IfSome, IfNone, bytes_eq}
+use Rattle.std.proofs.Common.{◌≡◌, ◌≢◌, ◌∙◌, ap, sym, subst, refl, ℕ, ◌+◌, ◌<◌, ◌≤◌, arith, Bool, Bor, true, false, cond, List, [], length, get_or, slice_get, Contains, Option, None, Some, MatchOption, IfSome, IfNone, bytes_eq}
 use Rattle.std.specs.BTreeMap.{BTreeMap}
-use Rattle.std.proofs.lemmas.Bool.{cases_order}
-use Rattle.std.proofs.lemmas.List.{length-set, get_or-set_same, get_or-set_other, get_or_past}
+use Rattle.std.proofs.lemmas.List.{get_or_past}
 use Rattle.std.proofs.lemmas.Option.{slice_get-get_or, get_or_from_slice_get}
 use Rattle.std.proofs.lemmas.Slice.Eq.{bytes_eq-Decides}
 use Rattle.rg_cert.specs.declared.name_table.NameTable.{NameTable}
@@ -14,10 +13,6 @@ Slots = List (Option (Bor (List ℕ) × ℕ))
 -- what the slot of a name has
 abbrev pub slot : Slots → List ℕ → Option (Bor (List ℕ) × ℕ)
 slot slots name = get_or slots (slot_of name (length slots)) None
-
--- the slots, with a name in its own
-abbrev filled : Slots → Bor (List ℕ) → ℕ → Slots
-filled slots name number = set slots (slot_of name.now (length slots)) (Some (name, number))
 
 -- past the last slot there is no name
 pub free_past : (slots : Slots) (name : List ℕ) (at : ℕ) → at ≡ slot_of name (length slots) → length slots ≤ at → number_in (slot slots name) name ≡ None
@@ -40,51 +35,6 @@ others_more slots old new name number none adds other = go (bytes_eq name other)
         let none_here : number_in (slot slots other) other ≡ None = subst (λ n. number_in (slot slots n) n ≡ None) ((bytes_eq-Decides name other).0 e) none in
         ap (λ o. first_of o (mapped new other)) none_here ∙ is
     go false e is = ap (first_of (number_in (slot slots other) other)) is
-
--- the number in the slot of a name that isn't the one just put there
-kept_slot : (slots : Slots) (name : Bor (List ℕ)) (number : ℕ) (other : List ℕ) → slot_of name.now (length slots) < length slots
-    → bytes_eq name.now other ≡ false → number_in (get_or slots (slot_of name.now (length slots)) None) other ≡ None
-    → number_in (get_or (filled slots name number) (slot_of other (length slots)) None) other ≡ number_in (slot slots other) other
-kept_slot slots name number other lt e free = by (cases_order (slot_of other (length slots)) (slot_of name.now (length slots)))
-  where
-    at : ℕ
-    at = slot_of name.now (length slots)
-
-    there : ℕ
-    there = slot_of other (length slots)
-
-    apart : there ≢ at → number_in (get_or (filled slots name number) there None) other ≡ number_in (get_or slots there None) other
-    apart ne = ap (λ s. number_in s other) (get_or-set_other slots at there (Some (name, number)) None ne)
-
-    by : (there ≡ at) ⊎ ((there < at) ⊎ (at < there)) → number_in (get_or (filled slots name number) there None) other ≡ number_in (get_or slots there None) other
-    by (inl same) =
-        ap (λ i. number_in (get_or (filled slots name number) i None) other) same
-        ∙ ap (λ s. number_in s other) (get_or-set_same slots at (Some (name, number)) None lt)
-        ∙ ap (λ t. cond t (Some number) None) e
-        ∙ sym free
-        ∙ ap (λ i. number_in (get_or slots i None) other) (sym same)
-    by (inr (inl less)) = apart (λ same. omega (arith, same, less))
-    by (inr (inr more)) = apart (λ same. omega (arith, same, more))
-
--- one more name in its slot, which no other name has
-pub slots_more : (slots : Slots) (others : BTreeMap (Bor (List ℕ)) ℕ) (name : Bor (List ℕ)) (number : ℕ) → slot_of name.now (length slots) < length slots
-    → ((other : List ℕ) → bytes_eq name.now other ≡ false → number_in (get_or slots (slot_of name.now (length slots)) None) other ≡ None)
-    → (other : List ℕ) → number_among (filled slots name number) others other ≡ cond (bytes_eq name.now other) (Some number) (number_among slots others other)
-slots_more slots others name number lt free other =
-    ap (λ n. first_of (number_in (get_or (filled slots name number) (slot_of other n) None) other) (mapped others other))
-    (length-set slots (slot_of name.now (length slots)) (Some (name, number)))
-    ∙ go (bytes_eq name.now other) refl
-  where
-    go : (t : Bool) → bytes_eq name.now other ≡ t
-        → first_of (number_in (get_or (filled slots name number) (slot_of other (length slots)) None) other) (mapped others other)
-        ≡ cond t (Some number) (number_among slots others other)
-    go true e =
-        let same : name.now ≡ other = (bytes_eq-Decides name.now other).0 e in
-        let here : get_or (filled slots name number) (slot_of other (length slots)) None ≡ Some (name, number) =
-        subst (λ n. get_or (filled slots name number) (slot_of n (length slots)) None ≡ Some (name, number)) same
-        (get_or-set_same slots (slot_of name.now (length slots)) (Some (name, number)) None lt) in
-        ap (λ s. first_of (number_in s other) (mapped others other)) here ∙ ap (λ t. first_of (cond t (Some number) None) (mapped others other)) e
-    go false e = ap (λ o. first_of o (mapped others other)) (kept_slot slots name number other lt e (free other e))
 
 -- one more name
 pub one_more : (old new : NameTable) (names : List (List ℕ)) (k : ℕ) (name : List ℕ) → slice_get names k ≡ Some name → AreIndices old names k

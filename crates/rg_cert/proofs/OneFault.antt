@@ -69,7 +69,8 @@ either lts position rest n TreeShort is = inr (is.0, is.1, is.2, is.3)
 either lts position rest n TreeLong is = inr (is.0, is.1, is.2, is.3)
 either lts position rest n NoMemory is = absurd is
 
-one_line_fault : (lts : System) (position : Position) (form : LineForm) (texts : List (List ℕ)) (n : ℕ) (d e : CertFault) → IsLineFault lts position form texts n d → IsLineFault lts position form texts n e → d ≡ e
+one_line_fault : (lts : System) (position : Position) (form : LineForm) (texts : List (List ℕ)) (n : ℕ) (d e : CertFault)
+    → IsLineFault lts position form texts n d → IsLineFault lts position form texts n e → d ≡ e
 one_line_fault lts position form texts n (NumberPasses i) (NumberPasses j) x y = ap NumberPasses (x.0 ∙ sym y.0)
 one_line_fault lts position form texts n (NumberPasses i) (UnknownName j) x y = absurd (x.1 y.1.0)
 one_line_fault lts position form texts n (NumberPasses i) TreeShort x y = absurd (x.1 y.0.0)
@@ -111,7 +112,8 @@ no_line_fault lts position form texts n TreeLong next right leads x = let both =
 no_line_fault lts position form texts n (Expected i) next right leads x = x
 no_line_fault lts position form texts n NoMemory next right leads x = x
 
-leads_begin : (lts : System) (position : Position) (line : List ℕ) (next : Position) (text rest : List ℕ) → text ≡ line ++ 10 ∷ rest → (is : LineLeads lts position line next) → BeginsWith position text is.form is.texts
+leads_begin : (lts : System) (position : Position) (line : List ℕ) (next : Position) (text rest : List ℕ) → text ≡ line ++ 10 ∷ rest
+    → (is : LineLeads lts position line next) → BeginsWith position text is.form is.texts
 leads_begin lts position line next text rest cut is =
     record { line = line; more = rest; text = cut; has = is.has; due = λ e. let both = sym is.leads ∙ e in absurd cc }
 

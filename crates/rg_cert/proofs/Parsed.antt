@@ -29,7 +29,8 @@ refused_is_wide {E} text z r e is parses (inr (ds, as_minus, plain, other, value
     let first : get_or text 0 0 ≡ 45 = ap (λ l. get_or l 0 0) as_minus in
     let rest : drop 1 text ≡ ds = ap (drop 1) as_minus in
     let refused : (list_all is_ascii_digit (drop 1 text) ≡ true) × (0 < length (drop 1 text)) × (digits_value 10 (drop 1 text) ≤ 2 ^ 127) → ⊥ =
-    subst (λ (o : Result ℤ E). OkIff o ((list_all is_ascii_digit (drop 1 text) ≡ true) × (0 < length (drop 1 text)) × (digits_value 10 (drop 1 text) ≤ 2 ^ 127)) (neg_ℤ (pos (digits_value 10 (drop 1 text))))) is
+    subst (λ (o : Result ℤ E). OkIff o ((list_all is_ascii_digit (drop 1 text) ≡ true) × (0 < length (drop 1 text))
+    × (digits_value 10 (drop 1 text) ≤ 2 ^ 127)) (neg_ℤ (pos (digits_value 10 (drop 1 text))))) is
     (parse_signed_minus numerals w128 text r parses first) in
     let size : nat_abs z ≡ digits_value 10 ds = ap nat_abs value ∙ abs_minus (digits_value 10 ds) in
     ⊎_elim

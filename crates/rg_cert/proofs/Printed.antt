@@ -1,6 +1,6 @@
 -- The text of a certificate, piece by piece.
-use Rattle.std.proofs.Common.{◌≡◌, Bool, true, false, ◌||◌, if◌then◌else◌, refl, ℕ, ◌+◌, ◌<◌, List, [], ◌∷◌, ◌++◌, length, map, drop, get_or, codes, All, sym, ap, ap₂, subst, ◌∙◌, append_assoc, arith}
-use Rattle.std.specs.List.{flat_map, list_any}
+use Rattle.std.proofs.Common.{◌≡◌, Bool, true, false, if◌then◌else◌, refl, ℕ, ◌+◌, ◌<◌, List, [], ◌∷◌, ◌++◌, length, map, drop, get_or, codes, All, sym, ap, ap₂, subst, ◌∙◌, append_assoc, arith}
+use Rattle.std.specs.List.{flat_map}
 use Rattle.std.proofs.Math.ListN.{get_or-map}
 use Rattle.std.proofs.lemmas.List.{drop_more, map-append, length-map}
 use Rattle.std.proofs.lemmas.List.Elements.{All-nil, All-cons, All-head, All-tail, All-weaker}
@@ -17,7 +17,7 @@ use Rattle.rg_cert.specs.Text.{Version, version_one, version_two, heading, versi
 use Rattle.rg_cert.specs.Spells.{Spells}
 use Rattle.rg_cert.specs.Drafts.{head_fields, IsHeadOf, nodes_lines, IsNodeIn, IsCase}
 use Rattle.rg_cert.specs.View.{reason_head, reason_cases}
-use Rattle.rg_cert.proofs.Walks.{fed_append}
+use Rattle.rg_text.proofs.Grown.{fed-append as fed_append}
 use Rattle.rg_cert.proofs.WholeReasons.{lines_of_reason}
 
 -- what holds of each, of the one at a position
@@ -37,19 +37,6 @@ more_lines g f xs i x t t' w less is grown whole =
     ap (λ l. l ++ fed (map spaced rest)) grown ∙ append_assoc t (fed (map spaced (f (g x)))) (fed (map spaced rest))
     ∙ ap (λ l. t ++ l) (sym (fed_append (map spaced (f (g x))) (map spaced rest)) ∙ ap fed (sym (map-append spaced (f (g x)) rest)))
     ∙ ap (λ l. t ++ fed (map spaced (flat_map f (map g l)))) (sym first) ∙ whole
-
--- whether one of the things from a position on is so
-pub any_more : {X Y : Type 0} (g : X → Y) (test : Y → Bool) (xs : List X) (i : ℕ) (x : X) → i < length xs → x ≡ get_or xs i x
-    → list_any test (map g (drop i xs)) ≡ (test (g x) || list_any test (map g (drop (i + 1) xs)))
-any_more g test xs i x less is = ap (λ l. list_any test (map g l)) (drop_more xs i x less ∙ ap (λ y. y ∷ drop (i + 1) xs) (sym is))
-
-pub any_after : {X Y : Type 0} (g : X → Y) (test : Y → Bool) (xs : List X) (i : ℕ) (x : X) (w : Bool) → i < length xs → x ≡ get_or xs i x → test (g x) ≡ false
-    → list_any test (map g (drop i xs)) ≡ w → list_any test (map g (drop (i + 1) xs)) ≡ w
-any_after g test xs i x w less is none same = ap (λ b. b || list_any test (map g (drop (i + 1) xs))) (sym none) ∙ sym (any_more g test xs i x less is) ∙ same
-
-pub any_found : {X Y : Type 0} (g : X → Y) (test : Y → Bool) (xs : List X) (i : ℕ) (x : X) (w : Bool) → i < length xs → x ≡ get_or xs i x → test (g x) ≡ true
-    → list_any test (map g (drop i xs)) ≡ w → true ≡ w
-any_found g test xs i x w less is some same = ap (λ b. b || list_any test (map g (drop (i + 1) xs))) (sym some) ∙ sym (any_more g test xs i x less is) ∙ same
 
 -- the line of one more row
 pub more_rows : {X Y : Type 0} (g : X → Y) (f : Y → List (List ℕ)) (xs : List X) (i : ℕ) (d : X) (t t' w : List ℕ) → i < length xs
@@ -92,7 +79,8 @@ unfolding text_with cert_lines
 grown_text lts version class reason t₀ t t₁ t₂ t₃ t₄ t₅ each e₀ e e₁ e₂ e₃ e₄ e₅ =
     let lines = reason_lines lts (reason_of reason) in
     let first = spaced (heading version) ++ 10 ∷ [] in
-    e₅ ∙ ap (λ t. t ++ codes "end\n") (e₄ ∙ ap₂ (λ t l. t ++ fed (map spaced l)) (e₃ ∙ ap (λ t. t ++ 10 ∷ []) (e₂ ∙ ap (λ t. t ++ class) (e₁ ∙ ap (λ t. t ++ codes "class ") (e ∙ ap (λ t. t ++ first) e₀))))
+    e₅ ∙ ap (λ t. t ++ codes "end\n") (e₄ ∙ ap₂ (λ t l. t ++ fed (map spaced l))
+    (e₃ ∙ ap (λ t. t ++ 10 ∷ []) (e₂ ∙ ap (λ t. t ++ class) (e₁ ∙ ap (λ t. t ++ codes "class ") (e ∙ ap (λ t. t ++ first) e₀))))
     (sym (lines_of_reason lts version_two reason each)))
     ∙ parts first (codes "class ") class (fed (map spaced lines))
     ∙ ap (λ l. first ++ (codes "class " ++ (class ++ 10 ∷ l))) (sym (fed_append (map spaced lines) (codes "end" ∷ [])) ∙ ap fed (sym (map-append spaced lines ((codes "end" ∷ []) ∷ []))))

@@ -211,7 +211,8 @@ record IsRead (lts : System) (version : Version) (head : Head) (position : Posit
   pub grown : draft_lines lts at_end last ≡ draft_lines lts position d ++ texts
   pub are : lines ≡ map spaced texts
 
-lines_read : (lts : System) (version : Version) (head : Head) (position : Position) (d : Draft) (lines : List (List ℕ)) → IsDraftAt lts version head position d → LinesLead lts position lines at_end → IsRead lts version head position d lines
+lines_read : (lts : System) (version : Version) (head : Head) (position : Position) (d : Draft) (lines : List (List ℕ))
+    → IsDraftAt lts version head position d → LinesLead lts position lines at_end → IsRead lts version head position d lines
 lines_read lts version head position d [] is same = record {
   last = d;
   texts = [];
@@ -250,7 +251,8 @@ trees_there lts version (nodes ∷ cases) each =
       count = ap suc more.count;
       each = All-cons (IsTreeOf lts) first.tree more.trees (All-weaker (IsNodeIn lts version) (IsNodeOf lts) (λ n h. h.of_system) (preorder first.tree) nodes_in) more.each;
       fits = λ one. list_any-append splits_start (preorder first.tree) (flat_map preorder more.trees)
-          ∙ ap₂ ◌||◌ (list_any_none splits_start (preorder first.tree) (All-weaker (IsNodeIn lts version) (λ n. splits_start n ≡ false) (λ n h. h.fits one) (preorder first.tree) nodes_in)) (more.fits one);
+          ∙ ap₂ ◌||◌ (list_any_none splits_start (preorder first.tree)
+          (All-weaker (IsNodeIn lts version) (λ n. splits_start n ≡ false) (λ n h. h.fits one) (preorder first.tree) nodes_in)) (more.fits one);
       lines = ap₂ ◌++◌ (ap (λ l. (codes "case" ∷ []) ∷ flat_map (node_lines lts) l) (sym first.whole)) more.lines;
     }
 
@@ -261,7 +263,8 @@ record IsReasonThere (lts : System) (version : Version) (head : Head) (cases : L
   pub fits : version ≡ version_one → list_any splits_start (reason_nodes reason) ≡ false
   pub lines : reason_lines lts reason ≡ head_fields lts head ∷ flat_map (nodes_lines lts) cases
 
-reason_there : (lts : System) (version : Version) (head : Head) (cases : List (List TreeNode)) → IsHeadOf lts head → All (IsCase lts version) cases → HasCases head cases → IsReasonThere lts version head cases
+reason_there : (lts : System) (version : Version) (head : Head) (cases : List (List TreeNode)) → IsHeadOf lts head → All (IsCase lts version) cases
+    → HasCases head cases → IsReasonThere lts version head cases
 reason_there lts version (of_unreachable s) cases is each none = record {
   reason = refutes.unreachable s;
   of_system = is;
@@ -319,13 +322,15 @@ record IsClassThere (version : Version) (line : List ℕ) (next : Position) : Ty
   pub spelled : line ≡ codes "class " ++ name
   pub leads : next ≡ at_reason version
 
-class_by : (version first : Version) (line : List ℕ) (texts : List (List ℕ)) (next : Position) → HasForm (class_line first) line texts → (version ≡ version_one → first ≡ version_one) → next ≡ at_reason version
+class_by : (version first : Version) (line : List ℕ) (texts : List (List ℕ)) (next : Position) → HasForm (class_line first) line texts
+    → (version ≡ version_one → first ≡ version_one) → next ≡ at_reason version
     → IsClassThere version line next
 class_by version first line texts next has fits leads =
     let (name, class, named, is, spelled) = class_texts first line texts has in
     record { name = name; class = class; named = named; fits = λ one. is ∙ fits one; spelled = spelled; leads = leads }
 
-class_there : (version : Version) (form : LineForm) (line : List ℕ) (texts : List (List ℕ)) (next : Position) → HasForm form line texts → follows (at_class version) form ≡ to next → IsClassThere version line next
+class_there : (version : Version) (form : LineForm) (line : List ℕ) (texts : List (List ℕ)) (next : Position) → HasForm form line texts
+    → follows (at_class version) form ≡ to next → IsClassThere version line next
 class_there version (class_line version_one) line texts next has leads = class_by version version_one line texts next has (λ e. refl) cc
 class_there version_one (class_line version_two) line texts next has leads = absurd cc
 class_there version_two (class_line version_two) line texts next has leads = class_by version_two version_two line texts next has (λ e. let both : version_two ≡ version_one = e in absurd cc) cc
@@ -353,7 +358,8 @@ no_marking true first = let both : version_two ≡ version_one = first in absurd
 no_marking false first = refl
 
 -- the version of a text has what its claim asks
-pub claim_fits : (version : Version) (claim : Claim) → IsClassIn version claim.class → (version ≡ version_one → list_any splits_start (reason_nodes claim.reason) ≡ false) → version ≡ version_one → asks_two claim ≡ false
+pub claim_fits : (version : Version) (claim : Claim) → IsClassIn version claim.class
+    → (version ≡ version_one → list_any splits_start (reason_nodes claim.reason) ≡ false) → version ≡ version_one → asks_two claim ≡ false
 claim_fits version claim class reason one = ap₂ ◌||◌ (no_marking (is_some claim.class.marking) (class one)) (reason one)
 
 -- the claim of a whole text
@@ -380,7 +386,8 @@ from_head lts version name class line lines bytes named fits is (next, leads, mo
       },
     )
 
-from_class : (lts : System) (version : Version) (line : List ℕ) (lines : List (List ℕ)) (bytes : List ℕ) → bytes ≡ fed (spaced (heading version) ∷ line ∷ lines) → LinesLead lts (at_class version) (line ∷ lines) at_end
+from_class : (lts : System) (version : Version) (line : List ℕ) (lines : List (List ℕ)) (bytes : List ℕ)
+    → bytes ≡ fed (spaced (heading version) ∷ line ∷ lines) → LinesLead lts (at_class version) (line ∷ lines) at_end
     → (claim : Claim) × Spells bytes lts claim
 from_class lts version line [] bytes is (next, leads, same) =
     let class = class_there version leads.form line leads.texts next leads.has leads.leads in
@@ -427,19 +434,67 @@ next_or_fault lts position text n going = by (cut_or_not 10 text)
     leads_on cut f asked (to next) leads (inr out) names =
         inr (NumberPasses n, (refl, (f, fields cut.line, begins_with position text cut.line cut.rest f (fields cut.line) cut.cut refl asked (λ e. let both = sym leads ∙ e in absurd cc), out)))
     leads_on cut f asked (to next) leads (inl within) (inr unknown) =
-        inr (UnknownName n, (refl, (f, fields cut.line, begins_with position text cut.line cut.rest f (fields cut.line) cut.cut refl asked (λ e. let both = sym leads ∙ e in absurd cc), (within, unknown))))
+        inr (
+          UnknownName n,
+          (
+            refl,
+            (
+              f,
+              fields cut.line,
+              begins_with position text cut.line cut.rest f (fields cut.line) cut.cut refl asked
+                  (λ e. let both = sym leads ∙ e in absurd cc),
+              (within, unknown),
+            ),
+          ),
+        )
     leads_on cut f asked (to next) leads (inl within) (inl known) =
-        inl (cut.line, next, cut.rest, cut.cut, record { form = f; texts = fields cut.line; has = record { fields = asked; spelled = from_fields cut.line (fields cut.line) refl }; right = (within, known); leads = leads })
+        inl (
+          cut.line,
+          next,
+          cut.rest,
+          cut.cut,
+          record {
+            form = f;
+            texts = fields cut.line;
+            has = record { fields = asked; spelled = from_fields cut.line (fields cut.line) refl };
+            right = (within, known);
+            leads = leads;
+          },
+        )
     leads_on cut f asked short leads (inr out) names =
         inr (NumberPasses n, (refl, (f, fields cut.line, begins_with position text cut.line cut.rest f (fields cut.line) cut.cut refl asked (λ e. let both = sym leads ∙ e in absurd cc), out)))
     leads_on cut f asked short leads (inl within) (inr unknown) =
-        inr (UnknownName n, (refl, (f, fields cut.line, begins_with position text cut.line cut.rest f (fields cut.line) cut.cut refl asked (λ e. let both = sym leads ∙ e in absurd cc), (within, unknown))))
+        inr (
+          UnknownName n,
+          (
+            refl,
+            (
+              f,
+              fields cut.line,
+              begins_with position text cut.line cut.rest f (fields cut.line) cut.cut refl asked
+                  (λ e. let both = sym leads ∙ e in absurd cc),
+              (within, unknown),
+            ),
+          ),
+        )
     leads_on cut f asked short leads (inl within) (inl known) =
         inr (TreeShort, (f, fields cut.line, begins_with position text cut.line cut.rest f (fields cut.line) cut.cut refl asked (λ e. let both = sym leads ∙ e in absurd cc), ((within, known), leads)))
     leads_on cut f asked long leads (inr out) names =
         inr (NumberPasses n, (refl, (f, fields cut.line, begins_with position text cut.line cut.rest f (fields cut.line) cut.cut refl asked (λ e. let both = sym leads ∙ e in absurd cc), out)))
     leads_on cut f asked long leads (inl within) (inr unknown) =
-        inr (UnknownName n, (refl, (f, fields cut.line, begins_with position text cut.line cut.rest f (fields cut.line) cut.cut refl asked (λ e. let both = sym leads ∙ e in absurd cc), (within, unknown))))
+        inr (
+          UnknownName n,
+          (
+            refl,
+            (
+              f,
+              fields cut.line,
+              begins_with position text cut.line cut.rest f (fields cut.line) cut.cut refl asked
+                  (λ e. let both = sym leads ∙ e in absurd cc),
+              (within, unknown),
+            ),
+          ),
+        )
     leads_on cut f asked long leads (inl within) (inl known) =
         inr (TreeLong, (f, fields cut.line, begins_with position text cut.line cut.rest f (fields cut.line) cut.cut refl asked (λ e. let both = sym leads ∙ e in absurd cc), ((within, known), leads)))
 

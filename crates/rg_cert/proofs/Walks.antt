@@ -6,10 +6,7 @@ use Rattle.rg_cert.specs.declared.fault.CertFault.{CertFault}
 use Rattle.rg_cert.specs.Lines.{LineForm, Position}
 use Rattle.rg_cert.specs.Faults.{LineLeads, LinesLead, TextGoesOn, IsFaultAt, FaultFrom}
 use Rattle.rg_cert.specs.Drafts.{IsNextLine}
-
-pub fed_append : (xs ys : List (List ℕ)) → fed (xs ++ ys) ≡ fed xs ++ fed ys
-fed_append [] ys = refl
-fed_append (x ∷ xs) ys = ap (λ l. x ++ 10 ∷ l) (fed_append xs ys) ∙ sym (append_assoc x (10 ∷ fed xs) (fed ys))
+use Rattle.rg_text.proofs.Grown.{fed-append as fed_append}
 
 pub fed_more : (before : List (List ℕ)) (line rest : List ℕ) → fed (before ++ line ∷ []) ++ rest ≡ fed before ++ (line ++ 10 ∷ rest)
 fed_more before line rest =
@@ -28,7 +25,8 @@ next_leads : (lts : System) (position : Position) (text : List ℕ) (form : Line
 next_leads lts position text form texts next rest is = record { form = form; texts = texts; has = is.has; right = is.right; leads = is.leads }
 
 -- one line more
-pub goes_more : (lts : System) (from : Position) (text : List ℕ) (before : List (List ℕ)) (position : Position) (rest : List ℕ) (form : LineForm) (texts : List (List ℕ)) (next : Position) (after : List ℕ)
+pub goes_more : (lts : System) (from : Position) (text : List ℕ) (before : List (List ℕ)) (position : Position) (rest : List ℕ) (form : LineForm)
+    (texts : List (List ℕ)) (next : Position) (after : List ℕ)
     → TextGoesOn lts from text before position rest → (is : IsNextLine lts position rest form texts next after) → TextGoesOn lts from text (before ++ is.line ∷ []) next after
 goes_more lts from text before position rest form texts next after on is = record {
   cut = on.cut ∙ ap (λ l. fed before ++ l) is.cut ∙ sym (fed_more before is.line after);

@@ -37,7 +37,8 @@ all_in_range lts version (case ∷ cases) each =
     All-cons (IsTreeOf lts) (case_tree case) (map case_tree cases) (nodes_in_range lts version (nodes_of case) (All-head (IsCase lts version) (nodes_of case) (map nodes_of cases) each))
     (all_in_range lts version cases (All-tail (IsCase lts version) (nodes_of case) (map nodes_of cases) each))
 
-all_same : (lts : System) (version : Version) (cases : List Case) → All (IsCase lts version) (map nodes_of cases) → flat_map (case_lines lts) (map case_tree cases) ≡ flat_map (nodes_lines lts) (map nodes_of cases)
+all_same : (lts : System) (version : Version) (cases : List Case) → All (IsCase lts version) (map nodes_of cases)
+    → flat_map (case_lines lts) (map case_tree cases) ≡ flat_map (nodes_lines lts) (map nodes_of cases)
 all_same lts version [] each = refl
 all_same lts version (case ∷ cases) each =
     ap₂ ◌++◌ (same_case lts version (nodes_of case) (All-head (IsCase lts version) (nodes_of case) (map nodes_of cases) each))
@@ -76,7 +77,8 @@ reason_nodes_are (Fork s t s₁ s₂) whole = refl
 reason_nodes_are (Event s t case) whole = ap (λ l. l ++ []) whole
 reason_nodes_are (States s s' cases) whole = all_nodes cases.items whole
 
-none_splits : (lts : System) (version : Version) (cases : List (List TreeNode)) → All (IsCase lts version) cases → version ≡ version_one → list_any splits_start (flat_map (λ nodes. nodes) cases) ≡ false
+none_splits : (lts : System) (version : Version) (cases : List (List TreeNode)) → All (IsCase lts version) cases → version ≡ version_one
+    → list_any splits_start (flat_map (λ nodes. nodes) cases) ≡ false
 none_splits lts version [] each one = refl
 none_splits lts version (nodes ∷ cases) each one =
     let first = All-head (IsCase lts version) nodes cases each in
@@ -85,6 +87,7 @@ none_splits lts version (nodes ∷ cases) each one =
     (none_splits lts version cases (All-tail (IsCase lts version) nodes cases each) one)
 
 -- no node splits on the start, where the version is the first
-pub reason_fits : (lts : System) (version : Version) (reason : Reason) → All (IsCase lts version) (reason_cases reason) → version ≡ version_one → list_any splits_start (reason_nodes (reason_of reason)) ≡ false
+pub reason_fits : (lts : System) (version : Version) (reason : Reason) → All (IsCase lts version) (reason_cases reason) → version ≡ version_one
+    → list_any splits_start (reason_nodes (reason_of reason)) ≡ false
 reason_fits lts version reason each one =
     ap (list_any splits_start) (sym (reason_nodes_are reason (whole_cases lts version reason each))) ∙ none_splits lts version (reason_cases reason) each one

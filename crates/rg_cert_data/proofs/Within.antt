@@ -44,7 +44,9 @@ module _ (lts : System) (start : lts.initial < states lts) where
       v : Variable
       v = form_variable lts.initial s.form
 
-      go : (b : Bool) → All Within (if◌then◌else◌ {A = Expression} b (sum_of (plus v ∷ []) (neg_ℤ (pos (step_of class s.form) *ℤ s.at) -ℤ pos (step_of class s.form))) (sum_of (minus v ∷ []) (pos (step_of class s.form) *ℤ s.at))).terms
+      go : (b : Bool) → All Within (if◌then◌else◌ {A = Expression} b
+          (sum_of (plus v ∷ []) (neg_ℤ (pos (step_of class s.form) *ℤ s.at) -ℤ pos (step_of class s.form)))
+          (sum_of (minus v ∷ []) (pos (step_of class s.form) *ℤ s.at))).terms
       go true = one (plus v) (form_within s.form p).0
       go false = one (minus v) (form_within s.form p).1
 
@@ -103,6 +105,7 @@ module _ (lts : System) (start : lts.initial < states lts) where
     state_within s s' order a b (row_name.Makes u) p = shared_within (row_name.Makes u) p
     state_within s s' order a b (row_name.Above d) p = shared_within (row_name.Above d) p
 
-    pub row_within : (problem : Problem) (number : ℕ) → IsSeparationProblem lts problem → (name : RowName) → IsRowNameOf lts name → All Within (row_expression lts class problem number above name).terms
+    pub row_within : (problem : Problem) (number : ℕ) → IsSeparationProblem lts problem → (name : RowName) → IsRowNameOf lts name
+        → All Within (row_expression lts class problem number above name).terms
     row_within (Event s t) number asked = event_within s t asked.0 asked.1
     row_within (States s s') number asked = state_within s s' (order_of lts class number) asked.0 asked.1

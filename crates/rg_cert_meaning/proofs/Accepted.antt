@@ -33,7 +33,8 @@ pub no_sides : (class : Class) (initial : ℕ) (p : Place) (m : ℕ → ℕ) →
 no_sides class initial p m d side e = absurd (none-some side e)
 
 -- the tree of a case refutes
-tree_of : (lts : System) (class : Class) (problem : Problem) (trees : List Tree) → IsRefuted lts class problem trees → (number : ℕ) → number < cases_of lts class problem → (tree : Tree) × TreeRefutes lts class problem number [] tree
+tree_of : (lts : System) (class : Class) (problem : Problem) (trees : List Tree) → IsRefuted lts class problem trees → (number : ℕ)
+    → number < cases_of lts class problem → (tree : Tree) × TreeRefutes lts class problem number [] tree
 tree_of lts class problem trees given number lt =
     let (tree, e) = slice_get_some trees number (subst (λ n. number < n) (sym given.cases) lt) in
     (tree, given.each number tree e)
@@ -46,7 +47,8 @@ event_inseparable lts class s t trees given p m r less =
     [] (no_sides class lts.initial p m) tree refutes
 
 -- one label alone takes from the place
-consumer : (lts : System) (class : Class) (p : Place) (m : ℕ → ℕ) → RegionIn lts class p m → IsTrue class.nonbranching → 0 < labels lts → (c : ℕ) × (c < labels lts) × ((t : ℕ) → t < labels lts → t ≢ c → pre_weight p t ≡ 0)
+consumer : (lts : System) (class : Class) (p : Place) (m : ℕ → ℕ) → RegionIn lts class p m → IsTrue class.nonbranching → 0 < labels lts
+    → (c : ℕ) × (c < labels lts) × ((t : ℕ) → t < labels lts → t ≢ c → pre_weight p t ≡ 0)
 consumer lts class p m r nonbranching some =
     ⊎_elim
     (λ (c, lt, takes). (c, lt, λ t lt' differ. none_from (pre_weight p t) (λ h. differ (r.allowed.weights.nonbranching nonbranching t c lt' lt h takes))))
@@ -67,7 +69,8 @@ state_case lts class s s' p m r differ some = go class.nonbranching refl
     below_two (suc zero) n c lt lt' = omega arith
     below_two (suc (suc o)) n c lt lt' = absurd (omega arith)
 
-    go : (b : Bool) → class.nonbranching ≡ b → (number : ℕ) × (number < cases_of lts class (States s s')) × IsInOrder m s s' (order_of lts class number) × (IsTrue class.nonbranching → (t : ℕ) → t < labels lts → t ≢ consumer_of lts number → pre_weight p t ≡ 0)
+    go : (b : Bool) → class.nonbranching ≡ b → (number : ℕ) × (number < cases_of lts class (States s s'))
+        × IsInOrder m s s' (order_of lts class number) × (IsTrue class.nonbranching → (t : ℕ) → t < labels lts → t ≢ consumer_of lts number → pre_weight p t ≡ 0)
     go false e =
         let (order, lt, less) = in_order m s s' differ in (
           order,

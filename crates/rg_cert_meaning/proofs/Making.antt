@@ -40,7 +40,8 @@ pub record Suits (lts : System) (class : Class) (tokens : ℕ → ℕ) (pre post
   pub bounded : IfSome class.bound (λ k. (s : ℕ) → s < states lts → tokens s ≤ k)
   pub start : AllowsStart class (tokens lts.initial)
 
-pub suited_region : (lts : System) (class : Class) (tokens pre post : ℕ → ℕ) → IsInRange lts → Suits lts class tokens pre post → RegionIn lts class (place_by (tokens lts.initial) pre post (labels lts)) tokens
+pub suited_region : (lts : System) (class : Class) (tokens pre post : ℕ → ℕ) → IsInRange lts → Suits lts class tokens pre post
+    → RegionIn lts class (place_by (tokens lts.initial) pre post (labels lts)) tokens
 suited_region lts class tokens pre post fine suits =
     record {
       region = record {
@@ -108,11 +109,13 @@ makes_none : (e : ℤ) → pos 0 ≤ℤ (((pos 1 *ℤ e) +ℤ pos 0) +ℤ pos 0)
 makes_none (pos n) h = refl
 makes_none (negsuc n) h = omega (arith, ints)
 
-pub within_bound : (o : Option ℕ) (tokens : ℕ → ℕ) (n : ℕ) → ((s : ℕ) → s < n → IsSome o → pos 0 ≤ℤ (((negsuc 0 *ℤ pos (tokens s)) +ℤ pos 0) +ℤ pos (unwrap_or o 0))) → IfSome o (λ k. (s : ℕ) → s < n → tokens s ≤ k)
+pub within_bound : (o : Option ℕ) (tokens : ℕ → ℕ) (n : ℕ)
+    → ((s : ℕ) → s < n → IsSome o → pos 0 ≤ℤ (((negsuc 0 *ℤ pos (tokens s)) +ℤ pos 0) +ℤ pos (unwrap_or o 0))) → IfSome o (λ k. (s : ℕ) → s < n → tokens s ≤ k)
 within_bound None tokens n row = tt
 within_bound (Some k) tokens n row = λ s lt. (let h = row s lt refl in omega (arith, ints))
 
-pub event_facts : (lts : System) (class : Class) (s t number : ℕ) (tokens : ℕ → ℕ) (effect : ℕ → ℤ) → KeepsRows lts class (Event s t) number (numbers_by tokens effect) → Facts lts class tokens effect t
+pub event_facts : (lts : System) (class : Class) (s t number : ℕ) (tokens : ℕ → ℕ) (effect : ℕ → ℤ)
+    → KeepsRows lts class (Event s t) number (numbers_by tokens effect) → Facts lts class tokens effect t
 event_facts lts class s t number tokens effect keeps =
     record {
       arcs = λ q u q' has. keeps (row_name.Arc (arc q u q')) has;
@@ -122,7 +125,8 @@ event_facts lts class s t number tokens effect keeps =
       bounded = within_bound class.bound tokens (states lts) (λ q lt some. keeps (row_name.Cap q) (lt, some));
     }
 
-pub state_facts : (lts : System) (class : Class) (s s' number : ℕ) (tokens : ℕ → ℕ) (effect : ℕ → ℤ) → KeepsRows lts class (States s s') number (numbers_by tokens effect) → Facts lts class tokens effect (consumer_of lts number)
+pub state_facts : (lts : System) (class : Class) (s s' number : ℕ) (tokens : ℕ → ℕ) (effect : ℕ → ℤ)
+    → KeepsRows lts class (States s s') number (numbers_by tokens effect) → Facts lts class tokens effect (consumer_of lts number)
 state_facts lts class s s' number tokens effect keeps =
     record {
       arcs = λ q u q' has. keeps (row_name.Arc (arc q u q')) has;
@@ -137,14 +141,17 @@ pub only_one : (consumer : ℕ) (pre : ℕ → ℕ) (n : ℕ) → ((t : ℕ) →
 only_one consumer pre n none t lt takes = ⊎_elim (λ is. is) (λ differ. absurd (let zero_here = none t lt differ in omega arith)) (cases_eq t consumer)
 
 -- each label takes what its effect takes, and puts what its effect puts
-pub effect_suits : (lts : System) (class : Class) (tokens : ℕ → ℕ) (effect : ℕ → ℤ) (consumer : ℕ) → Facts lts class tokens effect consumer → AllowsStart class (tokens lts.initial) → Suits lts class tokens (λ t. down (effect t)) (λ t. up (effect t))
+pub effect_suits : (lts : System) (class : Class) (tokens : ℕ → ℕ) (effect : ℕ → ℤ) (consumer : ℕ) → Facts lts class tokens effect consumer
+    → AllowsStart class (tokens lts.initial) → Suits lts class tokens (λ t. down (effect t)) (λ t. up (effect t))
 effect_suits lts class tokens effect consumer facts start =
     record {
       enabled = λ q t q' has. below (effect t) (tokens q) (tokens q') (facts.arcs q t q' has);
-      moved = λ q t q' has. (let h = along (effect t) (tokens q) (tokens q') (down (effect t)) (facts.arcs q t q' has) (below (effect t) (tokens q) (tokens q') (facts.arcs q t q' has)) (omega arith) in omega arith);
+      moved = λ q t q' has. (let h = along (effect t) (tokens q) (tokens q') (down (effect t)) (facts.arcs q t q' has)
+          (below (effect t) (tokens q) (tokens q') (facts.arcs q t q' has)) (omega arith) in omega arith);
       pure = λ c t lt. not_both (effect t);
       plain = λ c t lt. (facts.down_small c t lt, facts.up_small c t lt);
-      nonbranching = λ c t t' lt lt' h h'. only_one consumer (λ t. down (effect t)) (labels lts) (facts.only c) t lt h ∙ sym (only_one consumer (λ t. down (effect t)) (labels lts) (facts.only c) t' lt' h');
+      nonbranching = λ c t t' lt lt' h h'. only_one consumer (λ t. down (effect t)) (labels lts) (facts.only c) t lt h
+          ∙ sym (only_one consumer (λ t. down (effect t)) (labels lts) (facts.only c) t' lt' h');
       bounded = facts.bounded;
       start = start;
     }
@@ -207,7 +214,8 @@ stopping_suits lts class tokens effect t n facts start impure more enough plain 
     takes_same u is = subst (λ v. at_label t n (λ u. down (effect u)) v ≡ n) (sym is) (at_label_same t n (λ u. down (effect u)))
 
     gives_same : (u : ℕ) → u ≡ t → at_label t (n + up (effect t) - down (effect t)) (λ u. up (effect u)) u ≡ n + up (effect t) - down (effect t)
-    gives_same u is = subst (λ v. at_label t (n + up (effect t) - down (effect t)) (λ u. up (effect u)) v ≡ n + up (effect t) - down (effect t)) (sym is) (at_label_same t (n + up (effect t) - down (effect t)) (λ u. up (effect u)))
+    gives_same u is = subst (λ v. at_label t (n + up (effect t) - down (effect t)) (λ u. up (effect u)) v ≡ n + up (effect t) - down (effect t))
+        (sym is) (at_label_same t (n + up (effect t) - down (effect t)) (λ u. up (effect u)))
 
     takes_alone : IsTrue class.nonbranching → (u : ℕ) → u < labels lts → 0 < at_label t n (λ u. down (effect u)) u → u ≡ t
     takes_alone c u lt h = only_one t (at_label t n (λ u. down (effect u))) (labels lts) (λ v lt' differ. at_label_other t n (λ u. down (effect u)) v differ ∙ facts.only c v lt' differ) u lt h
@@ -277,9 +285,18 @@ state_place lts class s s' number tokens effect fine start keeps =
     )
 
 -- a region of the class that separates keeps the rows of some case, and numbers that keep them make one
-pub rows_exact : (lts : System) (class : Class) (problem : Problem) → IsInRange lts → IsSeparationProblem lts problem → 0 < cases_of lts class problem → IsSeparable lts class problem ↔ HasWholeSolution lts class problem
+pub rows_exact : (lts : System) (class : Class) (problem : Problem) → IsInRange lts → IsSeparationProblem lts problem
+    → 0 < cases_of lts class problem → IsSeparable lts class problem ↔ HasWholeSolution lts class problem
 rows_exact lts class (Event s t) fine asked some = (
-  (λ (p, m, r, less). (0, omega arith, m, (λ u. pos (post_weight p u) -ℤ pos (pre_weight p u)), region_starts lts class p m r, event_says lts class p m s t [] r asked.1 less (no_sides class lts.initial p m))),
+  (λ (p, m, r, less). (
+    0,
+    omega arith,
+    m,
+    (λ u. pos (post_weight p u) -ℤ pos (pre_weight p u)),
+    region_starts lts class p m r,
+    event_says lts class p
+        m s t [] r asked.1 less (no_sides class lts.initial p m),
+  )),
   (λ (number, lt, tokens, effect, start, keeps). (let (p, r, less) = event_place lts class s t number tokens effect fine asked.1 start keeps in (p, tokens, r, less))),
 )
 rows_exact lts class (States s s') fine asked some = (

@@ -44,11 +44,13 @@ high_says y p s h = omega (arith, ints)
 low_says : (y p : ℤ) → y ≤ℤ p → pos 0 ≤ℤ (((negsuc 0 *ℤ y) +ℤ pos 0) +ℤ p)
 low_says y p h = omega (arith, ints)
 
-side_says : (class : Class) (initial : ℕ) (x : Variable → ℤ) (o : Option Side) → SideStands class o → ((side : Side) → o ≡ Some side → IsOnSide class initial x side) → pos 0 ≤ℤ value_of x (side_expression class initial o)
+side_says : (class : Class) (initial : ℕ) (x : Variable → ℤ) (o : Option Side) → SideStands class o
+    → ((side : Side) → o ≡ Some side → IsOnSide class initial x side) → pos 0 ≤ℤ value_of x (side_expression class initial o)
 side_says class initial x None stands on = absurd stands
 side_says class initial x (Some side) stands on = by side.high (on side refl)
   where
-    by : (high : Bool) → MatchBool high (((pos (step_of class side.form) *ℤ side.at) +ℤ pos (step_of class side.form)) ≤ℤ x (form_variable initial side.form)) (x (form_variable initial side.form) ≤ℤ (pos (step_of class side.form) *ℤ side.at))
+    by : (high : Bool) → MatchBool high (((pos (step_of class side.form) *ℤ side.at) +ℤ pos (step_of class side.form))
+        ≤ℤ x (form_variable initial side.form)) (x (form_variable initial side.form) ≤ℤ (pos (step_of class side.form) *ℤ side.at))
         → pos 0 ≤ℤ value_of x (side_expression class initial (Some (record side { high = high })))
     by true h = high_says (x (form_variable initial side.form)) (pos (step_of class side.form) *ℤ side.at) (pos (step_of class side.form)) h
     by false h = low_says (x (form_variable initial side.form)) (pos (step_of class side.form) *ℤ side.at) h
@@ -88,7 +90,8 @@ pub region_starts : (lts : System) (class : Class) (p : Place) (m : ℕ → ℕ)
 region_starts lts class p m r = subst (AllowsStart class) (sym r.region.start) r.allowed.weights.marking
 
 -- a form that a split may be on is worth whole steps in a region of the class
-pub region_steps : (lts : System) (class : Class) (p : Place) (m : ℕ → ℕ) → RegionIn lts class p m → (form : Form) → FormStands class form → (w : ℤ) × (numbers_of p m (form_variable lts.initial form) ≡ pos (step_of class form) *ℤ w)
+pub region_steps : (lts : System) (class : Class) (p : Place) (m : ℕ → ℕ) → RegionIn lts class p m → (form : Form) → FormStands class form
+    → (w : ℤ) × (numbers_of p m (form_variable lts.initial form) ≡ pos (step_of class form) *ℤ w)
 region_steps lts class p m r (split_form.Tokens q) stands = (pos (m q), omega (arith, ints))
 region_steps lts class p m r (split_form.Effect t) stands = (pos (post_weight p t) -ℤ pos (pre_weight p t), omega (arith, ints))
 region_steps lts class p m r split_form.Start stands = start_steps class.marking (m lts.initial) stands (region_starts lts class p m r)

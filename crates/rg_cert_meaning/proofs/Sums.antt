@@ -46,7 +46,8 @@ value_in-split x v (t ∷ ts) = go (same_variable t.variable v) refl (value_in-s
     go false e ih = rw add-mul (omega (arith, ints))
 
 -- without one variable, the coefficient of another stays, and that of it is 0
-coefficient_in-without : (v w : Variable) (ts : List Term) → (same_variable v w ≡ false → coefficient_in (without v ts) w ≡ coefficient_in ts w) × (same_variable v w ≡ true → coefficient_in (without v ts) w ≡ pos 0)
+coefficient_in-without : (v w : Variable) (ts : List Term)
+    → (same_variable v w ≡ false → coefficient_in (without v ts) w ≡ coefficient_in ts w) × (same_variable v w ≡ true → coefficient_in (without v ts) w ≡ pos 0)
 coefficient_in-without v w [] = ((λ e. refl), (λ e. refl))
 coefficient_in-without v w (t ∷ ts) = (
   (λ e. apart (same_variable t.variable v) refl e ((coefficient_in-without v w ts).0 e)),
@@ -70,7 +71,8 @@ cancelled x n [] short none = refl
 cancelled x zero (t ∷ ts) short none = absurd (omega arith)
 cancelled x (suc n) (t ∷ ts) short none =
     let v = t.variable in
-    let shorter : length (without v (t ∷ ts)) ≤ n = subst (λ b. length (if b then without v ts else (t ∷ without v ts)) ≤ n) (sym (same_variable_refl v)) (le_trans (length-without v ts) (le_of_suc-le-suc short)) in
+    let shorter : length (without v (t ∷ ts)) ≤ n =
+    subst (λ b. length (if b then without v ts else (t ∷ without v ts)) ≤ n) (sym (same_variable_refl v)) (le_trans (length-without v ts) (le_of_suc-le-suc short)) in
     let rest : value_in x (without v (t ∷ ts)) ≡ pos 0 = cancelled x n (without v (t ∷ ts)) shorter (λ w. still w (same_variable v w) refl) in
     value_in-split x v (t ∷ ts) ∙ ap₂ (λ a b. (a *ℤ x v) +ℤ b) (none v) rest ∙ zero_times (x v)
   where
@@ -103,18 +105,22 @@ sum_over-gathered f linear expression (r ∷ rows) =
     sum_over-append f (map (times k) terms) (gathered expression rows) ∙ ap₂ ◌+ℤ◌ here (sum_over-gathered f linear expression rows)
 
 coefficient_in-gathered : (expression : RowName → Expression) (rows : List NamedRow) (v : Variable) → coefficient_in (gathered expression rows) v ≡ coefficient_sum expression rows v
-coefficient_in-gathered expression rows v = sum_over-gathered (λ t. if same_variable t.variable v then t.coefficient else pos 0) (λ k t. times_if (same_variable t.variable v) k t.coefficient) expression rows
+coefficient_in-gathered expression rows v = sum_over-gathered (λ t. if same_variable t.variable v then t.coefficient else pos 0)
+    (λ k t. times_if (same_variable t.variable v) k t.coefficient) expression rows
   where
     times_if : (b : Bool) (k c : ℤ) → (if b then k *ℤ c else pos 0) ≡ k *ℤ (if b then c else pos 0)
     times_if true k c = refl
     times_if false k c = omega (arith, ints)
 
 -- rows whose multiplied values are at least 0 don't add up to a negative constant
-pub no_contradiction : (x : Variable → ℤ) (expression : RowName → Expression) (rows : List NamedRow) → All (λ r. pos 0 ≤ℤ (r.multiplier *ℤ value_of x (expression r.name))) rows → ((v : Variable) → coefficient_sum expression rows v ≡ pos 0) → constant_sum expression rows <ℤ pos 0 → ⊥
+pub no_contradiction : (x : Variable → ℤ) (expression : RowName → Expression) (rows : List NamedRow)
+    → All (λ r. pos 0 ≤ℤ (r.multiplier *ℤ value_of x (expression r.name))) rows → ((v : Variable) → coefficient_sum expression rows v ≡ pos 0)
+    → constant_sum expression rows <ℤ pos 0 → ⊥
 no_contradiction x expression rows each cancels negative =
     let sum = sum_over-not_negative (λ r. r.multiplier *ℤ value_of x (expression r.name)) rows each in
     let is : sum_over (λ r. r.multiplier *ℤ value_of x (expression r.name)) rows ≡ sum_over (λ r. r.multiplier *ℤ value_in x (expression r.name).terms) rows +ℤ constant_sum expression rows =
     sum_over-same _ _ rows (λ r has. mul-add r.multiplier (value_in x (expression r.name).terms) (expression r.name).constant) ∙ sum_over-plus _ _ rows in
     let all = sum_over-gathered (λ t. t.coefficient *ℤ x t.variable) (λ k t. mul_assoc k t.coefficient (x t.variable)) expression rows in
-    let none : value_in x (gathered expression rows) ≡ pos 0 = cancelled x (length (gathered expression rows)) (gathered expression rows) (le_refl _) (λ v. coefficient_in-gathered expression rows v ∙ cancels v) in
+    let none : value_in x (gathered expression rows) ≡ pos 0 =
+    cancelled x (length (gathered expression rows)) (gathered expression rows) (le_refl _) (λ v. coefficient_in-gathered expression rows v ∙ cancels v) in
     omega (arith, ints)

@@ -16,7 +16,8 @@ use Rattle.rg_cert_meaning.proofs.Rows.{Says-times, IsOnSide, steps_most, steps_
 abbrev pub AreOnSides : Class → ℕ → (Variable → ℤ) → List Side → Type 0
 AreOnSides class initial x above = (d : ℕ) (side : Side) → slice_get above d ≡ Some side → IsOnSide class initial x side
 
-one_more : (class : Class) (initial : ℕ) (x : Variable → ℤ) (above : List Side) (side : Side) → AreOnSides class initial x above → IsOnSide class initial x side → AreOnSides class initial x (above ++ side ∷ [])
+one_more : (class : Class) (initial : ℕ) (x : Variable → ℤ) (above : List Side) (side : Side) → AreOnSides class initial x above
+    → IsOnSide class initial x side → AreOnSides class initial x (above ++ side ∷ [])
 one_more class initial x [] side on here zero other e = subst (IsOnSide class initial x) (same_Some side other e) here
 one_more class initial x [] side on here (suc d) other e = absurd (none-some other e)
 one_more class initial x (a ∷ above) side on here zero other e = on zero other e

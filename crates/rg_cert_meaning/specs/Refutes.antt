@@ -77,7 +77,8 @@ IsSeparable lts class problem = (p : Place) × (m : ℕ → ℕ) × RegionIn lts
 
 -- whole numbers, the tokens at least 0 and at the start such as the class allows, keep all rows of some case
 abbrev pub HasWholeSolution : System → Class → Problem → Type 0
-HasWholeSolution lts class problem = (number : ℕ) × (number < cases_of lts class problem) × (tokens : ℕ → ℕ) × (effect : ℕ → ℤ) × AllowsStart class (tokens lts.initial) × KeepsRows lts class problem number (numbers_by tokens effect)
+HasWholeSolution lts class problem = (number : ℕ) × (number < cases_of lts class problem) × (tokens : ℕ → ℕ) × (effect : ℕ → ℤ)
+    × AllowsStart class (tokens lts.initial) × KeepsRows lts class problem number (numbers_by tokens effect)
 
 -- one tree for each case of the problem, and each of them refutes
 pub record IsRefuted (lts : System) (class : Class) (problem : Problem) (trees : List Tree) : Type 0 where

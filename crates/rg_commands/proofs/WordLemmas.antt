@@ -1,5 +1,5 @@
 -- From clap's clauses to those of this crate.
-use Rattle.std.proofs.Common.{◌≡◌, List, [], ◌∷◌, Bool, true, false, ◌&&◌, Err, refl}
+use Rattle.std.proofs.Common.{◌≡◌, List, [], ◌∷◌, true, Err, refl}
 use Rattle.clap.specs.Words.{App, Kinds, Row, IsAmong, is_simple, is_simple_and_free}
 use Rattle.clap.specs.declared.error.kind.ErrorKind.{ErrorKind}
 use Rattle.rg_commands.specs.declared.table.Command.{Command}
@@ -10,10 +10,7 @@ use Rattle.rg_commands.specs.Table.{app_for}
 use Rattle.rg_commands.specs.declared.usage.WordsStop.{WordsStop}
 use Rattle.rg_commands.specs.declared.usage.WordsStop.TheVariants as stop
 use Rattle.rg_commands.specs.Says.{if_no_fault, IsStopOf}
-
-first_so : (a b : Bool) → (a && b) ≡ true → a ≡ true
-first_so true b e = refl
-first_so false b e = absurd cc
+use Rattle.rg_theory.proofs.ClassTold.{and_left as first_so}
 
 pub simple_of : (app : App) → is_simple_and_free app ≡ true → is_simple app ≡ true
 simple_of app e = first_so (is_simple app) _ e

@@ -19,12 +19,6 @@ use Rattle.rg_folds.proofs.Folding.{whole_is}
 pub zero_of_bits : (z : ℤ) → InRange z → cast_unsigned w128 z ≡ 0 → z ≡ pos 0
 zero_of_bits z h e = sym (back z h) ∙ ap (cast_signed w128) e
 
-pub count_passed_over : (n d count : ℤ) (sum : Fraction) → InRange count → cast_unsigned w128 count ≡ 0 → d ≢ pos 0 → InRange n → InRange d
-    → and_then (and_then (quotient n d) (mul (whole count))) (add (ratio_of sum)) (Ok (ratio_of sum))
-count_passed_over n d count sum h e ne hn hd =
-    subst (λ z. and_then (and_then (quotient n d) (mul (whole z))) (add (ratio_of sum)) (Ok (ratio_of sum))) (sym (zero_of_bits count h e))
-    (whole (pos 0), count_adds_nothing n d ne hn hd, plus_zero (ratio_of sum) (fraction_within sum))
-
 pub entry_passed_over : (n d count : ℤ) (sum : Fraction) → InRange n → cast_unsigned w128 n ≡ 0 → d ≢ pos 0 → InRange count
     → and_then (and_then (quotient n d) (mul (whole count))) (add (ratio_of sum)) (Ok (ratio_of sum))
 entry_passed_over n d count sum h e ne hc =

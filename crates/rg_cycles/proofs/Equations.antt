@@ -1,12 +1,11 @@
 -- What a basis of vectors says of the values of the columns.
-use Rattle.std.proofs.lemmas.Bool.{false≢true}
+use Rattle.std.proofs.lemmas.Bool.{false≢true, cases_lt}
 use Rattle.std.proofs.lemmas.List.Elements.{Contains-get_or}
 use Rattle.std.proofs.Common.{◌≡◌, ◌⊎◌, ⊎_elim, ◌↔◌, ℕ, ◌+◌, ◌-◌, ◌<◌, ◌≤◌, Bool, true, false, not, ◌&&◌, nat_lt, List, [], filter, length, Contains, inl, inr, ap, ap₂, refl, subst, sym, ◌∙◌, arith, Result, Err}
 use Rattle.std.specs.Prelude.{ℤ, pos, ◌+ℤ◌, ◌*ℤ◌, ◌<ℤ◌, slice_index}
 use Rattle.std.specs.Ordering.{int_eq}
 use Rattle.std.proofs.Math.IntN.{zero-*ℤ}
 use Rattle.std.proofs.lemmas.Int.{ints}
-use Rattle.std.proofs.lemmas.Bool.{cases_lt}
 use Rattle.std.proofs.lemmas.Bool.Decides.{Decides-int_eq}
 use Rattle.std.proofs.lemmas.List.{get_or-map, get_or_past, get_or_default}
 use Rattle.rg_integers.specs.Sum.{sum_below, sum_over, number_at}
@@ -27,7 +26,8 @@ use Rattle.rg_cycles.specs.Vectors.{vector_sum, AllSumsAreZero}
 use Rattle.rg_cycles.specs.Basis.{vector_numbers}
 use Rattle.rg_cycles.specs.Solutions.{IsDependent, FollowsFree, RelationsHold, AreReduced}
 use Rattle.rg_cycles.specs.Refusal.{PassesAt}
-use Rattle.rg_cycles.proofs.Labels.{in_set, has_member, lacks_member, filter_has, filter_from, filter_order, where_has, where_from, where_order, same_list}
+use Rattle.rg_cycles.proofs.Labels.{in_set, has_member, lacks_member, filter_has, filter_from, filter_order, where_has, where_from, where_order}
+use Rattle.rg_linear.proofs.Counting.{same_members as same_list}
 use Rattle.rg_cycles.proofs.Showing.{vectors_plain, count_rows, kept_below}
 use Rattle.rg_cycles.proofs.Filling.{row}
 
@@ -69,12 +69,16 @@ module _ (labels : ℕ) (vectors : List (List ℤ)) (kept : List ℕ) (v : ℕ �
       below = let c = count_rows labels vectors kept in omega arith
 
   rows_to_sums : KeepsVectors vectors kept → RowsAreZero (vector_system labels vectors kept) (values_of (vector_system labels vectors kept) (pos 1) v) → AllSumsAreZero labels vectors v
-  rows_to_sums keeps zeros c lt = stays (item_stays (vector_at vectors) (λ i. IsZeroVector (vector_at vectors i)) [] (numbers_from 0 (length vectors)) kept c keeps (Contains-numbers_from 0 (length vectors) c (omega arith) (omega arith)))
+  rows_to_sums keeps zeros c lt = stays (item_stays (vector_at vectors) (λ i. IsZeroVector (vector_at vectors i)) []
+      (numbers_from 0 (length vectors)) kept c keeps (Contains-numbers_from 0 (length vectors) c (omega arith) (omega arith)))
     where
       kept_zero : (q : ℕ) → Contains kept q → vector_sum labels v (vector_at vectors q) ≡ pos 0
-      kept_zero q (i, below, e) = ap (λ k. vector_sum labels v (vector_at vectors k)) (sym e ∙ get_or_default kept i q 0 below) ∙ sym (row_of_point i below) ∙ zeros i (let n = count_rows labels vectors kept in omega arith)
+      kept_zero q (i, below, e) = ap (λ k. vector_sum labels v (vector_at vectors k)) (sym e ∙ get_or_default kept i q 0 below)
+          ∙ sym (row_of_point i below) ∙ zeros i (let n = count_rows labels vectors kept in omega arith)
 
-      stays : IsZeroVector (vector_at vectors c) ⊎ (Contains [] (vector_at vectors c) ⊎ ((q : ℕ) × Contains kept q × (vector_at vectors q ≡ vector_at vectors c))) → vector_sum labels v (vector_at vectors c) ≡ pos 0
+      stays : IsZeroVector (vector_at vectors c)
+          ⊎ (Contains [] (vector_at vectors c) ⊎ ((q : ℕ) × Contains kept q × (vector_at vectors q ≡ vector_at vectors c)))
+          → vector_sum labels v (vector_at vectors c) ≡ pos 0
       stays (inl zeros) = zero_sum labels v (vector_at vectors c) zeros
       stays (inr (inl (k, below, e))) = absurd (omega arith)
       stays (inr (inr (q, has, e))) = ap (vector_sum labels v) (sym e) ∙ kept_zero q has
@@ -92,15 +96,19 @@ module _ (labels : ℕ) (members : List ℕ) (k : Relation) (over : (m : ℕ) �
   free_sum : sum_over (λ f. k.coefficient f *ℤ v f) (numbers_where (λ t. is_in members t) 0 labels) ≡ sum_below labels (λ j. k.coefficient j *ℤ v j)
   free_sum = close _ _ _ all others
     where
-      all : sum_over (λ f. k.coefficient f *ℤ v f) (numbers_where (λ t. is_in members t) 0 labels) +ℤ sum_over (λ f. k.coefficient f *ℤ v f) (numbers_where (λ t. not (is_in members t)) 0 labels) ≡ sum_below labels (λ j. k.coefficient j *ℤ v j)
-      all = both_sums (λ t. is_in members t) (λ f. k.coefficient f *ℤ v f) 0 labels ∙ sum_below-same labels (λ j. k.coefficient (0 + j) *ℤ v (0 + j)) (λ j. k.coefficient j *ℤ v j) (λ j lt. ap (λ m. k.coefficient m *ℤ v m) (none_plus j))
+      all : sum_over (λ f. k.coefficient f *ℤ v f) (numbers_where (λ t. is_in members t) 0 labels)
+          +ℤ sum_over (λ f. k.coefficient f *ℤ v f) (numbers_where (λ t. not (is_in members t)) 0 labels) ≡ sum_below labels (λ j. k.coefficient j *ℤ v j)
+      all = both_sums (λ t. is_in members t) (λ f. k.coefficient f *ℤ v f) 0 labels
+          ∙ sum_below-same labels (λ j. k.coefficient (0 + j) *ℤ v (0 + j)) (λ j. k.coefficient j *ℤ v j) (λ j lt. ap (λ m. k.coefficient m *ℤ v m) (none_plus j))
 
       is_false : (b : Bool) → not b ≡ true → b ≡ false
       is_false true p = cc
       is_false false p = refl
 
       others : sum_over (λ f. k.coefficient f *ℤ v f) (numbers_where (λ t. not (is_in members t)) 0 labels) ≡ pos 0
-      others = sum_over-zero (λ f. k.coefficient f *ℤ v f) (numbers_where (λ t. not (is_in members t)) 0 labels) (λ f has. zero_times (k.coefficient f) (v f) (over f (lacks_member members f (is_false (is_in members f) (where_from (λ t. not (is_in members t)) 0 labels f has).passes))))
+      others = sum_over-zero (λ f. k.coefficient f *ℤ v f) (numbers_where (λ t. not (is_in members t)) 0 labels)
+          (λ f has. zero_times (k.coefficient f) (v f)
+          (over f (lacks_member members f (is_false (is_in members f) (where_from (λ t. not (is_in members t)) 0 labels f has).passes))))
 
       close : (x y s : ℤ) → x +ℤ y ≡ s → y ≡ pos 0 → x ≡ s
       close x y s e z = omega (arith, ints)
@@ -112,7 +120,8 @@ module _ (labels : ℕ) (members : List ℕ) (k : Relation) (over : (m : ℕ) �
   vector_sums : (kept : List ℕ) (value : ℕ → ℤ) → IsInOrder members → ((m : ℕ) → Contains members m → m < labels + length kept)
       → sum_over (λ p. p.1 *ℤ value p.0) (vector_numbers labels kept members k) ≡ sum_below (length kept) (λ i. k.coefficient (labels + i) *ℤ value (slice_index kept i))
   vector_sums kept value order within =
-      sum_over-map {X = ℕ} {Y = ℕ × ℤ} (λ p. p.1 *ℤ value p.0) (λ m. (slice_index kept (m - labels), k.coefficient m)) (filter (λ m. not (nat_lt m labels) && not (int_eq (k.coefficient m) (pos 0))) members)
+      sum_over-map {X = ℕ} {Y = ℕ × ℤ} (λ p. p.1 *ℤ value p.0) (λ m. (slice_index kept (m - labels), k.coefficient m))
+      (filter (λ m. not (nat_lt m labels) && not (int_eq (k.coefficient m) (pos 0))) members)
       ∙ ap (sum_over (λ m. k.coefficient m *ℤ value (slice_index kept (m - labels)))) same
       ∙ close _ _ _ all others
     where
@@ -131,19 +140,24 @@ module _ (labels : ℕ) (members : List ℕ) (k : Relation) (over : (m : ℕ) �
       not_label m e = ⊎_elim (λ lt. absurd (false≢true (rw (below_test m labels lt) at e))) (λ le. le) (cases_lt m labels)
 
       same : filter (λ m. not (nat_lt m labels) && not (int_eq (k.coefficient m) (pos 0))) members ≡ numbers_where (λ m. is_in members m && not (int_eq (k.coefficient m) (pos 0))) labels (length kept)
-      same = same_list _ _ (filter_order (λ m. not (nat_lt m labels) && not (int_eq (k.coefficient m) (pos 0))) members order) (where_order (λ m. is_in members m && not (int_eq (k.coefficient m) (pos 0))) labels (length kept)) to back
+      same = same_list _ _ (filter_order (λ m. not (nat_lt m labels) && not (int_eq (k.coefficient m) (pos 0))) members order)
+          (where_order (λ m. is_in members m && not (int_eq (k.coefficient m) (pos 0))) labels (length kept)) to back
         where
-          to : (m : ℕ) → Contains (filter (λ u. not (nat_lt u labels) && not (int_eq (k.coefficient u) (pos 0))) members) m → Contains (numbers_where (λ u. is_in members u && not (int_eq (k.coefficient u) (pos 0))) labels (length kept)) m
+          to : (m : ℕ) → Contains (filter (λ u. not (nat_lt u labels) && not (int_eq (k.coefficient u) (pos 0))) members) m
+              → Contains (numbers_where (λ u. is_in members u && not (int_eq (k.coefficient u) (pos 0))) labels (length kept)) m
           to m has =
               let f = filter_from (λ u. not (nat_lt u labels) && not (int_eq (k.coefficient u) (pos 0))) members m has in
               let b = both_true (not (nat_lt m labels)) (not (int_eq (k.coefficient m) (pos 0))) f.1 in
-              where_has (λ u. is_in members u && not (int_eq (k.coefficient u) (pos 0))) labels (length kept) m (not_label m b.0) (within m f.0) (join_true (is_in members m) (not (int_eq (k.coefficient m) (pos 0))) (in_set members m f.0) b.1)
+              where_has (λ u. is_in members u && not (int_eq (k.coefficient u) (pos 0))) labels (length kept) m (not_label m b.0) (within m f.0)
+              (join_true (is_in members m) (not (int_eq (k.coefficient m) (pos 0))) (in_set members m f.0) b.1)
 
-          back : (m : ℕ) → Contains (numbers_where (λ u. is_in members u && not (int_eq (k.coefficient u) (pos 0))) labels (length kept)) m → Contains (filter (λ u. not (nat_lt u labels) && not (int_eq (k.coefficient u) (pos 0))) members) m
+          back : (m : ℕ) → Contains (numbers_where (λ u. is_in members u && not (int_eq (k.coefficient u) (pos 0))) labels (length kept)) m
+              → Contains (filter (λ u. not (nat_lt u labels) && not (int_eq (k.coefficient u) (pos 0))) members) m
           back m has =
               let w = where_from (λ u. is_in members u && not (int_eq (k.coefficient u) (pos 0))) labels (length kept) m has in
               let b = both_true (is_in members m) (not (int_eq (k.coefficient m) (pos 0))) w.passes in
-              filter_has (λ u. not (nat_lt u labels) && not (int_eq (k.coefficient u) (pos 0))) members m (has_member members m b.0) (join_true (not (nat_lt m labels)) (not (int_eq (k.coefficient m) (pos 0))) (ap not (past_test m labels w.least)) b.1)
+              filter_has (λ u. not (nat_lt u labels) && not (int_eq (k.coefficient u) (pos 0))) members m (has_member members m b.0)
+              (join_true (not (nat_lt m labels)) (not (int_eq (k.coefficient m) (pos 0))) (ap not (past_test m labels w.least)) b.1)
 
       all : sum_over (λ m. k.coefficient m *ℤ value (slice_index kept (m - labels)))
           (numbers_where (λ m. is_in members m && not (int_eq (k.coefficient m) (pos 0))) labels (length kept)) +ℤ sum_over
@@ -165,7 +179,8 @@ module _ (labels : ℕ) (members : List ℕ) (k : Relation) (over : (m : ℕ) �
           go true p true q r = (Decides-int_eq (k.coefficient m) (pos 0)).0 q
           go true p false q r = absurd (false≢true r)
 
-      others : sum_over (λ m. k.coefficient m *ℤ value (slice_index kept (m - labels))) (numbers_where (λ m. not (is_in members m && not (int_eq (k.coefficient m) (pos 0)))) labels (length kept)) ≡ pos 0
+      others : sum_over (λ m. k.coefficient m *ℤ value (slice_index kept (m - labels)))
+          (numbers_where (λ m. not (is_in members m && not (int_eq (k.coefficient m) (pos 0)))) labels (length kept)) ≡ pos 0
       others = sum_over-zero (λ m. k.coefficient m *ℤ value (slice_index kept (m - labels)))
           (numbers_where (λ m. not (is_in members m && not (int_eq (k.coefficient m) (pos 0)))) labels (length kept))
           (λ m has. zero_times (k.coefficient m) (value (slice_index kept (m - labels)))
@@ -191,7 +206,9 @@ module _ (labels : ℕ) (vectors : List (List ℤ)) (cycle : CycleBasis) (basis 
       ∙ ap (λ n. sum_below (labels + n) (λ m. (cycle.relation t).coefficient m *ℤ values_of (vector_system labels vectors cycle.kept) (pos 1) v m)) (count_rows labels vectors cycle.kept)
       ∙ sum_below-split labels (length cycle.kept) (λ m. (cycle.relation t).coefficient m *ℤ values_of (vector_system labels vectors cycle.kept) (pos 1) v m)
       ∙ ap₂ ◌+ℤ◌
-      (sum_below-same labels _ _ (λ j lt. ap (λ z. (cycle.relation t).coefficient j *ℤ z) (values_of-column (vector_system labels vectors cycle.kept) (pos 1) v j lt)) ∙ sym (free_sum labels cycle.members (cycle.relation t) (row_for t dependent).over v))
+      (sum_below-same labels _ _ (λ j lt. ap (λ z. (cycle.relation t).coefficient j *ℤ z)
+      (values_of-column (vector_system labels vectors cycle.kept) (pos 1) v j lt))
+      ∙ sym (free_sum labels cycle.members (cycle.relation t) (row_for t dependent).over v))
       (sum_below-same (length cycle.kept) _ _ (λ i lt. ap (λ z. (cycle.relation t).coefficient (labels + i) *ℤ z) (row_of_point labels vectors cycle.kept v i lt))
       ∙ sym (vector_sums labels cycle.members (cycle.relation t) (row_for t dependent).over v cycle.kept (λ c. vector_sum labels v (vector_at vectors c))
       (order_from_increasing cycle.members (row_for t dependent).free.ordered) within))
@@ -214,14 +231,21 @@ module _ (labels : ℕ) (vectors : List (List ℤ)) (cycle : CycleBasis) (basis 
       (same_relation (vector_system labels vectors cycle.kept) cycle.members t (cycle.relation t) k (row_for t (lt, k_row.outside)) k_row)
       (follows t (lt, k_row.outside) ∙ free_sum labels cycle.members (cycle.relation t) (row_for t (lt, k_row.outside)).over v)
 
-  follows_same : (v u : ℕ → ℤ) → ((j : ℕ) → j < labels → v j ≡ u j) → FollowsRelations (vector_system labels vectors cycle.kept) cycle.members v → FollowsRelations (vector_system labels vectors cycle.kept) cycle.members u
-  follows_same v u agree follows t k lt k_row = ap (λ z. k.d *ℤ z) (sym (agree t lt)) ∙ follows t k lt k_row ∙ sum_below-same labels (λ j. k.coefficient j *ℤ v j) (λ j. k.coefficient j *ℤ u j) (λ j below. ap (λ z. k.coefficient j *ℤ z) (agree j below))
+  follows_same : (v u : ℕ → ℤ) → ((j : ℕ) → j < labels → v j ≡ u j) → FollowsRelations (vector_system labels vectors cycle.kept) cycle.members v
+      → FollowsRelations (vector_system labels vectors cycle.kept) cycle.members u
+  follows_same v u agree follows t k lt k_row =
+      ap (λ z. k.d *ℤ z) (sym (agree t lt)) ∙ follows t k lt k_row
+      ∙ sum_below-same labels (λ j. k.coefficient j *ℤ v j) (λ j. k.coefficient j *ℤ u j) (λ j below. ap (λ z. k.coefficient j *ℤ z) (agree j below))
 
   pub basis_solves : (v : ℕ → ℤ) → AllSumsAreZero labels vectors v ↔ FollowsFree labels cycle v
   basis_solves v =
-      let exact = cycle_is_exact (vector_system labels vectors cycle.kept) cycle.members (vectors_plain labels vectors cycle.kept) basis.cycle (pos 1) (values_of (vector_system labels vectors cycle.kept) (pos 1) v) (values_of-point (vector_system labels vectors cycle.kept) (pos 1) v one) in (
-        (λ sums. follows_free v (follows_same (values_of (vector_system labels vectors cycle.kept) (pos 1) v) v (λ j lt. values_of-column (vector_system labels vectors cycle.kept) (pos 1) v j lt) (exact.0 (sums_to_rows labels vectors cycle.kept v basis.kept sums)))),
-        (λ follows. rows_to_sums labels vectors cycle.kept v basis.kept (exact.1 (follows_same v (values_of (vector_system labels vectors cycle.kept) (pos 1) v) (λ j lt. sym (values_of-column (vector_system labels vectors cycle.kept) (pos 1) v j lt)) (free_follows v follows)))),
+      let exact = cycle_is_exact (vector_system labels vectors cycle.kept) cycle.members (vectors_plain labels vectors cycle.kept) basis.cycle
+      (pos 1) (values_of (vector_system labels vectors cycle.kept) (pos 1) v) (values_of-point (vector_system labels vectors cycle.kept) (pos 1) v one) in (
+        (λ sums. follows_free v (follows_same (values_of (vector_system labels vectors cycle.kept) (pos 1) v) v
+            (λ j lt. values_of-column (vector_system labels vectors cycle.kept) (pos 1) v j lt) (exact.0 (sums_to_rows labels vectors cycle.kept v basis.kept sums)))),
+        (λ follows. rows_to_sums labels vectors cycle.kept v basis.kept
+            (exact.1 (follows_same v (values_of (vector_system labels vectors cycle.kept) (pos 1) v)
+            (λ j lt. sym (values_of-column (vector_system labels vectors cycle.kept) (pos 1) v j lt)) (free_follows v follows)))),
       )
 
   -- no term of the walk passes
@@ -237,7 +261,8 @@ module _ (labels : ℕ) (vectors : List (List ℤ)) (cycle : CycleBasis) (basis 
 -- ---- how many are kept
 
 pub kept_few : (vectors : List (List ℤ)) (kept : List ℕ) → KeepsVectors vectors kept → length kept ≤ length vectors
-kept_few vectors kept k = let h = kept_count (vector_at vectors) (λ i. IsZeroVector (vector_at vectors i)) [] (numbers_from 0 (length vectors)) kept k in let e = length-numbers_from 0 (length vectors) in omega arith
+kept_few vectors kept k = let h = kept_count (vector_at vectors) (λ i. IsZeroVector (vector_at vectors i)) []
+    (numbers_from 0 (length vectors)) kept k in let e = length-numbers_from 0 (length vectors) in omega arith
 
 -- an error that is handed on is the same error
 pub error_is : {T U E : Type 0} (r : Result T E) (s : Result U E) (e f : E) → r ≡ Err e → s ≡ Err e → s ≡ Err f → r ≡ Err f

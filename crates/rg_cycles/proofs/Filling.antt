@@ -17,7 +17,8 @@ pub row_added : (labels : ℕ) (vectors : List (List ℤ)) (kept : List ℕ) (i 
     → with_row (vector_system labels vectors (take i kept)) coeffs (pos 0) ≡ vector_system labels vectors (take (i + 1) kept)
 row_added labels vectors kept i lt coeffs is = λ j. record { columns = labels; rows = rows j }
   where
-    rows : map {B = LinearRow} (λ c. record { coeffs = vector_at vectors c; constant = pos 0 }) (take i kept) ++ row coeffs ∷ [] ≡ map {B = LinearRow} (λ c. record { coeffs = vector_at vectors c; constant = pos 0 }) (take (i + 1) kept)
+    rows : map {B = LinearRow} (λ c. record { coeffs = vector_at vectors c; constant = pos 0 }) (take i kept) ++ row coeffs ∷ []
+        ≡ map {B = LinearRow} (λ c. record { coeffs = vector_at vectors c; constant = pos 0 }) (take (i + 1) kept)
     rows = ap (λ (xs : List ℤ). map {B = LinearRow} (λ c. record { coeffs = vector_at vectors c; constant = pos 0 }) (take i kept) ++ row xs ∷ []) (sym is)
         ∙ sym (ap (map {B = LinearRow} (λ c. record { coeffs = vector_at vectors c; constant = pos 0 })) (take_more kept i 0 lt)
         ∙ map-append {B = LinearRow} (λ c. record { coeffs = vector_at vectors c; constant = pos 0 }) (take i kept) (slice_index kept i ∷ []))

@@ -3,7 +3,6 @@ use Rattle.std.proofs.lemmas.List.Elements.{Contains-get_or}
 use Rattle.std.proofs.lemmas.List.{drop_all, get_or-map}
 use Rattle.std.proofs.Common.{◌≡◌, ◌≢◌, ℕ, ◌+◌, ◌<◌, ◌≤◌, true, false, not, Contains, List, [], ◌∷◌, ◌++◌, length, drop, Result, Ok, Err, ap, refl, subst, sym, ◌∙◌, inl, inr, arith, add-one}
 use Rattle.std.specs.Prelude.{ℤ, pos, slice_index}
-use Rattle.std.proofs.lemmas.List.{length-map}
 use Rattle.std.proofs.Math.Seq.{drop-cons}
 use Rattle.rg_integers.specs.declared.term.Wide.{Wide}
 use Rattle.rg_fraction.specs.declared.fraction.Fraction.{Fraction}
@@ -18,7 +17,8 @@ use Rattle.rg_cycles.proofs.Labels.{in_set, not_in_set, where_from}
 use Rattle.rg_folds.proofs.FoldLemmas.{new_step, mul_step}
 use Rattle.rg_folds.proofs.Folding.{whole_is, further_next, further_unmade, further_unjoined, behind, each_next, each_fails, each_ends}
 
-pub term_told : (n d count : ℤ) (share own : Fraction) (r : Result Fraction Wide) → d ≢ pos 0 → IsValue share n d → IsValue own count (pos 1) → IsProduct (numerator_of own) (denominator_of own) (numerator_of share) (denominator_of share) r
+pub term_told : (n d count : ℤ) (share own : Fraction) (r : Result Fraction Wide) → d ≢ pos 0 → IsValue share n d → IsValue own count (pos 1)
+    → IsProduct (numerator_of own) (denominator_of own) (numerator_of share) (denominator_of share) r
     → and_then (quotient n d) (mul (whole count)) (shown_result ratio_of r)
 term_told n d count share own r ne v w p = go r (subst (λ f. mul f (ratio_of share) (shown_result ratio_of r)) (whole_is own count w) (mul_step own share r p))
   where
@@ -29,7 +29,8 @@ term_told n d count share own r ne v w p = go r (subst (λ f. mul f (ratio_of sh
 -- ---- labels
 
 -- what a label that is not free adds, by the numbers that its relation shows
-pub term_is : (labels : ℕ) (cycle : CycleBasis) (counts : List ℤ) (t index : ℕ) (r : Relation) (count : ℤ) (res : Result Ratio Wide) → ShowsRelation labels cycle t r → index < length (free_labels labels cycle) → count ≡ number_at counts t
+pub term_is : (labels : ℕ) (cycle : CycleBasis) (counts : List ℤ) (t index : ℕ) (r : Relation) (count : ℤ) (res : Result Ratio Wide)
+    → ShowsRelation labels cycle t r → index < length (free_labels labels cycle) → count ≡ number_at counts t
     → and_then (quotient (number_at r.free.items index) r.d) (mul (whole count)) res → dependent_term cycle (number_at counts) (slice_index (free_labels labels cycle) index) t res
 term_is labels cycle counts t index r count res shows lt same h =
     subst (λ z. and_then (quotient ((cycle.relation t).coefficient (slice_index (free_labels labels cycle) index)) (cycle.relation t).d) (mul (whole z)) res) same
@@ -47,10 +48,8 @@ is_free cycle t has = ap not (in_set cycle.members t has)
 
 -- a free label is a label
 pub free_below : (labels : ℕ) (cycle : CycleBasis) (index : ℕ) → index < length (free_labels labels cycle) → slice_index (free_labels labels cycle) index < labels
-free_below labels cycle index lt = let w = where_from (λ t. is_in cycle.members t) 0 labels (slice_index (free_labels labels cycle) index) (Contains-get_or (free_labels labels cycle) index 0 lt) in let b = w.below in omega arith
-
-pub shows_length : (labels : ℕ) (cycle : CycleBasis) (t index : ℕ) (r : Relation) → ShowsRelation labels cycle t r → index < length (free_labels labels cycle) → index < length r.free.items
-shows_length labels cycle t index r shows lt = subst (λ l. index < length l) (sym shows.free) (simp length-map lt)
+free_below labels cycle index lt = let w = where_from (λ t. is_in cycle.members t) 0 labels (slice_index (free_labels labels cycle) index)
+    (Contains-get_or (free_labels labels cycle) index 0 lt) in let b = w.below in omega arith
 
 -- ---- the coefficient of a free label, label by label
 

@@ -1,10 +1,10 @@
 -- Lists of labels in order: the free labels among the members of a set.
-use Rattle.std.proofs.lemmas.Bool.{false≢true}
-use Rattle.std.proofs.Common.{◌≡◌, ◌⊎◌, ⊎_elim, ℕ, zero, suc, ◌+◌, ◌<◌, ◌≤◌, Bool, true, false, cond, nat_lt, ◌==◌, if◌then◌else◌, List, [], ◌∷◌, filter, Contains, ap, ap₂, refl, subst, sym, ◌∙◌, inl, inr, arith, eqb-true, eq-eqb}
-use Rattle.std.proofs.lemmas.Bool.{cases_lt}
+use Rattle.std.proofs.lemmas.Bool.{false≢true, cases_lt}
+use Rattle.std.proofs.Common.{◌≡◌, ◌⊎◌, ⊎_elim, ℕ, zero, suc, ◌+◌, ◌<◌, ◌≤◌, Bool, true, false, cond, nat_lt, ◌==◌, if◌then◌else◌, List, [], ◌∷◌, filter, Contains, ap, refl, subst, sym, ◌∙◌, inl, inr, arith, eqb-true, eq-eqb}
 use Rattle.rg_linear.proofs.Members.{Contains-here, Contains-there, Contains-cons_cases, Contains-nil, IsInOrder}
 use Rattle.rg_linear.proofs.Columns.{below_test, past_test}
 use Rattle.rg_folds.specs.Substitution.{is_in, numbers_where}
+use Rattle.rg_linear.proofs.Counting.{same_members as same_list}
 
 -- ---- the test of membership
 
@@ -74,7 +74,8 @@ where_has test a (suc n) t le lt e = go (test a) refl (λ more. where_has test (
     at = ⊎_elim (λ less. inr less) (λ most. inl (omega arith)) (cases_lt a t)
 
     go : (b : Bool) → test a ≡ b → (suc a ≤ t → Contains (numbers_where test (suc a) n) t) → Contains (if b then (a ∷ numbers_where test (suc a) n) else numbers_where test (suc a) n) t
-    go true is next = ⊎_elim (λ same. subst (Contains (a ∷ numbers_where test (suc a) n)) same (Contains-here a (numbers_where test (suc a) n))) (λ more. Contains-there a t (numbers_where test (suc a) n) (next more)) at
+    go true is next = ⊎_elim (λ same. subst (Contains (a ∷ numbers_where test (suc a) n)) same (Contains-here a (numbers_where test (suc a) n)))
+        (λ more. Contains-there a t (numbers_where test (suc a) n) (next more)) at
     go false is next = ⊎_elim (λ same. absurd (false≢true (sym is ∙ (ap test same ∙ e)))) next at
 
 -- what a number in the list is
@@ -90,8 +91,10 @@ where_from test a (suc n) t has = go (test a) refl has (λ h. where_from test (s
     later : FromWhere test (suc a) n t → FromWhere test a (suc n) t
     later h = let l = h.least in let b = h.below in record { least = omega arith; below = omega arith; passes = h.passes }
 
-    go : (b : Bool) → test a ≡ b → Contains (if b then (a ∷ numbers_where test (suc a) n) else numbers_where test (suc a) n) t → (Contains (numbers_where test (suc a) n) t → FromWhere test (suc a) n t) → FromWhere test a (suc n) t
-    go true is h next = ⊎_elim (λ same. record { least = omega arith; below = omega arith; passes = ap test (sym same) ∙ is }) (λ there. later (next there)) (Contains-cons_cases a t (numbers_where test (suc a) n) h)
+    go : (b : Bool) → test a ≡ b → Contains (if b then (a ∷ numbers_where test (suc a) n) else numbers_where test (suc a) n) t
+        → (Contains (numbers_where test (suc a) n) t → FromWhere test (suc a) n t) → FromWhere test a (suc n) t
+    go true is h next = ⊎_elim (λ same. record { least = omega arith; below = omega arith; passes = ap test (sym same) ∙ is })
+        (λ there. later (next there)) (Contains-cons_cases a t (numbers_where test (suc a) n) h)
     go false is h next = later (next h)
 
 pub where_order : (test : ℕ → Bool) (a n : ℕ) → IsInOrder (numbers_where test a n)
@@ -104,35 +107,14 @@ where_order test a (suc n) = go (test a) (where_order test (suc a) n)
 
 -- ---- two lists in order with the same elements are equal
 
-pub same_list : (xs ys : List ℕ) → IsInOrder xs → IsInOrder ys → ((m : ℕ) → Contains xs m → Contains ys m) → ((m : ℕ) → Contains ys m → Contains xs m) → xs ≡ ys
-same_list [] [] h k to back = refl
-same_list [] (y ∷ ys) h k to back = absurd (Contains-nil y (back y (Contains-here y ys)))
-same_list (x ∷ xs) [] h k to back = absurd (Contains-nil x (to x (Contains-here x xs)))
-same_list (x ∷ xs) (y ∷ ys) h k to back = ap₂ ◌∷◌ first (same_list xs ys h.1 k.1 (λ m has. to_rest m has (to m (Contains-there x m xs has))) (λ m has. back_rest m has (back m (Contains-there y m ys has))))
-  where
-    first : x ≡ y
-    first = ⊎_elim (λ e. sym e) (λ above. ⊎_elim (λ e. e) (λ below. absurd (twice (k.0 x above) (h.0 y below))) (Contains-cons_cases x y xs (back y (Contains-here y ys)))) (Contains-cons_cases y x ys (to x (Contains-here x xs)))
-      where
-        twice : y < x → x < y → ⊥
-        twice p q = omega arith
-
-    to_rest : (m : ℕ) → Contains xs m → Contains (y ∷ ys) m → Contains ys m
-    to_rest m has there = ⊎_elim (λ e. absurd (no_more m e (h.0 m has))) (λ t. t) (Contains-cons_cases y m ys there)
-      where
-        no_more : (m : ℕ) → y ≡ m → x < m → ⊥
-        no_more m e lt = (let f = first in omega arith)
-
-    back_rest : (m : ℕ) → Contains ys m → Contains (x ∷ xs) m → Contains xs m
-    back_rest m has there = ⊎_elim (λ e. absurd (no_more m e (k.0 m has))) (λ t. t) (Contains-cons_cases x m xs there)
-      where
-        no_more : (m : ℕ) → x ≡ m → y < m → ⊥
-        no_more m e lt = (let f = first in omega arith)
-
 pub below_from : (m n : ℕ) → nat_lt m n ≡ true → m < n
 below_from m n e = ⊎_elim (λ lt. lt) (λ le. absurd (false≢true (sym (past_test m n le) ∙ e))) (cases_lt m n)
 
 -- the members below the number of labels are the free labels
 pub free_members : (members : List ℕ) (labels : ℕ) → IsInOrder members → filter (λ m. nat_lt m labels) members ≡ numbers_where (λ t. is_in members t) 0 labels
-free_members members labels h = same_list (filter (λ m. nat_lt m labels) members) (numbers_where (λ t. is_in members t) 0 labels) (filter_order (λ m. nat_lt m labels) members h) (where_order (λ t. is_in members t) 0 labels)
-    (λ m has. (let f = filter_from (λ n. nat_lt n labels) members m has in where_has (λ t. is_in members t) 0 labels m (omega arith) (let lt = below_from m labels f.1 in omega arith) (in_set members m f.0)))
-    (λ m has. (let w = where_from (λ t. is_in members t) 0 labels m has in filter_has (λ n. nat_lt n labels) members m (has_member members m w.passes) (below_test m labels (let lt = w.below in omega arith))))
+free_members members labels h = same_list (filter (λ m. nat_lt m labels) members) (numbers_where (λ t. is_in members t) 0 labels)
+    (filter_order (λ m. nat_lt m labels) members h) (where_order (λ t. is_in members t) 0 labels)
+    (λ m has. (let f = filter_from (λ n. nat_lt n labels) members m has in
+    where_has (λ t. is_in members t) 0 labels m (omega arith) (let lt = below_from m labels f.1 in omega arith) (in_set members m f.0)))
+    (λ m has. (let w = where_from (λ t. is_in members t) 0 labels m has in
+    filter_has (λ n. nat_lt n labels) members m (has_member members m w.passes) (below_test m labels (let lt = w.below in omega arith))))

@@ -52,5 +52,6 @@ module _ (labels m : ℕ) (z : ℤ) where
       go false = refl
 
 -- the index of a chord's row is below the number of rows
-pub chord_within : (members : List ℕ) (labels rows p : ℕ) → p < length members → ((m : ℕ) → Contains members m → m < labels + rows) → labels ≤ slice_index members p → slice_index members p - labels < rows
+pub chord_within : (members : List ℕ) (labels rows p : ℕ) → p < length members → ((m : ℕ) → Contains members m → m < labels + rows)
+    → labels ≤ slice_index members p → slice_index members p - labels < rows
 chord_within members labels rows p lt all past = let h = all (slice_index members p) (Contains-get_or members p 0 lt) in omega arith

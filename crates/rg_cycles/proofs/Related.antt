@@ -1,5 +1,5 @@
 -- The relations with which a walk ends.
-use Rattle.std.proofs.Common.{◌≡◌, ℕ, ◌+◌, ◌<◌, List, length, Contains, subst, sym, ◌∙◌, arith}
+use Rattle.std.proofs.Common.{◌≡◌, ℕ, ◌+◌, ◌<◌, List, length, Contains, subst, sym, arith}
 use Rattle.std.specs.Prelude.{ℤ}
 use Rattle.rg_linear.specs.System.{LinearSystem}
 use Rattle.rg_linear.specs.Dictionary.{IsFree}
@@ -11,9 +11,6 @@ use Rattle.rg_cycles.specs.Relating.{AreRelationsOf, IsSolved, columns_of, membe
 pub relations_free : (system : LinearSystem) (r : Relations) → AreRelationsOf system r → IsFree system (members_of r)
 relations_free system (OfColumns walk) are = are.held.held.basis.free
 relations_free system (OfAll dictionary) are = are.free
-
-pub member_count : (system : LinearSystem) (r : Relations) → AreRelationsOf system r → system.columns ≡ columns_of r → length (members_of r) ≡ columns_of r
-member_count system r are columns = (relations_free system r are).count ∙ columns
 
 -- the members are labels and rows
 pub member_within : (system : LinearSystem) (r : Relations) → AreRelationsOf system r → system.columns ≡ columns_of r → (n : ℕ) → length system.rows ≡ n

@@ -9,11 +9,13 @@ use Rattle.rg_cycles.specs.Basis.{ShowsRelation, AreRelations}
 use Rattle.rg_cycles.proofs.Labels.{has_member, lacks_member}
 
 -- the answer for label t
-pub relation_told : (labels : ℕ) (cycle : CycleBasis) (relations : List (Option Relation)) (t : ℕ) (x : Option Relation) (o : Option (Bor Relation)) → AreRelations labels cycle relations → t < labels → t < length relations → x ≡ slice_index_or relations t x → option_copied o ≡ x
+pub relation_told : (labels : ℕ) (cycle : CycleBasis) (relations : List (Option Relation)) (t : ℕ) (x : Option Relation) (o : Option (Bor Relation))
+    → AreRelations labels cycle relations → t < labels → t < length relations → x ≡ slice_index_or relations t x → option_copied o ≡ x
     → MatchOption o (Contains cycle.members t) (λ r. (¬ Contains cycle.members t) × ShowsRelation labels cycle t r.now)
 relation_told labels cycle relations t x o are lt within at copied = go o (copied ∙ at ∙ get_or_default relations t x None within)
   where
-    go : (o : Option (Bor Relation)) → option_copied o ≡ slice_index_or relations t None → MatchOption o (Contains cycle.members t) (λ r. (¬ Contains cycle.members t) × ShowsRelation labels cycle t r.now)
+    go : (o : Option (Bor Relation)) → option_copied o ≡ slice_index_or relations t None
+        → MatchOption o (Contains cycle.members t) (λ r. (¬ Contains cycle.members t) × ShowsRelation labels cycle t r.now)
     go None e = has_member cycle.members t (not_false (is_in cycle.members t) (ap is_some e ∙ are.dependent t lt))
       where
         not_false : (b : Bool) → false ≡ not b → b ≡ true

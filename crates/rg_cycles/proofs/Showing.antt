@@ -41,10 +41,16 @@ use Rattle.rg_cycles.proofs.Labels.{in_set, not_in_set, filter_has, filter_from,
 pub kept_order : (key : ℕ → List ℤ) (Drops : ℕ → Type 0) (seen : List (List ℤ)) (a n : ℕ) (kept : List ℕ) → KeepsEqualRows key Drops seen (numbers_from a n) kept → IsInOrder kept
 kept_order key Drops seen a zero kept is = subst IsInOrder (sym is) tt
 kept_order key Drops seen a (suc n) kept (inl (gone, k)) = kept_order key Drops seen (suc a) n kept k
-kept_order key Drops seen a (suc n) kept (inr (stays, fresh, (rest, is, k))) = subst IsInOrder (sym is) ((λ m has. (numbers_from-Contains (suc a) n m (kept_is key Drops (key a ∷ seen) (numbers_from (suc a) n) rest m k has)).0), kept_order key Drops (key a ∷ seen) (suc a) n rest k)
+kept_order key Drops seen a (suc n) kept (inr (stays, fresh, (rest, is, k))) =
+    subst IsInOrder (sym is) (
+      (λ m has. (numbers_from-Contains (suc a) n m (kept_is key Drops (key a ∷ seen) (numbers_from (suc a) n) rest m k has)).0),
+      kept_order key Drops
+          (key a ∷ seen) (suc a) n rest k,
+    )
 
 pub kept_below : (vectors : List (List ℤ)) (kept : List ℕ) → KeepsVectors vectors kept → (c : ℕ) → Contains kept c → c < length vectors
-kept_below vectors kept k c has = let h = numbers_from-Contains 0 (length vectors) c (kept_is (vector_at vectors) (λ i. IsZeroVector (vector_at vectors i)) [] (numbers_from 0 (length vectors)) kept c k has) in omega arith
+kept_below vectors kept k c has = let h = numbers_from-Contains 0 (length vectors) c
+    (kept_is (vector_at vectors) (λ i. IsZeroVector (vector_at vectors i)) [] (numbers_from 0 (length vectors)) kept c k has) in omega arith
 
 -- two indices of a list in order with the same number are one
 pub same_index : (xs : List ℕ) (i j : ℕ) → IsInOrder xs → i < length xs → j < length xs → slice_index xs i ≡ slice_index xs j → i ≡ j
@@ -93,21 +99,28 @@ module _ (f : ℕ → ℤ) (labels : ℕ) (kept : List ℕ) (order : IsInOrder k
       at : labels ≤ w → (b : Bool) → (slice_index kept (w - labels) == slice_index kept (m - labels)) ≡ b
           → ((¬ Contains ms m → f m ≡ pos 0) → number_with
           (map (λ u. (slice_index kept (u - labels), f u)) (filter (λ u. not (nat_lt u labels) && not (int_eq (f u) (pos 0))) ms)) (slice_index kept (m - labels)) ≡ f m)
-          → (if b then f w else number_with (map (λ u. (slice_index kept (u - labels), f u)) (filter (λ u. not (nat_lt u labels) && not (int_eq (f u) (pos 0))) ms)) (slice_index kept (m - labels))) ≡ f m
+          → (if b then f w else number_with (map (λ u. (slice_index kept (u - labels), f u))
+          (filter (λ u. not (nat_lt u labels) && not (int_eq (f u) (pos 0))) ms)) (slice_index kept (m - labels))) ≡ f m
       at above true e next = ap f (back (same_index kept (w - labels) (m - labels) order (within w (Contains-here w ms) above) lt (eqb-true _ _ e)))
         where
           back : w - labels ≡ m - labels → w ≡ m
           back p = omega arith
       at above false e next = next (others (λ same. false≢true (sym e ∙ (eq-eqb _ _ (ap (λ u. slice_index kept (u - labels)) same)))))
 
-      go : (b : Bool) → (not (nat_lt w labels) && not (int_eq (f w) (pos 0))) ≡ b → ((¬ Contains ms m → f m ≡ pos 0) → number_with (map (λ u. (slice_index kept (u - labels), f u)) (filter (λ u. not (nat_lt u labels) && not (int_eq (f u) (pos 0))) ms)) (slice_index kept (m - labels)) ≡ f m)
-          → number_with (map (λ u. (slice_index kept (u - labels), f u)) (cond b (w ∷ filter (λ u. not (nat_lt u labels) && not (int_eq (f u) (pos 0))) ms) (filter (λ u. not (nat_lt u labels) && not (int_eq (f u) (pos 0))) ms))) (slice_index kept (m - labels)) ≡ f m
+      go : (b : Bool) → (not (nat_lt w labels) && not (int_eq (f w) (pos 0))) ≡ b
+          → ((¬ Contains ms m → f m ≡ pos 0) → number_with
+          (map (λ u. (slice_index kept (u - labels), f u)) (filter (λ u. not (nat_lt u labels) && not (int_eq (f u) (pos 0))) ms)) (slice_index kept (m - labels)) ≡ f m)
+          → number_with (map (λ u. (slice_index kept (u - labels), f u))
+          (cond b (w ∷ filter (λ u. not (nat_lt u labels) && not (int_eq (f u) (pos 0))) ms)
+          (filter (λ u. not (nat_lt u labels) && not (int_eq (f u) (pos 0))) ms))) (slice_index kept (m - labels)) ≡ f m
       go true e next = at (listed_past w e) (slice_index kept (w - labels) == slice_index kept (m - labels)) refl next
       go false e next = ⊎_elim (λ same. next (λ lacks. unlisted w e same)) (λ ne. next (others ne)) (equal_or_not w m)
 
 -- ---- the relation of a label
 
-rows_plain : (vectors : List (List ℤ)) (kept : List ℕ) (i : ℕ) → (slice_index_or {A = LinearRow} (map (λ c. record { coeffs = vector_at vectors c; constant = pos 0 }) kept) i (record { coeffs = []; constant = pos 0 })).constant ≡ pos 0
+rows_plain : (vectors : List (List ℤ)) (kept : List ℕ) (i : ℕ)
+    → (slice_index_or {A = LinearRow} (map (λ c. record { coeffs = vector_at vectors c; constant = pos 0 }) kept) i
+    (record { coeffs = []; constant = pos 0 })).constant ≡ pos 0
 rows_plain vectors [] i = refl
 rows_plain vectors (c ∷ kept) zero = refl
 rows_plain vectors (c ∷ kept) (suc i) = rows_plain vectors kept i
@@ -119,7 +132,8 @@ pub count_rows : (labels : ℕ) (vectors : List (List ℤ)) (kept : List ℕ) �
 count_rows labels vectors kept = length-map kept (λ c. record { coeffs = vector_at vectors c; constant = pos 0 })
 
 -- a set that is free over the vectors, and the relation k of label t over it
-module _ (labels : ℕ) (vectors : List (List ℤ)) (kept members : List ℕ) (order : IsInOrder kept) (t : ℕ) (k : LinearRelation) (row : DictionaryRow (vector_system labels vectors kept) members t k) where
+module _ (labels : ℕ) (vectors : List (List ℤ)) (kept members : List ℕ) (order : IsInOrder kept) (t : ℕ) (k : LinearRelation)
+    (row : DictionaryRow (vector_system labels vectors kept) members t k) where
   within : (w : ℕ) → Contains members w → labels ≤ w → w - labels < length kept
   within w has past = let h = row.free.within w has in let c = count_rows labels vectors kept in omega arith
 
@@ -129,7 +143,9 @@ module _ (labels : ℕ) (vectors : List (List ℤ)) (kept members : List ℕ) (o
   coefficient_is free r is has m = ⊎_elim label past (cases_lt m labels)
     where
       label : m < labels → (if nat_lt m labels then number_beside free r.free.items m else row_number r.chords.items (slice_get kept (m - labels))) ≡ k.coefficient m
-      label lt = rw (below_test m labels lt) (ap₂ (λ xs zs. number_beside xs zs m) is has.free ∙ beside_map k.coefficient (filter (λ u. nat_lt u labels) members) m (λ lacks. row.over m (λ member. lacks (filter_has (λ u. nat_lt u labels) members m member (below_test m labels lt)))))
+      label lt = rw (below_test m labels lt) (ap₂ (λ xs zs. number_beside xs zs m) is has.free
+          ∙ beside_map k.coefficient (filter (λ u. nat_lt u labels) members) m
+          (λ lacks. row.over m (λ member. lacks (filter_has (λ u. nat_lt u labels) members m member (below_test m labels lt)))))
 
       no_row : length kept ≤ m - labels → labels ≤ m → pos 0 ≡ k.coefficient m
       no_row none above = sym (row.over m (λ member. (let h = within m member above in omega arith)))
@@ -189,7 +205,9 @@ module _ (vectors : List (List ℤ)) (kept : List ℕ) (d : Relations) (solved :
     range = record {
       positive = subst (λ z. pos 0 <ℤ z) (sym has.d) shows.row.positive;
       d = subst InRange (ap (λ l. number_at l 0) shows.shown ∙ sym has.d) (at_label.in_range 0);
-      free = λ n. subst (λ l. InRange (number_at l n)) (sym has.free) (map_in_range shows.k.coefficient (filter (λ m. nat_lt m (columns_of d)) (members_of d)) (λ m h. each m (filter_from (λ u. nat_lt u (columns_of d)) (members_of d) m h).0) n);
+      free = λ n. subst (λ l. InRange (number_at l n)) (sym has.free)
+          (map_in_range shows.k.coefficient (filter (λ m. nat_lt m (columns_of d)) (members_of d))
+          (λ m h. each m (filter_from (λ u. nat_lt u (columns_of d)) (members_of d) m h).0) n);
       chords = λ n. subst (λ l. InRange (slice_index_or {A = ℕ × ℤ} l n (0, pos 0)).1) (sym has.chords)
           (pairs_in_range (λ m. slice_index kept (m - (columns_of d))) shows.k.coefficient
           (filter (λ m. not (nat_lt m (columns_of d)) && not (int_eq (shows.k.coefficient m) (pos 0))) (members_of d))
@@ -204,7 +222,8 @@ module _ (vectors : List (List ℤ)) (kept : List ℕ) (d : Relations) (solved :
       has = at_label.has shows.k shows.shown
 
       each : (m : ℕ) → Contains (members_of d) m → InRange (shows.k.coefficient m)
-      each m (p, below, at) = subst InRange (shown_number (members_of d) shows.k at_label.numbers p shows.shown below ∙ ap shows.k.coefficient (get_or_default (members_of d) p 0 m below ∙ at)) (at_label.in_range (p + 2))
+      each m (p, below, at) = subst InRange (shown_number (members_of d) shows.k at_label.numbers p shows.shown below
+          ∙ ap shows.k.coefficient (get_or_default (members_of d) p 0 m below ∙ at)) (at_label.in_range (p + 2))
 
   module _ (relations : List (Option Relation)) (read : (t : ℕ) → t < (columns_of d) → IsRead d kept t (slice_index_or relations t None)) (size : length relations ≡ (columns_of d)) where
     inside : (t : ℕ) (r : Relation) → slice_index_or relations t None ≡ Some r → t < (columns_of d)
@@ -225,7 +244,9 @@ module _ (vectors : List (List ℤ)) (kept : List ℕ) (d : Relations) (solved :
     shown : (t : ℕ) (r : Relation) → slice_index_or relations t None ≡ Some r → ShowsRelation (columns_of d) (read_cycle (columns_of d) kept (members_of d) free relations) t r
     shown t r e = record {
       d = (at t r e).has.d ∙ ap (λ k. k.d) (sym (relation_at t r e));
-      free = (at t r e).has.free ∙ ap (map (at t r e).k.coefficient) (sym listed ∙ free_is) ∙ ap (λ (k : LinearRelation). map k.coefficient (free_labels (columns_of d) (read_cycle (columns_of d) kept (members_of d) free relations))) (sym (relation_at t r e));
+      free = (at t r e).has.free ∙ ap (map (at t r e).k.coefficient) (sym listed ∙ free_is)
+          ∙ ap (λ (k : LinearRelation). map k.coefficient
+          (free_labels (columns_of d) (read_cycle (columns_of d) kept (members_of d) free relations))) (sym (relation_at t r e));
       chords = (at t r e).has.chords ∙ ap (vector_numbers (columns_of d) kept (members_of d)) (sym (relation_at t r e));
     }
 
@@ -247,11 +268,13 @@ module _ (vectors : List (List ℤ)) (kept : List ℕ) (d : Relations) (solved :
       others = λ t out. other t out (slice_index_or relations t None) refl;
     }
       where
-        relation : (t : ℕ) → t < (columns_of d) → ¬ Contains (members_of d) t → (o : Option Relation) → slice_index_or relations t None ≡ o → DictionaryRow (vector_system (columns_of d) vectors kept) (members_of d) t (relation_of (columns_of d) kept free (slice_index_or relations t None))
+        relation : (t : ℕ) → t < (columns_of d) → ¬ Contains (members_of d) t → (o : Option Relation) → slice_index_or relations t None ≡ o
+            → DictionaryRow (vector_system (columns_of d) vectors kept) (members_of d) t (relation_of (columns_of d) kept free (slice_index_or relations t None))
         relation t lt lacks None e = absurd (lacks (subst (IsRead d kept t) e (read t lt)))
         relation t lt lacks (Some r) e = subst (DictionaryRow (vector_system (columns_of d) vectors kept) (members_of d) t) (sym (relation_at t r e)) (at t r e).row
 
-        other : (t : ℕ) → ((columns_of d) ≤ t) ⊎ Contains (members_of d) t → (o : Option Relation) → slice_index_or relations t None ≡ o → relation_of (columns_of d) kept free (slice_index_or relations t None) ≡ no_relation
+        other : (t : ℕ) → ((columns_of d) ≤ t) ⊎ Contains (members_of d) t → (o : Option Relation) → slice_index_or relations t None ≡ o
+            → relation_of (columns_of d) kept free (slice_index_or relations t None) ≡ no_relation
         other t out None e = ap (relation_of (columns_of d) kept free) e
         other t out (Some r) e = absurd (⊎_elim (λ past. (let lt = inside t r e in omega arith)) (at t r e).lacks out)
 

@@ -48,7 +48,8 @@ module _ (system : LinearSystem) (members : List ℕ) (i : ℕ) (numbers : List 
     row = shows.row;
     column = names.label;
     named = λ z. names.named (shown_number members shows.k numbers p shows.shown names.within ∙ z);
-    least = λ t lt. ⊎_elim (λ (q, within, at). unnamed t q (let l = names.label in omega arith) within at (before q (earlier q t within at lt))) (λ lacks. shows.row.over t lacks) (is_member members t);
+    least = λ t lt. ⊎_elim (λ (q, within, at). unnamed t q (let l = names.label in omega arith) within at (before q (earlier q t within at lt)))
+        (λ lacks. shows.row.over t lacks) (is_member members t);
   }
     where
       earlier : (q t : ℕ) → q < length members → slice_index_or members q t ≡ t → t < slice_index members p → q < p
@@ -91,7 +92,8 @@ module _ (d : Contents) (i : ℕ) (numbers : List ℤ) (row : i < d.rows) (syste
   step_skipped none o rest = skipped below_rows (row_is_skipped system d.members i numbers shown (subst (λ n. (q : ℕ) → ¬ NamesLabel n d.members numbers q) whole.columns none)) rest
 
   picks : (p : ℕ) → NamesLabel d.columns d.members numbers p → ((q : ℕ) → q < p → ¬ NamesLabel d.columns d.members numbers q) → Picks system d.members i (slice_index d.members p)
-  picks p names before = row_picks system d.members i numbers shown p (subst (λ n. NamesLabel n d.members numbers p) whole.columns names) (subst (λ n. (q : ℕ) → q < p → ¬ NamesLabel n d.members numbers q) whole.columns before)
+  picks p names before = row_picks system d.members i numbers shown p (subst (λ n. NamesLabel n d.members numbers p) whole.columns names)
+      (subst (λ n. (q : ℕ) → q < p → ¬ NamesLabel n d.members numbers q) whole.columns before)
 
   pub step_exchanges : (p : ℕ) → NamesLabel d.columns d.members numbers p → ((q : ℕ) → q < p → ¬ NamesLabel d.columns d.members numbers q)
       → AllFit system d.members (d.columns + i) (slice_index d.members p) → (members : List ℕ) → members ≡ exchanged d.members (d.columns + i) (slice_index d.members p)
@@ -100,7 +102,8 @@ module _ (d : Contents) (i : ℕ) (numbers : List ℤ) (row : i < d.rows) (syste
       (subst (λ w. AllFit system d.members w (slice_index d.members p)) pivot_is fit)
       (subst (λ w. CycleWalkFrom system (exchanged d.members w (slice_index d.members p)) (suc i) o) pivot_is (subst (λ m. CycleWalkFrom system m (suc i) o) is rest))
 
-  pub step_passes : (p : ℕ) → NamesLabel d.columns d.members numbers p → ((q : ℕ) → q < p → ¬ NamesLabel d.columns d.members numbers q) → (w n : ℕ) (t : Wide) → FirstWide system d.members (d.columns + i) (slice_index d.members p) w n t
+  pub step_passes : (p : ℕ) → NamesLabel d.columns d.members numbers p → ((q : ℕ) → q < p → ¬ NamesLabel d.columns d.members numbers q)
+      → (w n : ℕ) (t : Wide) → FirstWide system d.members (d.columns + i) (slice_index d.members p) w n t
       → CycleWalkFrom system d.members i (too_wide (record { members = d.members; pivot = d.columns + i; leaves = slice_index d.members p; target = w; entry = n; term = t }))
   step_passes p names before w n t first = subst
       (λ v. CycleWalkFrom system d.members i (too_wide (record { members = d.members; pivot = v; leaves = slice_index d.members p; target = w; entry = n; term = t })))

@@ -38,9 +38,6 @@ whole_is_ratio z n d e f = record {
     same : (z n d : ℤ) → d ≡ pos 1 → n ≡ z → z *ℤ d ≡ n *ℤ pos 1
     same z n d e f = rw (e, f) refl
 
-once : (z : ℤ) → z *ℤ pos 1 ≡ z
-once z = omega (arith, ints)
-
 product_fits : (a b : ℤ) → InRange (a *ℤ b) → FitsTerm (product_term a b)
 product_fits a b h = record { left = h; right = omega arith; difference = less_none (a *ℤ b) h }
   where

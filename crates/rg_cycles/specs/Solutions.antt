@@ -25,7 +25,8 @@ FollowsFree labels cycle v = (t : ℕ) → IsDependent labels cycle t → (cycle
 
 -- whatever the effects are, each relation holds with the values of the vectors
 abbrev pub RelationsHold : ℕ → CycleBasis → List (List ℤ) → Type 0
-RelationsHold labels cycle vectors = (v : ℕ → ℤ) (t : ℕ) → IsDependent labels cycle t → (cycle.relation t).d *ℤ v t ≡ free_part labels cycle (cycle.relation t) v +ℤ vector_part labels cycle vectors (cycle.relation t) v
+RelationsHold labels cycle vectors = (v : ℕ → ℤ) (t : ℕ) → IsDependent labels cycle t
+    → (cycle.relation t).d *ℤ v t ≡ free_part labels cycle (cycle.relation t) v +ℤ vector_part labels cycle vectors (cycle.relation t) v
 
 -- in each relation d is positive, and no number above 1 divides all numbers
 abbrev pub AreReduced : ℕ → CycleBasis → Type 0

@@ -9,10 +9,6 @@ use Rattle.rg_linear.specs.Cycle.{vector_at}
 abbrev pub vectors_by : {N : Type 0} → (List N → List ℤ) → List (Vec N Global) → List (List ℤ)
 vectors_by numbers vectors = map (λ v. numbers v.items) vectors
 
--- the same of vectors of whole numbers
-abbrev pub numbers_in : List (Vec ℤ Global) → List (List ℤ)
-numbers_in vectors = vectors_by (λ entries. entries) vectors
-
 -- each vector has one number for each label, in range
 pub record AreVectors (labels : ℕ) (vectors : List (List ℤ)) : Type 0 where
   pub one_each : (c : ℕ) → c < length vectors → length (vector_at vectors c) ≡ labels

@@ -63,4 +63,5 @@ pub record AreShort (basis : Basis) (counts : ℕ → ℤ) : Type 0 where
   pub count : (k : ℕ) → k < length (counted_labels basis counts) → FitsSigned w64 (counts (slice_index (counted_labels basis counts) k))
   pub whole : (k : ℕ) → k < length (counted_labels basis counts) → ((cycle_of basis).relation (slice_index (counted_labels basis counts) k)).d ≡ pos 1
   pub terms : (k n : ℕ) → k < length (counted_labels basis counts) → n < length (free_labels (labels_of basis) (cycle_of basis))
-      → StaysShort (counts (slice_index (counted_labels basis counts) k)) (numbers_of_label basis (slice_index (counted_labels basis counts) k) n) (sum_after basis counts (counted_labels basis counts) k n)
+      → StaysShort (counts (slice_index (counted_labels basis counts) k)) (numbers_of_label basis (slice_index (counted_labels basis counts) k) n)
+      (sum_after basis counts (counted_labels basis counts) k n)

@@ -95,7 +95,8 @@ sizes_are lts (b ∷ blocks) (r ∷ reached) (f ∷ fs) (is, part, rest) =
     let n : length r ≡ states f.lts = sym (ap length part.state_names ∙ length-map r (name_at lts.state_names)) in
     ap (λ k. k ∷ map length reached) n ∙ ap (λ ks. states f.lts ∷ ks) (sizes_are lts blocks reached fs rest)
 
-labels_are : (lts : System) (blocks reached : List (List ℕ)) (fs : List Factor) → AreFactors lts blocks reached fs → All (λ (b : List ℕ). 0 < length b) blocks → length fs ≤ sum_of (map (λ (f : Factor). length f.labels) fs)
+labels_are : (lts : System) (blocks reached : List (List ℕ)) (fs : List Factor) → AreFactors lts blocks reached fs
+    → All (λ (b : List ℕ). 0 < length b) blocks → length fs ≤ sum_of (map (λ (f : Factor). length f.labels) fs)
 labels_are lts [] [] [] are filled = omega arith
 labels_are lts [] [] (f ∷ fs) are filled = absurd are
 labels_are lts [] (r ∷ reached) fs are filled = absurd are
@@ -131,15 +132,18 @@ factors_few lts fs tuples (of_factors blocks reached _ _ parted many parts produ
     let each = labels_are lts blocks reached fs parts parted.are_blocks.filled in
     omega arith
 
-pub few_beside : (lts : System) (fs : List Factor) (tuples : List (List ℕ)) (nets : List Net) → IsWellFormed lts → IsFactoring lts (of_all fs tuples) → AllZip HasFewPlaces fs nets → length (places_beside (labels lts) fs nets) < 4294967296
+pub few_beside : (lts : System) (fs : List Factor) (tuples : List (List ℕ)) (nets : List Net) → IsWellFormed lts → IsFactoring lts (of_all fs tuples)
+    → AllZip HasFewPlaces fs nets → length (places_beside (labels lts) fs nets) < 4294967296
 few_beside lts fs tuples nets fine (of_factors blocks reached _ _ parted many parts product) few =
     let ns = map (λ (f : Factor). states f.lts) fs in
     let ls = map (λ (f : Factor). length f.labels) fs in
     let sizes = sizes_are lts blocks reached fs parts in
     let sum : sum_of ls ≤ 256 = (let a = sum_is fs in let b = labels_few lts fs product.shared in let c = fine.few_labels in omega arith) in
     let count : length ns ≤ 256 =
-    (let a = factors_few lts fs tuples (of_factors blocks reached fs tuples parted many parts product) in let b = length-map fs (λ (f : Factor). states f.lts) in let c = fine.few_labels in omega arith) in
+    (let a = factors_few lts fs tuples (of_factors blocks reached fs tuples parted many parts product) in
+    let b = length-map fs (λ (f : Factor). states f.lts) in let c = fine.few_labels in omega arith) in
     let tuples_few : product_of ns ≤ 4096 = (let a : choices reached ≡ product_of ns = choices_are reached ∙ ap product_of sizes in let c = fine.few_states in omega arith) in
-    let all = few_in_all ns ls (subst (All (λ n. 0 < n)) sizes (sizes_some lts blocks reached parted.are_reached)) (subst (All (λ n. n ≤ 4096)) sizes (sizes_few lts fine.in_range fine.few_states blocks reached parted.are_reached)) tuples_few count sum in
+    let all = few_in_all ns ls (subst (All (λ n. 0 < n)) sizes (sizes_some lts blocks reached parted.are_reached))
+    (subst (All (λ n. n ≤ 4096)) sizes (sizes_few lts fine.in_range fine.few_states blocks reached parted.are_reached)) tuples_few count sum in
     let b = beside_few lts blocks reached fs nets (labels lts) parts few in
     omega arith

@@ -18,6 +18,7 @@ use Rattle.rg_product.specs.Ends.{Splits, Splits.begin, Splits.then}
 use Rattle.rg_product.proofs.Joining.{each_apart}
 use Rattle.rg_product.proofs.EndLemmas.{split_step}
 use Rattle.rg_factor.proofs.Tabling.{mapped_at}
+use Rattle.rg_product.proofs.Parts.{split_long}
 
 -- the states that the first i arcs enter, and the initial one
 abbrev pub IsEntered : System → List Arc → ℕ → ℕ → Type 0
@@ -47,21 +48,20 @@ same_for_all : (x : ℕ) (bs : List (List ℕ)) → map (λ b. x) bs ≡ replica
 same_for_all x [] = refl
 same_for_all x (b ∷ bs) = ap (λ xs. x ∷ xs) (same_for_all x bs)
 
-pub splitting_none : (lts : System) (blocks : List (List ℕ)) (tree : List Arc) (rows : List (List ℕ)) → IsInRange lts → rows ≡ replicate (states lts) (replicate (length blocks) lts.initial) → IsSplitting lts blocks tree rows 0
+pub splitting_none : (lts : System) (blocks : List (List ℕ)) (tree : List Arc) (rows : List (List ℕ)) → IsInRange lts
+    → rows ≡ replicate (states lts) (replicate (length blocks) lts.initial) → IsSplitting lts blocks tree rows 0
 splitting_none lts blocks tree rows fine is = record {
   long = ap length is ∙ length-replicate (states lts) (replicate (length blocks) lts.initial);
   right = λ s has. subst (λ k. Splits lts blocks k (slice_index_or rows k [])) (first s has)
-      (subst (Splits lts blocks lts.initial) (same_for_all lts.initial blocks ∙ sym (ap (λ xs. get_or xs lts.initial []) is ∙ get_or-replicate (states lts) lts.initial (replicate (length blocks) lts.initial) [] fine.initial)) begin);
+      (subst (Splits lts blocks lts.initial) (same_for_all lts.initial blocks
+      ∙ sym (ap (λ xs. get_or xs lts.initial []) is ∙ get_or-replicate (states lts) lts.initial (replicate (length blocks) lts.initial) [] fine.initial)) begin);
 }
   where
     first : (s : ℕ) → Contains (lts.initial ∷ []) s → lts.initial ≡ s
     first s has = ⊎_elim (λ e. e) (λ (k, l, at). absurd (omega arith)) (Contains-cons_cases lts.initial s [] has)
 
-split_long : (lts : System) (blocks : List (List ℕ)) (s : ℕ) (ends : List ℕ) → Splits lts blocks s ends → length ends ≡ length blocks
-split_long lts blocks _ _ begin = length-map blocks (λ block. lts.initial)
-split_long lts blocks _ _ (then s t s' i q block ends before has at inside step) = length-set ends i q ∙ split_long lts blocks s ends before
-
-module _ (lts : System) (blocks : List (List ℕ)) (tree : List Arc) (rows : List (List ℕ)) (i : ℕ) (d : Arc) (fine : IsInRange lts) (one : IsForkFree lts) (are : AreBlocks lts blocks) (g : IsTree lts tree)
+module _ (lts : System) (blocks : List (List ℕ)) (tree : List Arc) (rows : List (List ℕ)) (i : ℕ) (d : Arc) (fine : IsInRange lts)
+    (one : IsForkFree lts) (are : AreBlocks lts blocks) (g : IsTree lts tree)
     (c : IsSplitting lts blocks tree rows i) (lt : i < length tree) where
   pub next_has : HasArc lts (get_or tree i d).from (get_or tree i d).label (get_or tree i d).to
   next_has = tree_arcs lts (lts.initial ∷ []) tree (get_or tree i d) g (i, lt, get_or_default tree i (get_or tree i d) d lt)
@@ -77,12 +77,14 @@ module _ (lts : System) (blocks : List (List ℕ)) (tree : List Arc) (rows : Lis
 
   module _ (home : ℕ) (block : List ℕ) (at : slice_get blocks home ≡ Some block) (inside : Contains block (get_or tree i d).label) where
     pub next_leads : (q : ℕ) × HasArc lts (slice_index source_row home) (get_or tree i d).label q
-    next_leads = split_step lts one blocks (each_apart lts fine one blocks are) (get_or tree i d).from (get_or tree i d).label (get_or tree i d).to home block source_row source_splits at inside next_has
+    next_leads = split_step lts one blocks (each_apart lts fine one blocks are) (get_or tree i d).from (get_or tree i d).label
+        (get_or tree i d).to home block source_row source_splits at inside next_has
 
     pub home_state : slice_index source_row home < states lts
     home_state = let (q, step) = next_leads in (arc_in_range lts fine (slice_index source_row home) (get_or tree i d).label q step).0
 
-    pub splitting_more : (q : ℕ) (rows' : List (List ℕ)) → HasArc lts (slice_index source_row home) (get_or tree i d).label q → rows' ≡ set rows (get_or tree i d).to (slice_set source_row home q) → IsSplitting lts blocks tree rows' (i + 1)
+    pub splitting_more : (q : ℕ) (rows' : List (List ℕ)) → HasArc lts (slice_index source_row home) (get_or tree i d).label q
+        → rows' ≡ set rows (get_or tree i d).to (slice_set source_row home q) → IsSplitting lts blocks tree rows' (i + 1)
     splitting_more q rows' step made = record {
       long = ap length made ∙ length-set rows (get_or tree i d).to (slice_set source_row home q) ∙ c.long;
       right = λ s has. subst (λ xs. Splits lts blocks s (slice_index_or xs s [])) (sym made) (right s (entered_more lts tree i s d lt has) (cases_eq s (get_or tree i d).to));
@@ -94,13 +96,15 @@ module _ (lts : System) (blocks : List (List ℕ)) (tree : List Arc) (rows : Lis
         within : (get_or tree i d).to < length rows
         within = let r = (arc_in_range lts fine (get_or tree i d).from (get_or tree i d).label (get_or tree i d).to next_has).2 in let n = c.long in omega arith
 
-        right : (s : ℕ) → IsEntered lts tree i s ⊎ (s ≡ (get_or tree i d).to) → (s ≡ (get_or tree i d).to) ⊎ (s ≡ (get_or tree i d).to → ⊥) → Splits lts blocks s (slice_index_or (set rows (get_or tree i d).to (slice_set source_row home q)) s [])
+        right : (s : ℕ) → IsEntered lts tree i s ⊎ (s ≡ (get_or tree i d).to) → (s ≡ (get_or tree i d).to) ⊎ (s ≡ (get_or tree i d).to → ⊥)
+            → Splits lts blocks s (slice_index_or (set rows (get_or tree i d).to (slice_set source_row home q)) s [])
         right s had (inl e) = subst (λ k. Splits lts blocks k (slice_index_or (set rows (get_or tree i d).to (slice_set source_row home q)) k [])) (sym e)
             (subst (Splits lts blocks (get_or tree i d).to) (sym (get_or-set_same rows (get_or tree i d).to (slice_set source_row home q) [] within)) new)
         right s (inl old) (inr ne) = subst (Splits lts blocks s) (sym (get_or-set_other rows (get_or tree i d).to s (slice_set source_row home q) [] ne)) (c.right s old)
         right s (inr e) (inr ne) = absurd (ne e)
 
-pub splitting_all : (lts : System) (blocks : List (List ℕ)) (tree : List Arc) (rows : List (List ℕ)) (i : ℕ) → IsTree lts tree → IsAllReachable lts → IsSplitting lts blocks tree rows i → length tree ≤ i → (s : ℕ) → s < states lts → Splits lts blocks s (slice_index_or rows s [])
+pub splitting_all : (lts : System) (blocks : List (List ℕ)) (tree : List Arc) (rows : List (List ℕ)) (i : ℕ) → IsTree lts tree → IsAllReachable lts
+    → IsSplitting lts blocks tree rows i → length tree ≤ i → (s : ℕ) → s < states lts → Splits lts blocks s (slice_index_or rows s [])
 splitting_all lts blocks tree rows i g all c le s lt =
     c.right s (subst (λ (xs : List Arc). Contains (lts.initial ∷ map (λ a. a.to) xs) s) (sym (take_all i tree le)) (reachable_is_met lts tree s g (all.each s lt)))
 
@@ -137,12 +141,14 @@ home_not blocks i t v now lt is reads lacks before j block less at inside = by (
         let (k, within, found) = subst (λ xs. Contains xs t) same inside in
         true≢false (sym (list_any_at (λ y. nat_eq y t) now k t within (eq-eqb (get_or now k t) t found)) ∙ lacks)
 
-pub home_there : (lts : System) (blocks : List (List ℕ)) (i t : ℕ) → AreBlocks lts blocks → t < labels lts → length blocks ≤ i → ((j : ℕ) (block : List ℕ) → j < i → slice_get blocks j ≡ Some block → Contains block t → ⊥) → ⊥
+pub home_there : (lts : System) (blocks : List (List ℕ)) (i t : ℕ) → AreBlocks lts blocks → t < labels lts → length blocks ≤ i
+    → ((j : ℕ) (block : List ℕ) → j < i → slice_get blocks j ≡ Some block → Contains block t → ⊥) → ⊥
 home_there lts blocks i t are lt le none =
     let (block, (k, within, at), inside) = are.each t lt in
     none k block (omega arith) (slice_get-get_or blocks k block within ∙ ap (λ xs. Some xs) at) inside
 
 -- the row of a state, as it is read
-pub row_is : (lts : System) (ends : List (Vec ℕ Global)) (s : ℕ) (v : Vec ℕ Global) (now : List ℕ) → length (map (λ e. e.items) ends) ≡ states lts → s < states lts → v ≡ get_or ends s v → now ≡ v.items → now ≡ slice_index_or (map (λ e. e.items) ends) s []
+pub row_is : (lts : System) (ends : List (Vec ℕ Global)) (s : ℕ) (v : Vec ℕ Global) (now : List ℕ) → length (map (λ e. e.items) ends) ≡ states lts
+    → s < states lts → v ≡ get_or ends s v → now ≡ v.items → now ≡ slice_index_or (map (λ e. e.items) ends) s []
 row_is lts ends s v now long lt is reads =
     reads ∙ sym (mapped_at (λ (e : Vec ℕ Global). e.items) ends s v [] (let n = length-map ends (λ (e : Vec ℕ Global). e.items) in omega arith) is)

@@ -34,7 +34,8 @@ zip_push R [] (b ∷ ys) x y zip is = absurd zip
 zip_push R (a ∷ xs) [] x y zip is = absurd zip
 zip_push R (a ∷ xs) (b ∷ ys) x y (first, rest) is = (first, zip_push R xs ys x y rest is)
 
-pub zip_more : {A B : Type 0} (R : A → B → Type 0) (xs : List A) (ys new : List B) (i : ℕ) (x : A) (y : B) → slice_get xs i ≡ Some x → R x y → new ≡ ys ++ y ∷ [] → AllZip R (take i xs) ys → AllZip R (take (i + 1) xs) new
+pub zip_more : {A B : Type 0} (R : A → B → Type 0) (xs : List A) (ys new : List B) (i : ℕ) (x : A) (y : B) → slice_get xs i ≡ Some x → R x y
+    → new ≡ ys ++ y ∷ [] → AllZip R (take i xs) ys → AllZip R (take (i + 1) xs) new
 zip_more R xs ys new i x y at is made zip =
     let more : take (i + 1) xs ≡ take i xs ++ x ∷ [] = take_more xs i x (slice_get_within xs i x at) ∙ ap (λ z. take i xs ++ z ∷ []) (get_or_from_slice_get xs i x x at) in
     subst (AllZip R (take (i + 1) xs)) (sym made) (subst (λ l. AllZip R l (ys ++ y ∷ [])) (sym more) (zip_push R (take i xs) ys x y zip is))

@@ -65,7 +65,8 @@ pub grid_arcs : (n : ℕ) (lts : System) → IsFamilyNumber Grid n → IsOfFamil
 grid_arcs n lts (some, le) is =
     let right = moves Right n (n + 1) in
     let up = moves Up (n + 1) n in
-    let whole = arcs_long (grid n) lts (grid_is_sound n le) is (differ_append right up (moves_differ Right n (n + 1) (omega arith) (omega arith)) (moves_differ Up (n + 1) n (omega arith) (omega arith)) apart) in
+    let whole = arcs_long (grid n) lts (grid_is_sound n le) is
+    (differ_append right up (moves_differ Right n (n + 1) (omega arith) (omega arith)) (moves_differ Up (n + 1) n (omega arith) (omega arith)) apart) in
     omega (arith, whole, length-append right up, moves_long Right n (n + 1), moves_long Up (n + 1) n, mul_comm (n + 1) n)
   where
     apart : (t : Triple) → Contains (moves Right n (n + 1)) t → Contains (moves Up (n + 1) n) t → ⊥

@@ -44,7 +44,8 @@ in_three i t (suc zero, lt, e) = inr (inl e)
 in_three i t (suc (suc zero), lt, e) = inr (inr e)
 in_three i t (suc (suc (suc k)), lt, e) = absurd (omega arith)
 
-two : (i j : ℕ) (t u : Triple) → i < 500 → j < 500 → (first i ≡ t) ⊎ ((second i ≡ t) ⊎ (whole i ≡ t)) → (first j ≡ u) ⊎ ((second j ≡ u) ⊎ (whole j ≡ u)) → t.from ≡ u.from → t.label ≡ u.label → t.to ≡ u.to
+two : (i j : ℕ) (t u : Triple) → i < 500 → j < 500 → (first i ≡ t) ⊎ ((second i ≡ t) ⊎ (whole i ≡ t))
+    → (first j ≡ u) ⊎ ((second j ≡ u) ⊎ (whole j ≡ u)) → t.from ≡ u.from → t.label ≡ u.label → t.to ≡ u.to
 two i j t u li lj (inl a) (inl b) from label =
     let same = same_corner i j (omega arith) (omega arith) (ap (λ (x : Triple). x.from) a ∙ from ∙ sym (ap (λ (x : Triple). x.from) b)) in
     sym (ap (λ (x : Triple). x.to) a) ∙ ap (λ k. middle (k + 1)) same ∙ ap (λ (x : Triple). x.to) b

@@ -18,11 +18,13 @@ grid_is_reachable n lts le is = all_met (grid n) (grid_is_sound n le) lts is (λ
     met zero zero li lj = initial_met (grid n) (grid_is_sound n le) lts is
     met zero (suc j) li lj =
         let more : j + 1 ≡ suc j = omega arith in
-        let has = Contains-append_right (moves Right n (n + 1)) (moves Up (n + 1) n) (move Up 0 j) (each_has (n + 1) (λ i. row n (move Up i)) 0 (move Up 0 j) li (row_has n (move Up 0) j (omega arith))) in
+        let has = Contains-append_right (moves Right n (n + 1)) (moves Up (n + 1) n) (move Up 0 j)
+        (each_has (n + 1) (λ i. row n (move Up i)) 0 (move Up 0 j) li (row_has n (move Up 0) j (omega arith))) in
         subst (λ k. IsMet (grid n) (grid_is_sound n le) lts is (point 0 k)) more (met_more (grid n) (grid_is_sound n le) lts is (move Up 0 j) has (met zero j li (omega arith)))
     met (suc i) j li lj =
         let more : i + 1 ≡ suc i = omega arith in
-        let has = Contains-append_left (moves Right n (n + 1)) (moves Up (n + 1) n) (move Right i j) (each_has n (λ k. row (n + 1) (move Right k)) i (move Right i j) (omega arith) (row_has (n + 1) (move Right i) j lj)) in
+        let has = Contains-append_left (moves Right n (n + 1)) (moves Up (n + 1) n) (move Right i j)
+        (each_has n (λ k. row (n + 1) (move Right k)) i (move Right i j) (omega arith) (row_has (n + 1) (move Right i) j lj)) in
         subst (λ k. IsMet (grid n) (grid_is_sound n le) lts is (point k j)) more (met_more (grid n) (grid_is_sound n le) lts is (move Right i j) has (met i j (omega arith) lj))
 
 pub grid_is_fork_free : (n : ℕ) (lts : System) → n ≤ most_grid → IsSystemOf (grid n) lts → IsForkFree lts

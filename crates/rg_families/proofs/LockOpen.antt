@@ -89,7 +89,8 @@ module _ (n : ℕ) (some : 1 ≤ n) (le : n ≤ most_lock) (lts : System) (is : 
       (met_more (lock n) (lock_is_sound n some le) lts is t
       (turn_there n k users Idle t (there n users size one) (omega (arith, length-append front (Idle ∷ rest))) (get_mid front Idle rest) (zero, omega arith, refl)) met)
 
-  gets : (front rest : Users) → length (front ++ Waiting ∷ rest) ≡ n → OneHas (front ++ Waiting ∷ rest) → NoneHas (front ++ Waiting ∷ rest) → Met (front ++ Waiting ∷ rest) → Met (front ++ Critical ∷ rest)
+  gets : (front rest : Users) → length (front ++ Waiting ∷ rest) ≡ n → OneHas (front ++ Waiting ∷ rest) → NoneHas (front ++ Waiting ∷ rest)
+      → Met (front ++ Waiting ∷ rest) → Met (front ++ Critical ∷ rest)
   gets front rest size one none met =
       let users = front ++ Waiting ∷ rest in
       let k = length front in

@@ -89,7 +89,8 @@ with_from (suc n) users has =
         subst (λ l. (length l ≡ suc n) × OneHas l) r.2 (omega (arith, s.0), s.1)
 
 -- one user more
-pub with_made : (n : ℕ) (base first second third wa wb oc : List Users) → base ≡ [] → first ≡ base ++ map (◌∷◌ Idle) wa → second ≡ first ++ map (◌∷◌ Waiting) wb → third ≡ second ++ map (◌∷◌ Critical) oc
+pub with_made : (n : ℕ) (base first second third wa wb oc : List Users) → base ≡ [] → first ≡ base ++ map (◌∷◌ Idle) wa
+    → second ≡ first ++ map (◌∷◌ Waiting) wb → third ≡ second ++ map (◌∷◌ Critical) oc
     → wa ≡ with_lock n → wb ≡ with_lock n → oc ≡ without_lock n → third ≡ with_lock (n + 1)
 with_made n base first second third wa wb oc none is_first is_second is_third is_wa is_wb is_oc =
     let more : suc n ≡ n + 1 = omega arith in

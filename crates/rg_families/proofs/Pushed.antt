@@ -1,5 +1,5 @@
 -- Lists that grow as code pushes.
-use Rattle.std.proofs.Common.{◌≡◌, ℕ, zero, suc, ◌+◌, ◌<◌, List, [], ◌∷◌, ◌++◌, length, map, take, get_or, replicate, refl, sym, ap, ◌∙◌, append_assoc, arith}
+use Rattle.std.proofs.Common.{◌≡◌, ℕ, zero, suc, ◌+◌, ◌<◌, List, [], ◌∷◌, ◌++◌, length, map, take, get_or, refl, sym, ap, ◌∙◌, append_assoc, arith}
 use Rattle.std.specs.List.{flat_map}
 use Rattle.std.proofs.lemmas.List.{map-append, length-map, take_more}
 use Rattle.rg_families.proofs.Lists.{flat_last}
@@ -36,10 +36,3 @@ pub some_taken : {S X Y : Type 0} (view : S → X) (f : X → List Y) (xs : List
 some_taken view f xs k s old new lt is grown was =
     let more = ap (flat_map f) (next_taken view xs k s lt is) ∙ flat_last f (take k (map view xs)) (view s) in
     grown ∙ ap (λ l. l ++ f (view s)) was ∙ sym more
-
--- the same thing again
-pub one_again : {X : Type 0} (n : ℕ) (x : X) → replicate (n + 1) x ≡ replicate n x ++ x ∷ []
-one_again zero x = refl
-one_again (suc n) x =
-    let e : suc n + 1 ≡ suc (n + 1) = omega arith in
-    ap (λ m. replicate m x) e ∙ ap (λ l. x ∷ l) (one_again n x)

@@ -1,5 +1,5 @@
 -- What addends add up to, and what their absolute values do.
-use Rattle.std.proofs.Common.{◌≡◌, ◌≢◌, ⊎_elim, set, slice_index_or, get_or-set_other, get_or-set_same, eq-eqb, ne_eqb, ℕ, zero, suc, ◌+◌, ◌^◌, ◌<◌, ◌≤◌, ◌==◌, Bool, true, false, if◌then◌else◌, List, [], ◌∷◌, ◌++◌, map, drop, length, Option, Some, None, Ok, add-one, ap, refl, subst, sym, ◌∙◌, arith}
+use Rattle.std.proofs.Common.{◌≡◌, ◌≢◌, ⊎_elim, set, slice_index_or, get_or-set_other, get_or-set_same, eq-eqb, ne_eqb, ℕ, ◌+◌, ◌^◌, ◌<◌, ◌≤◌, ◌==◌, Bool, true, false, if◌then◌else◌, List, [], ◌∷◌, ◌++◌, map, drop, length, Option, Some, None, Ok, add-one, ap, refl, subst, sym, ◌∙◌, arith}
 use Rattle.std.specs.Prelude.{ℤ, pos, neg_ℤ, ◌+ℤ◌, ◌-ℤ◌, ◌*ℤ◌, unsigned_abs}
 use Rattle.std.proofs.lemmas.Int.{ints}
 use Rattle.std.proofs.lemmas.Bool.{cases_eq}
@@ -8,7 +8,6 @@ use Rattle.rg_cert_meaning.specs.Expression.{same_variable, coefficient_in}
 use Rattle.rg_cert_data.specs.declared.term.Term.{Term}
 use Rattle.rg_cert_data.specs.Sums.{term_of, terms_in}
 use Rattle.std.proofs.lemmas.List.{drop_all}
-use Rattle.std.proofs.lemmas.Option.{none-some}
 use Rattle.rg_integers.proofs.Ring.{ring}
 use Rattle.rg_integers.specs.Range.{InRange}
 use Rattle.rg_integers.proofs.Ranges.{in_range-neg}
@@ -19,6 +18,7 @@ use Rattle.rg_farkas.specs.declared.multiplied.Row.{Row}
 use Rattle.rg_farkas.specs.View.{size_fold, coefficient_at, row_addend}
 use Rattle.rg_farkas.specs.Addends.{addend_value, total}
 use Rattle.rg_farkas.proofs.Bounded.{fits_product, made_product, made_sum, smaller_product, coefficient_most}
+use Rattle.rg_case_parts.proofs.Counting.{term_here, none_here}
 
 abbrev pub weight : List Addend → ℕ
 weight [] = 0
@@ -84,7 +84,8 @@ weight-insert [] ys z = omega arith
 weight-insert (x ∷ xs) ys z = let rest = weight-insert xs ys z in omega (arith, rest)
 
 -- an arc more, with its multiplier
-pub total_next : (q : ℕ) (rows : List Addend) (x : ArcTimes) (done : List ArcTimes) → total (rows ++ leaving q (x ∷ done)) ≡ total (rows ++ leaving q done) +ℤ (if x.arc.from == q then x.multiplier else pos 0)
+pub total_next : (q : ℕ) (rows : List Addend) (x : ArcTimes) (done : List ArcTimes)
+    → total (rows ++ leaving q (x ∷ done)) ≡ total (rows ++ leaving q done) +ℤ (if x.arc.from == q then x.multiplier else pos 0)
 total_next q rows x done = go (x.arc.from == q)
   where
     go : (b : Bool) → total (rows ++ (if b then (number x.multiplier ∷ leaving q done) else leaving q done)) ≡ total (rows ++ leaving q done) +ℤ (if b then x.multiplier else pos 0)
@@ -117,14 +118,16 @@ rows_weight q (r ∷ rows) n t (z, (x, times, e), (more, joins, rest)) =
 -- ---- sums by state
 
 -- the sum at one index with a number more
-pub set_added : (sums : List ℤ) (i q : ℕ) (z s : ℤ) → i < length sums → s ≡ slice_index_or sums i (pos 0) +ℤ z → slice_index_or (set sums i s) q (pos 0) ≡ slice_index_or sums q (pos 0) +ℤ (if i == q then z else pos 0)
+pub set_added : (sums : List ℤ) (i q : ℕ) (z s : ℤ) → i < length sums → s ≡ slice_index_or sums i (pos 0) +ℤ z
+    → slice_index_or (set sums i s) q (pos 0) ≡ slice_index_or sums q (pos 0) +ℤ (if i == q then z else pos 0)
 set_added sums i q z s lt is = ⊎_elim same other (cases_eq i q)
   where
     none : (x : ℤ) → x ≡ x +ℤ pos 0
     none x = omega (arith, ints)
 
     same : i ≡ q → slice_index_or (set sums i s) q (pos 0) ≡ slice_index_or sums q (pos 0) +ℤ (if i == q then z else pos 0)
-    same e = ap (λ k. slice_index_or (set sums i s) k (pos 0)) (sym e) ∙ get_or-set_same sums i s (pos 0) lt ∙ is ∙ ap (λ k. slice_index_or sums k (pos 0) +ℤ z) e ∙ ap (λ b. slice_index_or sums q (pos 0) +ℤ (if b then z else pos 0)) (sym (eq-eqb i q e))
+    same e = ap (λ k. slice_index_or (set sums i s) k (pos 0)) (sym e) ∙ get_or-set_same sums i s (pos 0) lt ∙ is
+        ∙ ap (λ k. slice_index_or sums k (pos 0) +ℤ z) e ∙ ap (λ b. slice_index_or sums q (pos 0) +ℤ (if b then z else pos 0)) (sym (eq-eqb i q e))
 
     other : i ≢ q → slice_index_or (set sums i s) q (pos 0) ≡ slice_index_or sums q (pos 0) +ℤ (if i == q then z else pos 0)
     other ne = get_or-set_other sums i q s (pos 0) (λ e. ne (sym e)) ∙ none (slice_index_or sums q (pos 0)) ∙ ap (λ b. slice_index_or sums q (pos 0) +ℤ (if b then z else pos 0)) (sym (ne_eqb i q ne))
@@ -141,17 +144,6 @@ row_added q rows i r now next first lt is so_far e =
     assoc x y z = omega (arith, ints)
 
 -- ---- the terms of a row, entry by entry
-
-term_here : (entries : List (Option Term)) (i : ℕ) (t : Term) → slice_index_or entries i None ≡ Some t → terms_in (drop i entries) ≡ term_of t ∷ terms_in (drop (suc i) entries)
-term_here [] i t is = absurd (none-some t is)
-term_here (o ∷ more) zero t is = ap (λ o. terms_in (o ∷ more)) is
-term_here (o ∷ more) (suc i) t is = term_here more i t is
-
-none_here : (entries : List (Option Term)) (i : ℕ) → slice_index_or entries i None ≡ None → terms_in (drop i entries) ≡ terms_in (drop (suc i) entries)
-none_here [] zero is = refl
-none_here [] (suc i) is = refl
-none_here (o ∷ more) zero is = ap (λ o. terms_in (o ∷ more)) is
-none_here (o ∷ more) (suc i) is = none_here more i is
 
 module _ (q : ℕ) (m : ℤ) (entries : List (Option Term)) (i : ℕ) where
   abbrev left_from : ℕ → ℤ

@@ -38,9 +38,13 @@ pub record IsRowOf (s : CaseSetting) (k : KeptRow) : Type 0 where
 
 pub kept_row : (s : CaseSetting) (case : CaseSystem) (k : KeptRow) → system_fold s (Ok case) → Contains case.kept k → IsRowOf s k
 kept_row s case k (all, made, (forms, forms_made, (columns, keeps, same))) has =
-    let (name, named, fold) = made_from (λ name. row_fold s.setting name (row_expression s.lts s.class s.problem s.number [] name)) (names_of s.lts s.class s.problem s.number) all k made (kept_is (λ k. k.row) IsIdle [] all case.kept k keeps has) in
+    let (name, named, fold) = made_from (λ name. row_fold s.setting name (row_expression s.lts s.class s.problem s.number [] name))
+    (names_of s.lts s.class s.problem s.number) all k made (kept_is (λ k. k.row) IsIdle [] all case.kept k keeps has) in
     let is = name_is name fold in
-    record { named = subst (Contains (names_of s.lts s.class s.problem s.number)) (sym is) named; fold = subst (λ n. row_fold s.setting n (row_expression s.lts s.class s.problem s.number [] n) (Ok k)) (sym is) fold }
+    record {
+      named = subst (Contains (names_of s.lts s.class s.problem s.number)) (sym is) named;
+      fold = subst (λ n. row_fold s.setting n (row_expression s.lts s.class s.problem s.number [] n) (Ok k)) (sym is) fold;
+    }
   where
     name_is : (name : RowName) → row_fold s.setting name (row_expression s.lts s.class s.problem s.number [] name) (Ok k) → k.name ≡ name
     name_is name (scaled, terms, (constant, product, (is, d))) = is
@@ -50,7 +54,8 @@ kept_row s case k (all, made, (forms, forms_made, (columns, keeps, same))) has =
 -- where the used variables have the same numbers, so have the terms
 used_value : (lts : System) (x y : Variable → ℤ) (terms : List Term) → ((v : Variable) → IsUsed lts v → x v ≡ y v) → NamesUsed lts terms → value_in x terms ≡ value_in y terms
 used_value lts x y [] same used = refl
-used_value lts x y (t ∷ terms) same used = ap₂ (λ a b. (t.coefficient *ℤ a) +ℤ b) (same t.variable (All-head (λ u. IsUsed lts u.variable) t terms used)) (used_value lts x y terms same (All-tail (λ u. IsUsed lts u.variable) t terms used))
+used_value lts x y (t ∷ terms) same used = ap₂ (λ a b. (t.coefficient *ℤ a) +ℤ b)
+    (same t.variable (All-head (λ u. IsUsed lts u.variable) t terms used)) (used_value lts x y terms same (All-tail (λ u. IsUsed lts u.variable) t terms used))
 
 module _ (it : CaseSetting) (case : CaseSystem) (c : IsCaseOver it case) (live : IsLive it.lts it.problem) (x : Variable → ℤ) (keeps : KeepsEachArc it.lts x) where
   abbrev pub own_effect : ℕ → ℤ
@@ -115,5 +120,6 @@ module _ (it : CaseSetting) (case : CaseSystem) (c : IsCaseOver it case) (live :
       (value_in x (row_expression it.lts it.class it.problem it.number [] k.name).terms +ℤ ((row_expression it.lts it.class it.problem it.number [] k.name).constant *ℤ scale))
   kept_value scale k has =
       let row = kept_row it case k c.is_case has in
-      row_value_is it.setting k.name (row_expression it.lts it.class it.problem it.number [] k.name) own_start own_effect scale k c.is_basis (names_labels it.lts it.class it.problem it.number k.name c.asked row.named) no_start follows unused row.fold
+      row_value_is it.setting k.name (row_expression it.lts it.class it.problem it.number [] k.name) own_start own_effect scale k c.is_basis
+      (names_labels it.lts it.class it.problem it.number k.name c.asked row.named) no_start follows unused row.fold
       ∙ ap (λ z. k.factor.top *ℤ (z +ℤ ((row_expression it.lts it.class it.problem it.number [] k.name).constant *ℤ scale))) (sym (row_value k.name row.named))

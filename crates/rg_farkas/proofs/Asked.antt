@@ -46,7 +46,8 @@ module _ (lts : System) where
   named_names : (names : List RowName) (zs : List ℤ) → All (IsRowNameOf lts) names → All (λ (r : NamedRow). IsRowNameOf lts r.name) (named_from names zs)
   named_names [] zs all = All-nil (λ (r : NamedRow). IsRowNameOf lts r.name)
   named_names (n ∷ names) [] all = All-nil (λ (r : NamedRow). IsRowNameOf lts r.name)
-  named_names (n ∷ names) (z ∷ zs) all = All-cons (λ (r : NamedRow). IsRowNameOf lts r.name) (record { multiplier = z; name = n }) (named_from names zs) (All-head (IsRowNameOf lts) n names all) (named_names names zs (All-tail (IsRowNameOf lts) n names all))
+  named_names (n ∷ names) (z ∷ zs) all = All-cons (λ (r : NamedRow). IsRowNameOf lts r.name) (record { multiplier = z; name = n })
+      (named_from names zs) (All-head (IsRowNameOf lts) n names all) (named_names names zs (All-tail (IsRowNameOf lts) n names all))
 
   arc_names : (f : Arc → ℤ) (arcs : List Arc) → All (IsArcInRange lts) arcs → All (λ (r : NamedRow). IsRowNameOf lts r.name) (map (λ a. record { multiplier = f a; name = arc_name a }) arcs)
   arc_names f [] all = All-nil (λ (r : NamedRow). IsRowNameOf lts r.name)
@@ -61,8 +62,17 @@ module _ (lts : System) where
       → All (λ s. IsRowNameOf lts s.name) shares → leaf_fold lts tree basis expression shares (Ok rows) → All (λ (r : NamedRow). IsRowNameOf lts r.name) rows
   leaf_names tree basis expression shares rows fine names (xs, folds, (scaled, scales, (arcs, treed, (parts, parted, checked)))) =
       subst (All (λ (r : NamedRow). IsRowNameOf lts r.name)) (sym checked.2.2)
-      (not_zero_all (λ r. IsRowNameOf lts r.name) (named_from (map (λ r. r.name) shares) parts ++ map (λ a. record { multiplier = multiplier_among (chord_arcs lts tree basis ++ map (λ x. x.arc) arcs) (drop (length shares) parts) a; name = arc_name a }) lts.arcs)
-      (All-append (λ r. IsRowNameOf lts r.name) (named_from (map (λ r. r.name) shares) parts) (map (λ a. record { multiplier = multiplier_among (chord_arcs lts tree basis ++ map (λ x. x.arc) arcs) (drop (length shares) parts) a; name = arc_name a }) lts.arcs)
+      (not_zero_all (λ r. IsRowNameOf lts r.name)
+      (named_from (map (λ r. r.name) shares) parts
+      ++ map (λ a. record {
+        multiplier = multiplier_among (chord_arcs lts tree basis ++ map (λ x. x.arc) arcs) (drop (length shares) parts) a;
+        name = arc_name a;
+      }) lts.arcs)
+      (All-append (λ r. IsRowNameOf lts r.name) (named_from (map (λ r. r.name) shares) parts)
+      (map (λ a. record {
+        multiplier = multiplier_among (chord_arcs lts tree basis ++ map (λ x. x.arc) arcs) (drop (length shares) parts) a;
+        name = arc_name a;
+      }) lts.arcs)
       (named_names (map (λ r. r.name) shares) parts (All-map (IsRowNameOf lts) (λ r. r.name) shares names))
       (arc_names (multiplier_among (chord_arcs lts tree basis ++ map (λ x. x.arc) arcs) (drop (length shares) parts)) lts.arcs fine.arcs)))
 

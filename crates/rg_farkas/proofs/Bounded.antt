@@ -26,7 +26,14 @@ fits_product x y range = (record { left = range; right = omega arith; difference
     same p = omega (arith, ints)
 
 fits_sum : (m n : ℕ) → m + n < 2 ^ 127 → whole_sum (pos m) (pos n) (Ok (pos (m + n)))
-fits_sum m n lt = (record { left = subst InRange (one m) (omega arith); right = subst InRange (other n) (in_range-neg (pos n) (omega arith)); difference = subst InRange (whole m n) (omega arith) }, whole m n)
+fits_sum m n lt = (
+  record {
+    left = subst InRange (one m) (omega arith);
+    right = subst InRange (other n) (in_range-neg (pos n) (omega arith));
+    difference = subst InRange (whole m n) (omega arith);
+  },
+  whole m n,
+)
   where
     one : (m : ℕ) → pos m ≡ pos m *ℤ pos 1
     one m = omega (arith, ints)
@@ -114,7 +121,8 @@ each_has make (a ∷ items) has =
 pub all_summed : (rows : List Row) (t : ℤ) → further whole_sum (size_fold (λ r. pos 3)) (pos 0) rows (Ok t) → (variables : List Variable)
     → (sums : List ℤ) × each (λ v. further whole_sum (size_fold (coefficient_at v)) (pos 0) rows) variables (Ok sums)
 all_summed rows t most variables = each_has (λ v. further whole_sum (size_fold (coefficient_at v)) (pos 0) rows) variables
-    (λ v. smaller_sum (coefficient_at v) (λ r. pos 3) rows (λ r has. subst (λ n. unsigned_abs (coefficient_at v r) ≤ n) r.expression.places (coefficient_most r.expression.terms v)) 0 0 t (omega arith) most)
+    (λ v. smaller_sum (coefficient_at v) (λ r. pos 3) rows
+    (λ r has. subst (λ n. unsigned_abs (coefficient_at v r) ≤ n) r.expression.places (coefficient_most r.expression.terms v)) 0 0 t (omega arith) most)
 
 -- a result that is Ok
 pub all_summed_where : (rows : List Row) (r : Result ℤ Wide) → further whole_sum (size_fold (λ r. pos 3)) (pos 0) rows r → Rattle.std.specs.Result.is_ok r ≡ true → (variables : List Variable)

@@ -2,7 +2,6 @@
 use Rattle.std.proofs.Common.{drop, ◌≡◌, ◌≢◌, ⊎_elim, inl, inr, ℕ, suc, ◌+◌, ◌-◌, ◌<◌, ◌≤◌, ◌==◌, ◌&&◌, not, nat_lt, Bool, true, false, if◌then◌else◌, List, [], ◌∷◌, map, filter, length, Contains, All, Result, Ok, Err, ap, ap₂, refl, subst, sym, ◌∙◌, arith, eq-eqb, ne_eqb}
 use Rattle.std.specs.Prelude.{ℤ, pos, neg_ℤ, slice_index, slice_index_or}
 use Rattle.std.specs.Ordering.{int_eq}
-use Rattle.std.proofs.lemmas.Int.{ints}
 use Rattle.std.proofs.lemmas.Bool.{cases_Bool, cases_eq, cases_lt, false≢true}
 use Rattle.std.proofs.lemmas.Bool.Decides.{Decides-int_eq}
 use Rattle.rg_linear.specs.Dictionary.{Relation as LinearRelation}
@@ -42,15 +41,19 @@ use Rattle.rg_farkas.proofs.Distinct.{kept_rises}
 -- the pairs of members, found by the index of the vector
 module _ (labels : ℕ) (kept : List ℕ) (k : LinearRelation) (c : ℕ) (rises : (i j : ℕ) → i < j → j < length kept → slice_index kept i < slice_index kept j) (within : c < length kept) where
   other_index : (m : ℕ) → labels ≤ m → m - labels < length kept → m ≢ labels + c → (slice_index kept (m - labels) == slice_index kept c) ≡ false
-  other_index m le lt ne = ne_eqb (slice_index kept (m - labels)) (slice_index kept c) (⊎_elim (λ below. (let h = rises (m - labels) c below within in λ e. omega arith)) (λ past. (let h = rises c (m - labels) (omega arith) lt in λ e. omega arith)) (cases_lt (m - labels) c))
+  other_index m le lt ne = ne_eqb (slice_index kept (m - labels)) (slice_index kept c)
+      (⊎_elim (λ below. (let h = rises (m - labels) c below within in λ e. omega arith))
+      (λ past. (let h = rises c (m - labels) (omega arith) lt in λ e. omega arith)) (cases_lt (m - labels) c))
 
-  number_found : (ms : List ℕ) → ((m : ℕ) → Contains ms m → (labels ≤ m) × (m - labels < length kept)) → Contains ms (labels + c) → number_with (map (λ m. (slice_index kept (m - labels), k.coefficient m)) ms) (slice_index kept c) ≡ k.coefficient (labels + c)
+  number_found : (ms : List ℕ) → ((m : ℕ) → Contains ms m → (labels ≤ m) × (m - labels < length kept)) → Contains ms (labels + c)
+      → number_with (map (λ m. (slice_index kept (m - labels), k.coefficient m)) ms) (slice_index kept c) ≡ k.coefficient (labels + c)
   number_found [] all has = absurd (nothing has)
     where
       nothing : Contains [] (labels + c) → ⊥
       nothing (i, lt, e) = omega arith
   number_found (m ∷ ms) all has = ⊎_elim
-      (λ same. ap (λ b. if b then k.coefficient m else number_with (map (λ u. (slice_index kept (u - labels), k.coefficient u)) ms) (slice_index kept c)) (eq-eqb (slice_index kept (m - labels)) (slice_index kept c) (ap (slice_index kept) (index same))) ∙ ap k.coefficient same)
+      (λ same. ap (λ b. if b then k.coefficient m else number_with (map (λ u. (slice_index kept (u - labels), k.coefficient u)) ms)
+      (slice_index kept c)) (eq-eqb (slice_index kept (m - labels)) (slice_index kept c) (ap (slice_index kept) (index same))) ∙ ap k.coefficient same)
       (λ differ. ap (λ b. if b then k.coefficient m else number_with (map (λ u. (slice_index kept (u - labels), k.coefficient u)) ms) (slice_index kept c))
       (other_index m (all m (0, omega arith, refl)).0 (all m (0, omega arith, refl)).1 differ) ∙ number_found ms (λ u (i, lt, e). all u (suc i, omega arith, e))
       (⊎_elim (λ e. absurd (differ e)) (λ there. there) (Contains-cons_cases m (labels + c) ms has)))
@@ -59,7 +62,8 @@ module _ (labels : ℕ) (kept : List ℕ) (k : LinearRelation) (c : ℕ) (rises 
       index : m ≡ labels + c → m - labels ≡ c
       index e = omega arith
 
-  number_missing : (ms : List ℕ) → ((m : ℕ) → Contains ms m → (labels ≤ m) × (m - labels < length kept)) → ¬ Contains ms (labels + c) → number_with (map (λ m. (slice_index kept (m - labels), k.coefficient m)) ms) (slice_index kept c) ≡ pos 0
+  number_missing : (ms : List ℕ) → ((m : ℕ) → Contains ms m → (labels ≤ m) × (m - labels < length kept)) → ¬ Contains ms (labels + c)
+      → number_with (map (λ m. (slice_index kept (m - labels), k.coefficient m)) ms) (slice_index kept c) ≡ pos 0
   number_missing [] all lacks = refl
   number_missing (m ∷ ms) all lacks = ap (λ b. if b then k.coefficient m else number_with (map (λ u. (slice_index kept (u - labels), k.coefficient u)) ms)
       (slice_index kept c)) (other_index m (all m (0, omega arith, refl)).0 (all m (0, omega arith, refl)).1 (λ e. lacks (0, omega arith, e)))
@@ -72,7 +76,9 @@ pub chord_number_is : (labels : ℕ) (vectors : List (List ℤ)) (cycle : CycleB
 chord_number_is labels vectors cycle t c r basis shows lt member =
     ap (λ l. number_with l (slice_index cycle.kept c)) shows.chords
     ∙ ⊎_elim
-    (λ zero. number_missing labels cycle.kept (cycle.relation t) c rises lt (filter test cycle.members) all (λ has. absurd (false≢true (sym (unused zero) ∙ (filter_from test cycle.members (labels + c) has).1))) ∙ sym ((Decides-int_eq ((cycle.relation t).coefficient (labels + c)) (pos 0)).0 zero))
+    (λ zero. number_missing labels cycle.kept (cycle.relation t) c rises lt (filter test cycle.members) all
+    (λ has. absurd (false≢true (sym (unused zero) ∙ (filter_from test cycle.members (labels + c) has).1)))
+    ∙ sym ((Decides-int_eq ((cycle.relation t).coefficient (labels + c)) (pos 0)).0 zero))
     (λ other. number_found labels cycle.kept (cycle.relation t) c rises lt (filter test cycle.members) all (filter_has test cycle.members (labels + c) member (used other)))
     (cases_Bool (int_eq ((cycle.relation t).coefficient (labels + c)) (pos 0)))
   where
@@ -110,14 +116,13 @@ number_in_range (p ∷ pairs) c all = go (p.0 == c) (number_in_range pairs c (λ
 
 -- ---- what a count gives a chord
 
-one_differs : pos 1 ≢ pos 0
-one_differs e = omega (arith, ints)
-
 -- the multiplier times the count
 product_made : (k : LabelCount) (multiplier count : Fraction) → k.multiplier ≡ ratio_of multiplier → ratio_of count ≡ whole k.count → (r : Result Fraction Wide)
     → IsProduct (numerator_of multiplier) (denominator_of multiplier) (numerator_of count) (denominator_of count) r
     → mul k.multiplier (whole k.count) (shown_result ratio_of r)
-product_made k multiplier count is whole_count r told = subst (λ f. mul f (whole k.count) (shown_result ratio_of r)) (sym is) (subst (λ f. mul (ratio_of multiplier) f (shown_result ratio_of r)) whole_count (mul_step multiplier count r told))
+product_made k multiplier count is whole_count r told =
+    subst (λ f. mul f (whole k.count) (shown_result ratio_of r)) (sym is)
+    (subst (λ f. mul (ratio_of multiplier) f (shown_result ratio_of r)) whole_count (mul_step multiplier count r told))
 
 pub count_first : (cycle : CycleBasis) (c : ℕ) (k : LabelCount) (multiplier count : Fraction) → k.multiplier ≡ ratio_of multiplier → ratio_of count ≡ whole k.count
     → (w : Wide) → IsProduct (numerator_of multiplier) (denominator_of multiplier) (numerator_of count) (denominator_of count) (Err w) → count_fold cycle c k (Err w)
@@ -136,8 +141,10 @@ module _ (cycle : CycleBasis) (c : ℕ) (k : LabelCount) (multiplier count numbe
   count_made f (Err w) told told' = inr (ratio_of f, product_made k multiplier count is whole_count (Ok f) told, inr (ratio_of number, second, mul_step f number (Err w) told'))
 
 -- a count of 0 gives nothing, nor does a number of 0 whose product is in range
-module _ (cycle : CycleBasis) (c : ℕ) (k : LabelCount) (multiplier none : Fraction) (n d : ℤ) (is : k.multiplier ≡ ratio_of multiplier) (value : IsValue none (pos 0) (pos 1)) (nonzero : d ≢ pos 0) (same_n : n ≡ (cycle.relation k.label).coefficient c) (same_d : d ≡ (cycle.relation k.label).d) where
-  times_number : (x : Ratio) → and_then (quotient n d) (mul x) (Ok (whole (pos 0))) → and_then (quotient ((cycle.relation k.label).coefficient c) (cycle.relation k.label).d) (λ y. mul x y) (Ok (ratio_of none))
+module _ (cycle : CycleBasis) (c : ℕ) (k : LabelCount) (multiplier none : Fraction) (n d : ℤ) (is : k.multiplier ≡ ratio_of multiplier)
+    (value : IsValue none (pos 0) (pos 1)) (nonzero : d ≢ pos 0) (same_n : n ≡ (cycle.relation k.label).coefficient c) (same_d : d ≡ (cycle.relation k.label).d) where
+  times_number : (x : Ratio) → and_then (quotient n d) (mul x) (Ok (whole (pos 0)))
+      → and_then (quotient ((cycle.relation k.label).coefficient c) (cycle.relation k.label).d) (λ y. mul x y) (Ok (ratio_of none))
   times_number x h = subst (λ z. and_then (quotient z (cycle.relation k.label).d) (λ y. mul x y) (Ok (ratio_of none))) same_n
       (subst (λ z. and_then (quotient n z) (λ y. mul x y) (Ok (ratio_of none))) same_d
       (subst (λ r. and_then (quotient n d) (λ y. mul x y) (Ok r)) (sym (whole_is none (pos 0) value)) h))
@@ -149,7 +156,9 @@ module _ (cycle : CycleBasis) (c : ℕ) (k : LabelCount) (multiplier none : Frac
     times_number (whole (pos 0)) (count_adds_nothing n d nonzero hn hd),
   )
 
-  pub no_number : (count f : Fraction) → ratio_of count ≡ whole k.count → IsProduct (numerator_of multiplier) (denominator_of multiplier) (numerator_of count) (denominator_of count) (Ok f) → n ≡ pos 0 → count_fold cycle c k (Ok (ratio_of none))
+  pub no_number : (count f : Fraction) → ratio_of count ≡ whole k.count
+      → IsProduct (numerator_of multiplier) (denominator_of multiplier) (numerator_of count) (denominator_of count) (Ok f) → n ≡ pos 0
+      → count_fold cycle c k (Ok (ratio_of none))
   no_number count f whole_count told e = (ratio_of f, product_made k multiplier count is whole_count (Ok f) told, times_number (ratio_of f) (number_adds_nothing n d f nonzero e))
 
 -- the opposite fraction is the negated one
@@ -169,9 +178,11 @@ module _ (cycle : CycleBasis) (counts : List LabelCount) (c : ℕ) where
 
 -- ---- the chords that the basis uses
 
-pub used_at : (lts : System) (basis : CycleBasis) (used : List ℕ) (i : ℕ) → used ≡ used_chords lts basis → i < length used → (slice_index used i < length basis.kept) × Contains basis.members (labels lts + slice_index used i)
+pub used_at : (lts : System) (basis : CycleBasis) (used : List ℕ) (i : ℕ) → used ≡ used_chords lts basis → i < length used
+    → (slice_index used i < length basis.kept) × Contains basis.members (labels lts + slice_index used i)
 used_at lts basis used i e lt =
-    let (test, _, below) = where_is (λ c. is_in basis.members (labels lts + c)) 0 (length basis.kept) (slice_index used i) (subst (λ l. Contains l (slice_index used i)) e (Contains-get_or used i 0 lt)) in
+    let (test, _, below) = where_is (λ c. is_in basis.members (labels lts + c)) 0 (length basis.kept) (slice_index used i)
+    (subst (λ l. Contains l (slice_index used i)) e (Contains-get_or used i 0 lt)) in
     (omega arith, in_has basis.members (labels lts + slice_index used i) test)
 
 pub all_used : (lts : System) (basis : CycleBasis) (used : List ℕ) → used ≡ used_chords lts basis → All (λ c. (c < length basis.kept) × Contains basis.members (labels lts + c)) used
@@ -192,7 +203,9 @@ module _ (P : LabelCount → Type 0) (counts : List Counted) (first : Counted) (
   first_count = All-head P (counted_of first) (map counted_of rest) (subst (λ l. All P (map counted_of l)) parts all)
 
   pub rest_count : (i : ℕ) (d : Counted) → i < length rest → d ≡ slice_index_or rest i d → P (counted_of d)
-  rest_count i d lt is = subst (λ x. P (counted_of x)) (sym is) (subst P (get_or-map counted_of rest i d (counted_of d) lt) (All-tail P (counted_of first) (map counted_of rest) (subst (λ l. All P (map counted_of l)) parts all) i (counted_of d) (simp length-map lt)))
+  rest_count i d lt is = subst (λ x. P (counted_of x)) (sym is)
+      (subst P (get_or-map counted_of rest i d (counted_of d) lt)
+      (All-tail P (counted_of first) (map counted_of rest) (subst (λ l. All P (map counted_of l)) parts all) i (counted_of d) (simp length-map lt)))
 
 module _ (fold : LabelCount → Result Ratio Wide → Type 0) (counts : List Counted) where
   pub no_counts : (f : Fraction) → length counts ≡ 0 → IsValue f (pos 0) (pos 1) → joined add fold (whole (pos 0)) (map counted_of counts) (Ok (ratio_of f))
@@ -206,7 +219,8 @@ module _ (fold : LabelCount → Result Ratio Wide → Type 0) (counts : List Cou
     first_made x made (Ok y) h = subst (λ l. joined add fold (whole (pos 0)) (map counted_of l) (Ok y)) (sym parts) (x, made, h)
     first_made x made (Err w) h = subst (λ l. joined add fold (whole (pos 0)) (map counted_of l) (Err w)) (sym parts) (inr (x, made, h))
 
-  module _ (rest : List Counted) (i : ℕ) (d : Counted) (lt : i < length rest) (is : d ≡ slice_index_or rest i d) (sum : Ratio) (so_far : (r : Result Ratio Wide) → further add fold sum (drop i (map counted_of rest)) r → joined add fold (whole (pos 0)) (map counted_of counts) r) where
+  module _ (rest : List Counted) (i : ℕ) (d : Counted) (lt : i < length rest) (is : d ≡ slice_index_or rest i d) (sum : Ratio)
+      (so_far : (r : Result Ratio Wide) → further add fold sum (drop i (map counted_of rest)) r → joined add fold (whole (pos 0)) (map counted_of counts) r) where
     item : counted_of d ≡ slice_index_or (map counted_of rest) i (counted_of d)
     item = ap counted_of is ∙ sym (get_or-map counted_of rest i d (counted_of d) lt)
 
@@ -217,10 +231,15 @@ module _ (fold : LabelCount → Result Ratio Wide → Type 0) (counts : List Cou
     next_fails w made = sum_unmade add fold (map counted_of rest) i (counted_of d) lt' sum (joined add fold (whole (pos 0)) (map counted_of counts)) so_far w (subst (λ k. fold k (Err w)) item made)
 
     pub next_unjoined : (x : Ratio) (w : Wide) → fold (counted_of d) (Ok x) → add sum x (Err w) → joined add fold (whole (pos 0)) (map counted_of counts) (Err w)
-    next_unjoined x w made joins = sum_unjoined add fold (map counted_of rest) i (counted_of d) lt' sum (joined add fold (whole (pos 0)) (map counted_of counts)) so_far x w (subst (λ k. fold k (Ok x)) item made) joins
+    next_unjoined x w made joins = sum_unjoined add fold (map counted_of rest) i (counted_of d) lt' sum
+        (joined add fold (whole (pos 0)) (map counted_of counts)) so_far x w (subst (λ k. fold k (Ok x)) item made) joins
 
-    pub next_made : (x more : Ratio) → fold (counted_of d) (Ok x) → add sum x (Ok more) → (r : Result Ratio Wide) → further add fold more (drop (i + 1) (map counted_of rest)) r → joined add fold (whole (pos 0)) (map counted_of counts) r
-    next_made x more made joins = sum_next add fold (map counted_of rest) i (counted_of d) lt' sum (joined add fold (whole (pos 0)) (map counted_of counts)) so_far x more (subst (λ k. fold k (Ok x)) item made) joins
+    pub next_made : (x more : Ratio) → fold (counted_of d) (Ok x) → add sum x (Ok more) → (r : Result Ratio Wide)
+        → further add fold more (drop (i + 1) (map counted_of rest)) r → joined add fold (whole (pos 0)) (map counted_of counts) r
+    next_made x more made joins = sum_next add fold (map counted_of rest) i (counted_of d) lt' sum
+        (joined add fold (whole (pos 0)) (map counted_of counts)) so_far x more (subst (λ k. fold k (Ok x)) item made) joins
 
-  pub counts_end : (rest : List Counted) (i : ℕ) (sum : Ratio) → ((r : Result Ratio Wide) → further add fold sum (drop i (map counted_of rest)) r → joined add fold (whole (pos 0)) (map counted_of counts) r) → length rest ≤ i → joined add fold (whole (pos 0)) (map counted_of counts) (Ok sum)
+  pub counts_end : (rest : List Counted) (i : ℕ) (sum : Ratio)
+      → ((r : Result Ratio Wide) → further add fold sum (drop i (map counted_of rest)) r → joined add fold (whole (pos 0)) (map counted_of counts) r)
+      → length rest ≤ i → joined add fold (whole (pos 0)) (map counted_of counts) (Ok sum)
   counts_end rest i sum so_far past = sum_ends add fold (map counted_of rest) i sum (joined add fold (whole (pos 0)) (map counted_of counts)) so_far (simp length-map past)

@@ -46,18 +46,21 @@ are_shares m (s ∷ shares) (here, d) = (refl, sym (whole_in_over m s.multiplier
 
 pub divides_share : (m : ℤ) (shares : List Share) (s : Share) → AllDivide (map (λ r. r.bottom) (map (λ s. s.multiplier) shares)) m → Contains shares s → Divides s.multiplier.bottom m
 divides_share m [] s d (k, lt, e) = absurd (omega arith)
-divides_share m (r ∷ shares) s (here, d) has = ⊎_elim (λ e. subst (λ (u : Share). Divides u.multiplier.bottom m) e here) (λ there. divides_share m shares s d there) (Contains-cons_cases r s shares has)
+divides_share m (r ∷ shares) s (here, d) has =
+    ⊎_elim (λ e. subst (λ (u : Share). Divides u.multiplier.bottom m) e here) (λ there. divides_share m shares s d there) (Contains-cons_cases r s shares has)
 
 -- ---- sums over pairs of rows and labels
 
 pub pairs_sum : (f : Pair → ℤ) (shares : List Share) (ts : List ℕ) → sum_over f (pairs_of shares ts) ≡ sum_over (λ s. sum_over (λ t. f (record { share = s; label = t })) ts) shares
 pairs_sum f [] ts = refl
-pairs_sum f (s ∷ shares) ts = sum_over-append f (map (λ t. record { share = s; label = t }) ts) (pairs_of shares ts) ∙ ap₂ ◌+ℤ◌ (sum_over-map f (λ t. record { share = s; label = t }) ts) (pairs_sum f shares ts)
+pairs_sum f (s ∷ shares) ts = sum_over-append f (map (λ t. record { share = s; label = t }) ts) (pairs_of shares ts)
+    ∙ ap₂ ◌+ℤ◌ (sum_over-map f (λ t. record { share = s; label = t }) ts) (pairs_sum f shares ts)
 
 pub in_pairs : (shares : List Share) (ts : List ℕ) (p : Pair) → Contains (pairs_of shares ts) p → Contains shares p.share × Contains ts p.label
 in_pairs [] ts p (k, lt, e) = absurd (omega arith)
 in_pairs (s ∷ shares) ts p has = ⊎_elim
-    (λ here. (let (t, has', e) = Contains-of_map (λ t. record { share = s; label = t }) ts p here in ((0, omega arith, ap (λ (q : Pair). q.share) e), subst (Contains ts) (ap (λ (q : Pair). q.label) e) has')))
+    (λ here. (let (t, has', e) = Contains-of_map (λ t. record { share = s; label = t }) ts p here in
+    ((0, omega arith, ap (λ (q : Pair). q.share) e), subst (Contains ts) (ap (λ (q : Pair). q.label) e) has')))
     (λ there. (let ((k, lt, e), has') = in_pairs shares ts p there in ((suc k, omega arith, e), has')))
     (Contains-append_cases (map (λ t. record { share = s; label = t }) ts) (pairs_of shares ts) p has)
 
@@ -68,15 +71,20 @@ further_bottom : {A : Type 0} (make : A → Result Ratio Wide → Type 0) (f h :
 further_bottom make f h [] p e = subst (λ (r : Ratio). pos 0 <ℤ r.bottom) (sym e) p
 further_bottom make f h (a ∷ items) p (k, made, (g, (_, _, added), rest)) = further_bottom make g h items added.positive rest
 
-joined_bottom : {A : Type 0} (make : A → Result Ratio Wide → Type 0) (h : Ratio) (items : List A) → ((a : A) (k : Ratio) → make a (Ok k) → pos 0 <ℤ k.bottom) → joined add make (whole (pos 0)) items (Ok h) → pos 0 <ℤ h.bottom
+joined_bottom : {A : Type 0} (make : A → Result Ratio Wide → Type 0) (h : Ratio) (items : List A)
+    → ((a : A) (k : Ratio) → make a (Ok k) → pos 0 <ℤ k.bottom) → joined add make (whole (pos 0)) items (Ok h) → pos 0 <ℤ h.bottom
 joined_bottom make h [] made e = subst (λ (r : Ratio). pos 0 <ℤ r.bottom) (sym e) (omega (arith, ints))
 joined_bottom make h (a ∷ items) made (k, is, rest) = further_bottom make k h items (made a k is) rest
 
 pair_bottom : (tree : List Arc) (basis : CycleBasis) (expression : RowName → Expression) (c : ℕ) (p : Pair) (k : Ratio) → pair_fold tree basis expression c p (Ok k) → pos 0 <ℤ k.bottom
 pair_bottom tree basis expression c p k (x, first, (q, is, (_, _, r))) = r.positive
 
-pub chord_bottom : (lts : System) (tree : List Arc) (basis : CycleBasis) (expression : RowName → Expression) (shares : List Share) (c : ℕ) (x : Ratio) → chord_fold lts tree basis expression shares c (Ok x) → pos 0 <ℤ x.bottom
-chord_bottom lts tree basis expression shares c x (h, sum, e) = subst (λ (r : Ratio). pos 0 <ℤ r.bottom) (sym e) (joined_bottom (pair_fold tree basis expression (labels lts + c)) h (pairs_of shares (dependent_labels (labels lts) basis)) (pair_bottom tree basis expression (labels lts + c)) sum)
+pub chord_bottom : (lts : System) (tree : List Arc) (basis : CycleBasis) (expression : RowName → Expression) (shares : List Share) (c : ℕ)
+    (x : Ratio) → chord_fold lts tree basis expression shares c (Ok x) → pos 0 <ℤ x.bottom
+chord_bottom lts tree basis expression shares c x (h, sum, e) =
+    subst (λ (r : Ratio). pos 0 <ℤ r.bottom) (sym e)
+    (joined_bottom (pair_fold tree basis expression (labels lts + c)) h (pairs_of shares (dependent_labels (labels lts) basis))
+    (pair_bottom tree basis expression (labels lts + c)) sum)
 
 module _ (lts : System) (tree : List Arc) (basis : CycleBasis) (expression : RowName → Expression) (shares : List Share) (m b : ℤ) (part : ℕ → ℤ)
     (divides : AllDivide (map (λ r. r.bottom) (map (λ s. s.multiplier) shares)) m)
@@ -88,14 +96,17 @@ module _ (lts : System) (tree : List Arc) (basis : CycleBasis) (expression : Row
   abbrev pub chord_value : ℕ → ℤ
   chord_value c = sum_over (pair_value c) (pairs_of shares (dependent_labels (labels lts) basis))
 
-  pair_over : (c : ℕ) (p : Pair) (k : Ratio) → Contains (pairs_of shares (dependent_labels (labels lts) basis)) p → pair_fold tree basis expression (labels lts + c) p (Ok k) → IsOver ((m *ℤ pos 1) *ℤ b) k (pair_value c p)
+  pair_over : (c : ℕ) (p : Pair) (k : Ratio) → Contains (pairs_of shares (dependent_labels (labels lts) basis)) p
+      → pair_fold tree basis expression (labels lts + c) p (Ok k) → IsOver ((m *ℤ pos 1) *ℤ b) k (pair_value c p)
   pair_over c p k has (x, first, (q, is, second)) =
       let (has_share, has_label) = in_pairs shares (dependent_labels (labels lts) basis) p has in
-      product_over (m *ℤ pos 1) b x q k (whole_in m p.share.multiplier *ℤ count_of tree (expression p.share.name).terms p.label) ((basis.relation p.label).coefficient (labels lts + c) *ℤ part p.label) second
+      product_over (m *ℤ pos 1) b x q k (whole_in m p.share.multiplier *ℤ count_of tree (expression p.share.name).terms p.label)
+      ((basis.relation p.label).coefficient (labels lts + c) *ℤ part p.label) second
       (product_over m (pos 1) p.share.multiplier (whole (count_of tree (expression p.share.name).terms p.label)) x (whole_in m p.share.multiplier)
       (count_of tree (expression p.share.name).terms p.label) first (whole_in_over m p.share.multiplier (divides_share m shares p.share divides has_share))
       (whole_over_one (count_of tree (expression p.share.name).terms p.label)))
-      (subst (λ z. IsOver z q ((basis.relation p.label).coefficient (labels lts + c) *ℤ part p.label)) (sym (exact p.label has_label)) (quotient_over ((basis.relation p.label).coefficient (labels lts + c)) (basis.relation p.label).d (part p.label) q is))
+      (subst (λ z. IsOver z q ((basis.relation p.label).coefficient (labels lts + c) *ℤ part p.label)) (sym (exact p.label has_label))
+      (quotient_over ((basis.relation p.label).coefficient (labels lts + c)) (basis.relation p.label).d (part p.label) q is))
 
   one_chord : (c : ℕ) (x : Ratio) → chord_fold lts tree basis expression shares c (Ok x) → Divides x.bottom m → whole_in m x *ℤ b ≡ neg_ℤ (chord_value c)
   one_chord c x fold d = go fold
@@ -120,7 +131,8 @@ module _ (lts : System) (tree : List Arc) (basis : CycleBasis) (expression : Row
 
   -- the chords with their multipliers, at what g says of each
   pub chords_sum : (g : Arc → ℤ) (cs : List ℕ) (xs : List Ratio) → each (chord_fold lts tree basis expression shares) cs (Ok xs) → AllDivide (map (λ r. r.bottom) xs) m
-      → sum_over (λ r. r.multiplier *ℤ g r.arc) (arc_times (map (used_chord lts tree basis) cs) (map (whole_in m) xs)) *ℤ b ≡ neg_ℤ (sum_over (λ c. g (used_chord lts tree basis c) *ℤ chord_value c) cs)
+      → sum_over (λ r. r.multiplier *ℤ g r.arc) (arc_times (map (used_chord lts tree basis) cs) (map (whole_in m) xs)) *ℤ b
+      ≡ neg_ℤ (sum_over (λ c. g (used_chord lts tree basis c) *ℤ chord_value c) cs)
   chords_sum g [] xs e d = none b
     where
       none : (b : ℤ) → pos 0 *ℤ b ≡ neg_ℤ (pos 0)
@@ -149,20 +161,31 @@ module _ (lts : System) (tree : List Arc) (basis : CycleBasis) (expression : Row
 
   -- what the labels that are not free give, row by row and chord by chord
   both_ways : (is : IsBasis lts tree basis) (effect : ℕ → ℤ)
-      → sum_over (λ s. whole_in m s.multiplier *ℤ sum_over (λ t. count_of tree (expression s.name).terms t *ℤ (part t *ℤ chords_at lts tree basis is effect t)) (dependent_labels (labels lts) basis)) shares
+      → sum_over (λ s. whole_in m s.multiplier *ℤ sum_over
+      (λ t. count_of tree (expression s.name).terms t *ℤ (part t *ℤ chords_at lts tree basis is effect t)) (dependent_labels (labels lts) basis)) shares
       ≡ sum_over (λ c. chord_sum lts tree effect (used_chord lts tree basis c) *ℤ chord_value c) (used_chords lts basis)
   both_ways is effect =
-      sum_over-same _ _ shares (λ s has. sym (sum_over-times (whole_in m s.multiplier) (λ t. count_of tree (expression s.name).terms t *ℤ (part t *ℤ chords_at lts tree basis is effect t)) (dependent_labels (labels lts) basis)))
-      ∙ sym (pairs_sum (λ p. whole_in m p.share.multiplier *ℤ (count_of tree (expression p.share.name).terms p.label *ℤ (part p.label *ℤ chords_at lts tree basis is effect p.label))) shares (dependent_labels (labels lts) basis))
-      ∙ sum_over-same _ (λ p. sum_over (λ c. chord_sum lts tree effect (used_chord lts tree basis c) *ℤ pair_value c p) (used_chords lts basis)) (pairs_of shares (dependent_labels (labels lts) basis)) (λ p has. one p)
+      sum_over-same _ _ shares (λ s has. sym (sum_over-times (whole_in m s.multiplier)
+      (λ t. count_of tree (expression s.name).terms t *ℤ (part t *ℤ chords_at lts tree basis is effect t)) (dependent_labels (labels lts) basis)))
+      ∙ sym (pairs_sum (λ p. whole_in m p.share.multiplier
+      *ℤ (count_of tree (expression p.share.name).terms p.label *ℤ (part p.label *ℤ chords_at lts tree basis is effect p.label))) shares
+      (dependent_labels (labels lts) basis))
+      ∙ sum_over-same _ (λ p. sum_over (λ c. chord_sum lts tree effect (used_chord lts tree basis c) *ℤ pair_value c p) (used_chords lts basis))
+      (pairs_of shares (dependent_labels (labels lts) basis)) (λ p has. one p)
       ∙ sum_over-swap (λ p c. chord_sum lts tree effect (used_chord lts tree basis c) *ℤ pair_value c p) (pairs_of shares (dependent_labels (labels lts) basis)) (used_chords lts basis)
-      ∙ sum_over-same _ _ (used_chords lts basis) (λ c has. sum_over-times (chord_sum lts tree effect (used_chord lts tree basis c)) (pair_value c) (pairs_of shares (dependent_labels (labels lts) basis)))
+      ∙ sum_over-same _ _ (used_chords lts basis)
+      (λ c has. sum_over-times (chord_sum lts tree effect (used_chord lts tree basis c)) (pair_value c) (pairs_of shares (dependent_labels (labels lts) basis)))
     where
-      one : (p : Pair) → whole_in m p.share.multiplier *ℤ (count_of tree (expression p.share.name).terms p.label *ℤ (part p.label *ℤ chords_at lts tree basis is effect p.label)) ≡ sum_over (λ c. chord_sum lts tree effect (used_chord lts tree basis c) *ℤ pair_value c p) (used_chords lts basis)
+      one : (p : Pair) → whole_in m p.share.multiplier
+          *ℤ (count_of tree (expression p.share.name).terms p.label *ℤ (part p.label *ℤ chords_at lts tree basis is effect p.label))
+          ≡ sum_over (λ c. chord_sum lts tree effect (used_chord lts tree basis c) *ℤ pair_value c p) (used_chords lts basis)
       one p =
           turn (whole_in m p.share.multiplier) (count_of tree (expression p.share.name).terms p.label) (part p.label) (chords_at lts tree basis is effect p.label)
-          ∙ sym (sum_over-times ((whole_in m p.share.multiplier *ℤ count_of tree (expression p.share.name).terms p.label) *ℤ part p.label) (λ c. (basis.relation p.label).coefficient (labels lts + c) *ℤ chord_sum lts tree effect (used_chord lts tree basis c)) (used_chords lts basis))
-          ∙ sum_over-same _ _ (used_chords lts basis) (λ c has. turn' (whole_in m p.share.multiplier *ℤ count_of tree (expression p.share.name).terms p.label) (part p.label) ((basis.relation p.label).coefficient (labels lts + c)) (chord_sum lts tree effect (used_chord lts tree basis c)))
+          ∙ sym (sum_over-times ((whole_in m p.share.multiplier *ℤ count_of tree (expression p.share.name).terms p.label) *ℤ part p.label)
+          (λ c. (basis.relation p.label).coefficient (labels lts + c) *ℤ chord_sum lts tree effect (used_chord lts tree basis c)) (used_chords lts basis))
+          ∙ sum_over-same _ _ (used_chords lts basis)
+          (λ c has. turn' (whole_in m p.share.multiplier *ℤ count_of tree (expression p.share.name).terms p.label) (part p.label)
+          ((basis.relation p.label).coefficient (labels lts + c)) (chord_sum lts tree effect (used_chord lts tree basis c)))
         where
           turn : (z c p s : ℤ) → z *ℤ (c *ℤ (p *ℤ s)) ≡ ((z *ℤ c) *ℤ p) *ℤ s
           turn z c p s = simp ring
@@ -202,11 +225,16 @@ module _ (lts : System) (tree : List Arc) (basis : CycleBasis) (expression : Row
   pub rows_cancel : (fine : IsInRange lts) (g : IsTree lts tree) (is : IsBasis lts tree basis) → pos 0 <ℤ b → AreRowsWithin lts expression shares
       → RefuteOnArcs lts expression (weighted m shares) → (xs : List Ratio) → each (chord_fold lts tree basis expression shares) (used_chords lts basis) (Ok xs)
       → AllDivide (map (λ r. r.bottom) xs) m → (start : ℤ) (effect : ℕ → ℤ)
-      → terms_sum expression (weighted m shares) (numbers_along lts tree start effect) +ℤ sum_over (λ r. r.multiplier *ℤ chord_sum lts tree effect r.arc) (arc_times (map (used_chord lts tree basis) (used_chords lts basis)) (map (whole_in m) xs)) ≡ pos 0
+      → terms_sum expression (weighted m shares) (numbers_along lts tree start effect)
+      +ℤ sum_over (λ r. r.multiplier *ℤ chord_sum lts tree effect r.arc)
+      (arc_times (map (used_chord lts tree basis) (used_chords lts basis)) (map (whole_in m) xs)) ≡ pos 0
   rows_cancel fine g is positive within refute xs folds d start effect =
-      close b (taken lts tree basis is effect).times _ _ _ (positive_differs _ (mul_positive b (taken lts tree basis is effect).times positive (taken lts tree basis is effect).positive)) rows (chords_sum (chord_sum lts tree effect) (used_chords lts basis) xs folds d)
+      close b (taken lts tree basis is effect).times _ _ _
+      (positive_differs _ (mul_positive b (taken lts tree basis is effect).times positive (taken lts tree basis is effect).positive)) rows
+      (chords_sum (chord_sum lts tree effect) (used_chords lts basis) xs folds d)
     where
-      rows : (b *ℤ (taken lts tree basis is effect).times) *ℤ terms_sum expression (weighted m shares) (numbers_along lts tree start effect) ≡ (taken lts tree basis is effect).times *ℤ sum_over (λ c. chord_sum lts tree effect (used_chord lts tree basis c) *ℤ chord_value c) (used_chords lts basis)
+      rows : (b *ℤ (taken lts tree basis is effect).times) *ℤ terms_sum expression (weighted m shares) (numbers_along lts tree start effect)
+          ≡ (taken lts tree basis is effect).times *ℤ sum_over (λ c. chord_sum lts tree effect (used_chord lts tree basis c) *ℤ chord_value c) (used_chords lts basis)
       rows =
           ap (λ z. (b *ℤ (taken lts tree basis is effect).times) *ℤ z) (named_sum (numbers_along lts tree start effect))
           ∙ sym (sum_over-times (b *ℤ (taken lts tree basis is effect).times) (λ s. whole_in m s.multiplier *ℤ value_in (numbers_along lts tree start effect) (expression s.name).terms) shares)

@@ -115,7 +115,8 @@ fill_start rows tree zeros sums ms bound none ms_zero most positive bound_range 
 pub fill_end : (rows : List Row) (tree : List Arc) (sums ms : List ℤ) (bound : ℤ) (i : ℕ) → i ≡ 0 → Filled rows tree i sums ms bound
     → (expression : RowName → Expression) → All (Tells expression) rows → tree_fold expression (map named_of rows) [] (reverse tree) (Ok (arc_times tree ms))
 fill_end rows tree sums ms bound i e filled expression told = tree_ends expression (map named_of rows) tree ms (subst (λ n. (r : Result (List ArcTimes) Wide)
-    → tree_fold expression (map named_of rows) (arc_times (drop n tree) (drop n ms)) (reverse (take n tree)) r → tree_fold expression (map named_of rows) [] (reverse tree) r) e (filled.so_far expression told))
+    → tree_fold expression (map named_of rows) (arc_times (drop n tree) (drop n ms)) (reverse (take n tree)) r
+    → tree_fold expression (map named_of rows) [] (reverse tree) r) e (filled.so_far expression told))
 
 -- a sum of absolute values isn't negative, and in range
 pub sizes_positive : (rows : List Row) (n : ℕ) (t : ℤ) → n < 2 ^ 127 → further whole_sum (size_fold (λ r. pos 3)) (pos n) rows (Ok t) → (pos 0 ≤ℤ t) × InRange t

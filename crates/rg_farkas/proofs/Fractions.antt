@@ -1,14 +1,10 @@
 -- Sums and products of fractions over common bottoms, and what a common multiple makes of fractions.
 use Rattle.std.proofs.Common.{◌≡◌, ◌≢◌, suc, List, [], ◌∷◌, ◌++◌, map, Result, Ok, Contains, ap, ap₂, refl, subst, sym, ◌∙◌, arith}
-use Rattle.std.specs.Prelude.{ℤ, pos, neg_ℤ, ◌+ℤ◌, ◌*ℤ◌, ◌<ℤ◌, int_div, unsigned_abs}
-use Rattle.std.specs.Int.{◌∣◌}
-use Rattle.std.proofs.Math.IntN.{*ℤ_comm}
-use Rattle.std.proofs.Math.Nat.{dvd-mul_right}
-use Rattle.std.proofs.lemmas.Int.{ints, unsigned_abs-mul}
+use Rattle.std.specs.Prelude.{ℤ, pos, neg_ℤ, ◌+ℤ◌, ◌*ℤ◌, ◌<ℤ◌, int_div}
+use Rattle.std.proofs.lemmas.Int.{ints}
 use Rattle.rg_integers.specs.Sum.{sum_over}
 use Rattle.rg_integers.proofs.Ring.{ring}
 use Rattle.rg_integers.proofs.Order.{mul-cancel}
-use Rattle.rg_integers.proofs.Divisors.{exact}
 use Rattle.rg_integers.specs.declared.term.Wide.{Wide}
 use Rattle.rg_folds.specs.Fold.{each, further, joined, Ratio, whole, add, mul}
 use Rattle.rg_case_folds.specs.Placing.{negated}
@@ -16,6 +12,7 @@ use Rattle.rg_case_folds.specs.Rewriting.{Scaled, scaled_fold}
 use Rattle.rg_case_folds.proofs.RowValues.{IsOver, add_over}
 use Rattle.rg_case_folds.proofs.Scaling.{Divides, AllDivide, all_divide, product_whole}
 use Rattle.rg_case_folds.proofs.Signs.{AllPositive, all_multiple}
+use Rattle.rg_case_folds.proofs.ExactRows.{part_exact as part_is}
 
 -- the product of x over b and y over c
 pub product_over : (b c : ℤ) (f g h : Ratio) (x y : ℤ) → mul f g (Ok h) → IsOver b f x → IsOver c g y → IsOver (b *ℤ c) h (x *ℤ y)
@@ -38,7 +35,8 @@ pub whole_over_one : (c : ℤ) → IsOver (pos 1) (whole c) c
 whole_over_one c = refl
 
 -- the sum of made fractions, each over b
-pub further_sum : {A : Type 0} (b : ℤ) (make : A → Result Ratio Wide → Type 0) (y : A → ℤ) (f h : Ratio) (x : ℤ) (items : List A) → further add make f items (Ok h) → IsOver b f x → ((a : A) (k : Ratio) → Contains items a → make a (Ok k) → IsOver b k (y a)) → IsOver b h (x +ℤ sum_over y items)
+pub further_sum : {A : Type 0} (b : ℤ) (make : A → Result Ratio Wide → Type 0) (y : A → ℤ) (f h : Ratio) (x : ℤ) (items : List A)
+    → further add make f items (Ok h) → IsOver b f x → ((a : A) (k : Ratio) → Contains items a → make a (Ok k) → IsOver b k (y a)) → IsOver b h (x +ℤ sum_over y items)
 further_sum b make y f h x [] e p over = subst (λ (g : Ratio). IsOver b g (x +ℤ pos 0)) (sym e) (p ∙ ap (λ z. z *ℤ f.bottom) (none x))
   where
     none : (x : ℤ) → x ≡ x +ℤ pos 0
@@ -54,22 +52,20 @@ further_sum {A} b make y f h x (a ∷ items) (k, made, (g, added, rest)) p over 
     assoc : (x y z : ℤ) → (x +ℤ y) +ℤ z ≡ x +ℤ (y +ℤ z)
     assoc x y z = omega (arith, ints)
 
-pub joined_sum : {A : Type 0} (b : ℤ) (make : A → Result Ratio Wide → Type 0) (y : A → ℤ) (h : Ratio) (items : List A) → joined add make (whole (pos 0)) items (Ok h) → ((a : A) (k : Ratio) → Contains items a → make a (Ok k) → IsOver b k (y a)) → IsOver b h (sum_over y items)
+pub joined_sum : {A : Type 0} (b : ℤ) (make : A → Result Ratio Wide → Type 0) (y : A → ℤ) (h : Ratio) (items : List A)
+    → joined add make (whole (pos 0)) items (Ok h) → ((a : A) (k : Ratio) → Contains items a → make a (Ok k) → IsOver b k (y a)) → IsOver b h (sum_over y items)
 joined_sum b make y h [] e over = subst (λ (g : Ratio). IsOver b g (pos 0)) (sym e) (zero b)
   where
     zero : (b : ℤ) → pos 0 *ℤ b ≡ pos 0 *ℤ pos 1
     zero b = omega (arith, ints)
-joined_sum {A} b make y h (a ∷ items) (k, made, rest) over = further_sum b make y k h (y a) items rest (over a k (0, omega arith, refl) made) (λ u l (i, lt, e) made'. over u l (suc i, omega arith, e) made')
+joined_sum {A} b make y h (a ∷ items) (k, made, rest) over =
+    further_sum b make y k h (y a) items rest (over a k (0, omega arith, refl) made) (λ u l (i, lt, e) made'. over u l (suc i, omega arith, e) made')
 
 pub negated_over : (b : ℤ) (h : Ratio) (x : ℤ) → IsOver b h x → IsOver b (negated h) (neg_ℤ x)
 negated_over b h x p = neg_times h.top b ∙ ap neg_ℤ p ∙ sym (neg_times x h.bottom)
   where
     neg_times : (t b : ℤ) → neg_ℤ t *ℤ b ≡ neg_ℤ (t *ℤ b)
     neg_times t b = simp ring
-
--- the other factor
-pub part_is : (d b : ℤ) → Divides d b → b ≡ d *ℤ int_div b d
-part_is d b (q, e) = sym (exact b d (subst (λ n. unsigned_abs d ∣ n) (sym (ap unsigned_abs e ∙ unsigned_abs-mul d q)) (dvd-mul_right (unsigned_abs d) (unsigned_abs q)))) ∙ *ℤ_comm (int_div b d) d
 
 -- ---- fractions times a common multiple
 
@@ -90,7 +86,8 @@ products_are m (r ∷ rs) ps (d, ds) (p, is, (rest, each_is, e)) =
     ∙ ap₂ (λ z l. z ∷ l) (ap (λ (q : Ratio). q.top) (product_whole r p m (int_div m r.bottom) (part_is r.bottom m d) is)) (products_are m rs rest ds each_is)
 
 pub scaled_are : (rs : List Ratio) (scaled : Scaled) → scaled_fold rs (Ok scaled) → scaled.numbers ≡ map (whole_in scaled.multiple) rs
-scaled_are rs scaled (m, multiple, (ps, products, e)) = subst (λ (s : Scaled). s.numbers ≡ map (whole_in s.multiple) rs) (sym e) (products_are m rs ps (all_divide (map (λ r. r.bottom) rs) m multiple) products)
+scaled_are rs scaled (m, multiple, (ps, products, e)) =
+    subst (λ (s : Scaled). s.numbers ≡ map (whole_in s.multiple) rs) (sym e) (products_are m rs ps (all_divide (map (λ r. r.bottom) rs) m multiple) products)
 
 pub scaled_divide : (rs : List Ratio) (scaled : Scaled) → scaled_fold rs (Ok scaled) → AllDivide (map (λ r. r.bottom) rs) scaled.multiple
 scaled_divide rs scaled (m, multiple, (ps, products, e)) = subst (λ (s : Scaled). AllDivide (map (λ r. r.bottom) rs) s.multiple) (sym e) (all_divide (map (λ r. r.bottom) rs) m multiple)

@@ -1,9 +1,9 @@
 -- What rows add up to, as they are listed in a leaf.
-use Rattle.std.proofs.Common.{◌≡◌, ⊎_elim, ℕ, zero, suc, ◌+◌, ◌<◌, ◌≤◌, ◌||◌, Bool, true, false, if◌then◌else◌, List, [], ◌∷◌, ◌++◌, map, length, drop, slice_index_or, Contains, ap, ap₂, refl, subst, sym, ◌∙◌, arith, eq-eqb}
+use Rattle.std.proofs.Common.{◌≡◌, ⊎_elim, ℕ, zero, suc, ◌+◌, ◌<◌, ◌≤◌, ◌||◌, Bool, true, false, if◌then◌else◌, List, [], ◌∷◌, ◌++◌, map, length, drop, slice_index_or, Contains, ap, ap₂, refl, subst, sym, ◌∙◌, arith}
 use Rattle.std.specs.Prelude.{ℤ, pos, ◌+ℤ◌, ◌*ℤ◌, int_lt, AllPairs}
 use Rattle.std.proofs.Math.IntN.{zero-*ℤ}
 use Rattle.std.proofs.lemmas.Int.{ints}
-use Rattle.std.proofs.lemmas.Bool.{cases_Bool, true≢false}
+use Rattle.std.proofs.lemmas.Bool.{cases_Bool}
 use Rattle.rg_theory.specs.declared.Arc.{Arc}
 use Rattle.rg_theory.specs.System.{IsArcBefore}
 use Rattle.rg_theory.specs.Tree.{same_arc}
@@ -16,6 +16,8 @@ use Rattle.rg_cert_meaning.specs.Refutes.{NamedRow}
 use Rattle.rg_case_folds.specs.Spreading.{named_from, not_zero, multiplier_among, arc_name}
 use Rattle.rg_case_folds.proofs.Potentials.{among_is}
 use Rattle.rg_farkas.specs.View.{arc_times}
+use Rattle.rg_linear.proofs.Splits.{nonzero_test as zero_of}
+use Rattle.rg_spanning.proofs.TreeTables.{is_same as same_arc_refl}
 
 -- what g of the rows' names adds up to, each times its multiplier
 abbrev pub rows_sum : (RowName → ℤ) → List NamedRow → ℤ
@@ -23,21 +25,12 @@ rows_sum g rows = sum_over (λ r. r.multiplier *ℤ g r.name) rows
 
 -- ---- rows with the multiplier 0
 
-pub zero_of : (z : ℤ) → (int_lt z (pos 0) || int_lt (pos 0) z) ≡ false → z ≡ pos 0
-zero_of z e = let (p, q) = both (int_lt z (pos 0)) (int_lt (pos 0) z) e in close z p q
-  where
-    both : (a b : Bool) → (a || b) ≡ false → (a ≡ false) × (b ≡ false)
-    both true b e = absurd (true≢false e)
-    both false b e = (refl, e)
-
-    close : (z : ℤ) → int_lt z (pos 0) ≡ false → int_lt (pos 0) z ≡ false → z ≡ pos 0
-    close z p q = omega (arith, ints)
-
 pub without_zeros : (g : RowName → ℤ) (rows : List NamedRow) → rows_sum g (not_zero rows) ≡ rows_sum g rows
 without_zeros g [] = refl
 without_zeros g (r ∷ rows) = go (int_lt r.multiplier (pos 0) || int_lt (pos 0) r.multiplier) refl (without_zeros g rows)
   where
-    go : (b : Bool) → (int_lt r.multiplier (pos 0) || int_lt (pos 0) r.multiplier) ≡ b → rows_sum g (not_zero rows) ≡ rows_sum g rows → rows_sum g (if b then (r ∷ not_zero rows) else not_zero rows) ≡ (r.multiplier *ℤ g r.name) +ℤ rows_sum g rows
+    go : (b : Bool) → (int_lt r.multiplier (pos 0) || int_lt (pos 0) r.multiplier) ≡ b → rows_sum g (not_zero rows) ≡ rows_sum g rows
+        → rows_sum g (if b then (r ∷ not_zero rows) else not_zero rows) ≡ (r.multiplier *ℤ g r.name) +ℤ rows_sum g rows
     go true e ih = ap (λ z. (r.multiplier *ℤ g r.name) +ℤ z) ih
     go false e ih = ih ∙ none _ _ (ap (λ z. z *ℤ g r.name) (zero_of r.multiplier e) ∙ zero-*ℤ (g r.name))
       where
@@ -89,9 +82,6 @@ ordered_differ (a ∷ arcs) order = (later, ordered_differ arcs (λ i j d lt bel
     later : ¬ Contains arcs a
     later (k, lt, at) = itself a (subst (λ x. IsArcBefore a x) at (order 0 (suc k) a (omega arith) (omega arith)))
 
-pub same_arc_refl : (a : Arc) → same_arc a a ≡ true
-same_arc_refl a = rw (eq-eqb a.from a.from refl, eq-eqb a.label a.label refl, eq-eqb a.to a.to refl) refl
-
 pub arc_is : (b a : Arc) → same_arc b a ≡ true → b ≡ a
 arc_is b a e = let (k, lt, at) = among_is (b ∷ []) a (ap (λ t. if t then true else false) e) in only k lt at
   where
@@ -103,7 +93,8 @@ arc_is b a e = let (k, lt, at) = among_is (b ∷ []) a (ap (λ t. if t then true
 pub none_among : (arcs : List Arc) (zs : List ℤ) (a : Arc) → ¬ Contains arcs a → multiplier_among arcs zs a ≡ pos 0
 none_among [] zs a lacks = refl
 none_among (b ∷ arcs) [] a lacks = refl
-none_among (b ∷ arcs) (z ∷ zs) a lacks = ⊎_elim (λ e. absurd (lacks (0, omega arith, arc_is b a e))) (λ e. ap (λ t. if t then z else multiplier_among arcs zs a) e ∙ none_among arcs zs a (λ (k, lt, at). lacks (suc k, omega arith, at))) (cases_Bool (same_arc b a))
+none_among (b ∷ arcs) (z ∷ zs) a lacks = ⊎_elim (λ e. absurd (lacks (0, omega arith, arc_is b a e)))
+    (λ e. ap (λ t. if t then z else multiplier_among arcs zs a) e ∙ none_among arcs zs a (λ (k, lt, at). lacks (suc k, omega arith, at))) (cases_Bool (same_arc b a))
 
 -- one arc alone
 one_arc : (h : Arc → ℤ) (b : Arc) (all : List Arc) → Differ all → Contains all b → sum_over (λ a. if same_arc b a then h a else pos 0) all ≡ h b
@@ -143,7 +134,8 @@ arcs_sum g all (b ∷ arcs) (z ∷ zs) differ (lacks, differ') inside le =
         (λ is. ap (λ t. (if t then z else multiplier_among arcs zs a) *ℤ g a) is ∙ last (z *ℤ g a)
         ∙ sym (ap₂ (λ t y. (if t then z *ℤ g a else pos 0) +ℤ (y *ℤ g a)) is (none_among arcs zs a (λ has. lacks (subst (Contains arcs) (sym (arc_is b a is)) has)))
         ∙ ap (λ y. (z *ℤ g a) +ℤ y) (zero-*ℤ (g a))))
-        (λ not_is. ap (λ t. (if t then z else multiplier_among arcs zs a) *ℤ g a) not_is ∙ first (multiplier_among arcs zs a *ℤ g a) ∙ sym (ap (λ t. (if t then z *ℤ g a else pos 0) +ℤ (multiplier_among arcs zs a *ℤ g a)) not_is))
+        (λ not_is. ap (λ t. (if t then z else multiplier_among arcs zs a) *ℤ g a) not_is ∙ first (multiplier_among arcs zs a *ℤ g a)
+        ∙ sym (ap (λ t. (if t then z *ℤ g a else pos 0) +ℤ (multiplier_among arcs zs a *ℤ g a)) not_is))
         (cases_Bool (same_arc b a))
       where
         last : (x : ℤ) → x ≡ x +ℤ pos 0
@@ -161,8 +153,11 @@ arcs_named g (a ∷ arcs) (z ∷ zs) = ap (λ y. (z *ℤ g (arc_name a)) +ℤ y)
 -- ---- the leaf
 
 -- the rows of a leaf add up to what its parts add up to
-pub leaf_sum : (g : RowName → ℤ) (names : List RowName) (all arcs : List Arc) (zs : List ℤ) → Differ all → Differ arcs → ((a : Arc) → Contains arcs a → Contains all a) → length names + length arcs ≤ length zs
-    → rows_sum g (not_zero (named_from names zs ++ map (λ a. record { multiplier = multiplier_among arcs (drop (length names) zs) a; name = arc_name a }) all)) ≡ rows_sum g (named_from (names ++ map arc_name arcs) zs)
+pub leaf_sum : (g : RowName → ℤ) (names : List RowName) (all arcs : List Arc) (zs : List ℤ) → Differ all → Differ arcs
+    → ((a : Arc) → Contains arcs a → Contains all a) → length names + length arcs ≤ length zs
+    → rows_sum g (not_zero (named_from names zs
+    ++ map (λ a. record { multiplier = multiplier_among arcs (drop (length names) zs) a; name = arc_name a }) all))
+    ≡ rows_sum g (named_from (names ++ map arc_name arcs) zs)
 leaf_sum g names all arcs zs differ differ' inside le =
     without_zeros g _
     ∙ sum_over-append (λ r. r.multiplier *ℤ g r.name) (named_from names zs) _

@@ -11,11 +11,13 @@ use Rattle.rg_theory.specs.declared.Arc.{Arc}
 use Rattle.rg_theory.specs.System.{IsArcBefore}
 use Rattle.rg_theory.specs.Tree.{same_arc}
 use Rattle.std.specs.Ordering.{nat_cmp, ordering_then, is_lt}
-use Rattle.rg_lts.proofs.OrderedArcs.{before_itself, before_back}
+use Rattle.rg_lts.proofs.OrderedArcs.{before_itself, before_back, before_trans}
 use Rattle.rg_cert_meaning.specs.Refutes.{NamedRow}
 use Rattle.rg_case_folds.specs.Spreading.{multiplier_among, not_zero, arc_name}
 use Rattle.rg_case_folds.proofs.Items.{from_index}
-use Rattle.rg_farkas.proofs.Listed.{Differ, arc_is, same_arc_refl, zero_of}
+use Rattle.rg_farkas.proofs.Listed.{Differ, arc_is}
+use Rattle.rg_spanning.proofs.TreeTables.{is_same as same_arc_refl}
+use Rattle.rg_linear.proofs.Splits.{nonzero_test as zero_of}
 
 -- ---- the order
 
@@ -55,11 +57,19 @@ compared a b = go (cases_order a.from b.from) (cases_order a.label b.label) (cas
         → (a.to ≡ b.to) ⊎ ((a.to < b.to) ⊎ (b.to < a.to)) → Compared a b
     go (inr (inl lt)) l t = first (inl lt) (ap (λ x. is_lt (ordering_then x second)) (at_less a.from b.from lt))
     go (inr (inr gt)) l t = other (before_not a b (inl gt)) (ap (λ x. is_lt (ordering_then x second)) (at_greater a.from b.from gt))
-    go (inl f) (inr (inl lt)) t = first (inr (f, inl lt)) (ap (λ x. is_lt (ordering_then x second)) (at_equal a.from b.from f) ∙ ap (λ x. is_lt (ordering_then x (nat_cmp a.to b.to))) (at_less a.label b.label lt))
-    go (inl f) (inr (inr gt)) t = other (before_not a b (inr (sym f, inl gt))) (ap (λ x. is_lt (ordering_then x second)) (at_equal a.from b.from f) ∙ ap (λ x. is_lt (ordering_then x (nat_cmp a.to b.to))) (at_greater a.label b.label gt))
-    go (inl f) (inl l) (inr (inl lt)) = first (inr (f, inr (l, lt))) (ap (λ x. is_lt (ordering_then x second)) (at_equal a.from b.from f) ∙ ap (λ x. is_lt (ordering_then x (nat_cmp a.to b.to))) (at_equal a.label b.label l) ∙ ap is_lt (at_less a.to b.to lt))
-    go (inl f) (inl l) (inr (inr gt)) = other (before_not a b (inr (sym f, inr (sym l, gt)))) (ap (λ x. is_lt (ordering_then x second)) (at_equal a.from b.from f) ∙ ap (λ x. is_lt (ordering_then x (nat_cmp a.to b.to))) (at_equal a.label b.label l) ∙ ap is_lt (at_greater a.to b.to gt))
-    go (inl f) (inl l) (inl t) = other (same_not a b f l t) (ap (λ x. is_lt (ordering_then x second)) (at_equal a.from b.from f) ∙ ap (λ x. is_lt (ordering_then x (nat_cmp a.to b.to))) (at_equal a.label b.label l) ∙ ap is_lt (at_equal a.to b.to t))
+    go (inl f) (inr (inl lt)) t = first (inr (f, inl lt))
+        (ap (λ x. is_lt (ordering_then x second)) (at_equal a.from b.from f) ∙ ap (λ x. is_lt (ordering_then x (nat_cmp a.to b.to))) (at_less a.label b.label lt))
+    go (inl f) (inr (inr gt)) t = other (before_not a b (inr (sym f, inl gt)))
+        (ap (λ x. is_lt (ordering_then x second)) (at_equal a.from b.from f) ∙ ap (λ x. is_lt (ordering_then x (nat_cmp a.to b.to))) (at_greater a.label b.label gt))
+    go (inl f) (inl l) (inr (inl lt)) = first (inr (f, inr (l, lt)))
+        (ap (λ x. is_lt (ordering_then x second)) (at_equal a.from b.from f)
+        ∙ ap (λ x. is_lt (ordering_then x (nat_cmp a.to b.to))) (at_equal a.label b.label l) ∙ ap is_lt (at_less a.to b.to lt))
+    go (inl f) (inl l) (inr (inr gt)) = other (before_not a b (inr (sym f, inr (sym l, gt))))
+        (ap (λ x. is_lt (ordering_then x second)) (at_equal a.from b.from f)
+        ∙ ap (λ x. is_lt (ordering_then x (nat_cmp a.to b.to))) (at_equal a.label b.label l) ∙ ap is_lt (at_greater a.to b.to gt))
+    go (inl f) (inl l) (inl t) = other (same_not a b f l t)
+        (ap (λ x. is_lt (ordering_then x second)) (at_equal a.from b.from f)
+        ∙ ap (λ x. is_lt (ordering_then x (nat_cmp a.to b.to))) (at_equal a.label b.label l) ∙ ap is_lt (at_equal a.to b.to t))
 
 before_says : (a b : Arc) → is_lt (arc_cmp a b) ≡ true → IsArcBefore a b
 before_says a b e = go (compared a b)
@@ -74,15 +84,6 @@ says_before a b before = go (compared a b)
     go : Compared a b → is_lt (arc_cmp a b) ≡ true
     go (first _ e) = e
     go (other not_before _) = absurd (not_before before)
-
-before_trans : (a b c : Arc) → IsArcBefore a b → IsArcBefore b c → IsArcBefore a c
-before_trans a b c (inl x) (inl y) = inl (omega arith)
-before_trans a b c (inl x) (inr y) = let e = y.0 in inl (omega arith)
-before_trans a b c (inr x) (inl y) = let e = x.0 in inl (omega arith)
-before_trans a b c (inr (e, inl x)) (inr (f, inl y)) = inr (e ∙ f, inl (omega arith))
-before_trans a b c (inr (e, inl x)) (inr (f, inr y)) = let g = y.0 in inr (e ∙ f, inl (omega arith))
-before_trans a b c (inr (e, inr x)) (inr (f, inl y)) = let g = x.0 in inr (e ∙ f, inl (omega arith))
-before_trans a b c (inr (e, inr x)) (inr (f, inr y)) = let lt = x.1 in let lt' = y.1 in inr (e ∙ f, inr (x.0 ∙ y.0, omega arith))
 
 pub arcs_parted : (b : Arc) (arcs : List Arc) → AllPairs IsArcBefore arcs → IsPartitionedBy (λ a. is_lt (arc_cmp a b)) arcs
 arcs_parted b arcs order i j d le lt e = go (cases_order i j)
@@ -134,14 +135,16 @@ one_set b z f (a ∷ all) (suc i) (lacks, differ) lt at =
 
 -- the arcs from k on, where those from k + 1 on are found
 module _ (system arcs : List Arc) (numbers : List ℤ) (k : ℕ) (d : Arc) (positive : 0 < k) (lt : k ≤ length arcs) (enough : length arcs ≤ length numbers) where
-  among_here : (a : Arc) → multiplier_among (drop (k - 1) arcs) (drop (k - 1) numbers) a ≡ with_arc (slice_index_or arcs (k - 1) d) (slice_index_or numbers (k - 1) (pos 0)) (multiplier_among (drop k arcs) (drop k numbers)) a
+  among_here : (a : Arc) → multiplier_among (drop (k - 1) arcs) (drop (k - 1) numbers) a
+      ≡ with_arc (slice_index_or arcs (k - 1) d) (slice_index_or numbers (k - 1) (pos 0)) (multiplier_among (drop k arcs) (drop k numbers)) a
   among_here a = ap₂ (λ l n. multiplier_among l n a) (from_index arcs (k - 1) d (omega arith)) (from_index numbers (k - 1) (pos 0) (omega arith))
       ∙ ap (λ n. with_arc (slice_index_or arcs (k - 1) d) (slice_index_or numbers (k - 1) (pos 0)) (multiplier_among (drop n arcs) (drop n numbers)) a) back
     where
       back : k - 1 + 1 ≡ k
       back = omega arith
 
-  all_here : (all : List Arc) → map (with_arc (slice_index_or arcs (k - 1) d) (slice_index_or numbers (k - 1) (pos 0)) (multiplier_among (drop k arcs) (drop k numbers))) all ≡ map (multiplier_among (drop (k - 1) arcs) (drop (k - 1) numbers)) all
+  all_here : (all : List Arc) → map (with_arc (slice_index_or arcs (k - 1) d) (slice_index_or numbers (k - 1) (pos 0))
+      (multiplier_among (drop k arcs) (drop k numbers))) all ≡ map (multiplier_among (drop (k - 1) arcs) (drop (k - 1) numbers)) all
   all_here [] = refl
   all_here (a ∷ all) = ap₂ (λ x l. x ∷ l) (sym (among_here a)) (all_here all)
 
@@ -160,7 +163,8 @@ module _ (system arcs : List Arc) (numbers : List ℤ) (k : ℕ) (d : Arc) (posi
       ∙ all_here system
 
 -- where no arc is looked at yet, each has 0
-pub none_looked : (system arcs : List Arc) (numbers zeros : List ℤ) (k : ℕ) → length arcs ≤ k → zeros ≡ replicate (length system) (pos 0) → zeros ≡ map (multiplier_among (drop k arcs) (drop k numbers)) system
+pub none_looked : (system arcs : List Arc) (numbers zeros : List ℤ) (k : ℕ) → length arcs ≤ k → zeros ≡ replicate (length system) (pos 0)
+    → zeros ≡ map (multiplier_among (drop k arcs) (drop k numbers)) system
 none_looked system arcs numbers zeros k past is = is ∙ splat_is_map system (length system) (pos 0) refl ∙ ap (λ l. map (multiplier_among l (drop k numbers)) system) (sym (none k arcs past))
   where
     none : {A : Type 0} (k : ℕ) (l : List A) → length l ≤ k → drop k l ≡ []
@@ -198,7 +202,8 @@ module _ (f : Arc → ℤ) (system : List Arc) (numbers : List ℤ) (all : numbe
     -- it is 0
     pub row_left : z ≡ pos 0 → done ++ not_zero (map (λ a. record { multiplier = f a; name = arc_name a }) (drop (k + 1) system)) ≡ all_rows
     row_left is =
-        ap (λ x. done ++ (if int_lt x (pos 0) || int_lt (pos 0) x then (record { multiplier = x; name = arc_name (slice_index_or system k d) } ∷ rest) else rest)) (sym is) ∙ ap (λ l. done ++ l) (sym row_here) ∙ so_far
+        ap (λ x. done ++ (if int_lt x (pos 0) || int_lt (pos 0) x then
+        (record { multiplier = x; name = arc_name (slice_index_or system k d) } ∷ rest) else rest)) (sym is) ∙ ap (λ l. done ++ l) (sym row_here) ∙ so_far
       where
         rest : List NamedRow
         rest = not_zero (map (λ a. record { multiplier = f a; name = arc_name a }) (drop (k + 1) system))

@@ -70,10 +70,12 @@ module _ (it : CaseSetting) (case : CaseSystem) (c : IsCaseOver it case) (sides 
   own_row i lt = kept_row it case (kept_at case i) c.is_case (kept_has i lt)
 
   front_row : (i : ℕ) → i < length case.kept → row_at node i ≡ (kept_at case i).row
-  front_row i lt = index-front (rows_of case).rows (map (side_row case.forms) sides) _ i (subst (λ n. i < n) (sym case_length) lt) ∙ get_or-map (λ k. k.row) case.kept i no_row (record { coeffs = []; constant = pos 0 }) lt
+  front_row i lt = index-front (rows_of case).rows (map (side_row case.forms) sides) _ i (subst (λ n. i < n) (sym case_length) lt)
+      ∙ get_or-map (λ k. k.row) case.kept i no_row (record { coeffs = []; constant = pos 0 }) lt
 
   back_row : (i : ℕ) → length case.kept ≤ i → i < length case.kept + length sides → row_at node i ≡ side_row case.forms (side_at sides (i - length case.kept))
-  back_row i le lt = ap (λ k. row_at node k) at ∙ get_or-append-add (rows_of case).rows (map (side_row case.forms) sides) (i - length case.kept) _ ∙ get_or-map (side_row case.forms) sides (i - length case.kept) no_side (record { coeffs = []; constant = pos 0 }) (omega arith)
+  back_row i le lt = ap (λ k. row_at node k) at ∙ get_or-append-add (rows_of case).rows (map (side_row case.forms) sides) (i - length case.kept) _
+      ∙ get_or-map (side_row case.forms) sides (i - length case.kept) no_side (record { coeffs = []; constant = pos 0 }) (omega arith)
     where
       at : i ≡ length (rows_of case).rows + (i - length case.kept)
       at = let e = case_length in omega arith
@@ -129,20 +131,24 @@ module _ (it : CaseSetting) (case : CaseSystem) (c : IsCaseOver it case) (sides 
       above n h = omega (arith, ints)
 
   -- what holds of the names of both kinds of rows
-  name_told : (P : RowName → Type 0) → ((i : ℕ) → i < length case.kept → P (kept_at case i).name) → ((d : ℕ) → d < length sides → P (row_name.Above d)) → (i : ℕ) → i < length case.kept + length sides → P (name_of case i)
+  name_told : (P : RowName → Type 0) → ((i : ℕ) → i < length case.kept → P (kept_at case i).name)
+      → ((d : ℕ) → d < length sides → P (row_name.Above d)) → (i : ℕ) → i < length case.kept + length sides → P (name_of case i)
   name_told P kept above i lt = ⊎_elim
       (λ front. subst (λ b. P (if b then (kept_at case i).name else row_name.Above (i - length case.kept))) (sym (below_test i (length case.kept) front)) (kept i front))
       (λ back. subst (λ b. P (if b then (kept_at case i).name else row_name.Above (i - length case.kept))) (sym (past_test i (length case.kept) back)) (above (i - length case.kept) (omega arith)))
       (cases_lt i (length case.kept))
 
-  pub node_names_stand : (multiplier : ℕ → ℤ) (shares : List Share) → each (share_fold case sides named) (weights_from multiplier 0 (length node.rows)) (Ok shares) → All (λ s. RowStands it.lts it.class it.problem it.number named s.name) shares
+  pub node_names_stand : (multiplier : ℕ → ℤ) (shares : List Share)
+      → each (share_fold case sides named) (weights_from multiplier 0 (length node.rows)) (Ok shares)
+      → All (λ s. RowStands it.lts it.class it.problem it.number named s.name) shares
   node_names_stand multiplier shares made = names_all case sides named (length case.kept + length sides) multiplier (RowStands it.lts it.class it.problem it.number named)
       (name_told (RowStands it.lts it.class it.problem it.number named)
       (λ i lt. stands_below it.lts it.class it.problem it.number named (kept_at case i).name (names_stand it.lts it.class it.problem it.number (kept_at case i).name (own_row i lt).named))
       (λ d lt. above_stands it.lts it.class it.problem it.number named d (named_side it.lts it.class it.problem (side_at sides d)) (get-map (named_side it.lts it.class it.problem) sides d no_side lt)
       (side_used d lt).2)) 0 (length node.rows) (let e = rows_length in omega arith) shares made
 
-  pub node_names_in_range : length sides ≤ 2 ^ 32 → (multiplier : ℕ → ℤ) (shares : List Share) → each (share_fold case sides named) (weights_from multiplier 0 (length node.rows)) (Ok shares) → All (λ s. IsRowNameOf it.lts s.name) shares
+  pub node_names_in_range : length sides ≤ 2 ^ 32 → (multiplier : ℕ → ℤ) (shares : List Share)
+      → each (share_fold case sides named) (weights_from multiplier 0 (length node.rows)) (Ok shares) → All (λ s. IsRowNameOf it.lts s.name) shares
   node_names_in_range few multiplier shares made = names_all case sides named (length case.kept + length sides) multiplier (IsRowNameOf it.lts)
       (name_told (IsRowNameOf it.lts) (λ i lt. names_in_range it.lts it.class it.problem it.number (kept_at case i).name (own_row i lt).named) (λ d lt. (omega arith))) 0
       (length node.rows) (let e = rows_length in omega arith) shares made
@@ -154,7 +160,8 @@ module _ (it : CaseSetting) (case : CaseSystem) (c : IsCaseOver it case) (sides 
     -- the row times the factor is the named row
     abbrev Told : RowName → Ratio → LinearRow → Type 0
     Told name factor row = (pos 0 <ℤ factor.top) × (pos 0 <ℤ factor.bottom)
-        × ((x : Variable → ℤ) (keeps : KeepsEachArc it.lts x) → factor.bottom *ℤ dot row.coeffs (columns x keeps) ≡ factor.top *ℤ value_in x (row_expression it.lts it.class it.problem it.number named name).terms)
+        × ((x : Variable → ℤ) (keeps : KeepsEachArc it.lts x)
+        → factor.bottom *ℤ dot row.coeffs (columns x keeps) ≡ factor.top *ℤ value_in x (row_expression it.lts it.class it.problem it.number named name).terms)
         × (factor.bottom *ℤ row.constant ≡ factor.top *ℤ (row_expression it.lts it.class it.problem it.number named name).constant)
 
     zero_keeps : KeepsEachArc it.lts (λ v. pos 0)
@@ -174,7 +181,9 @@ module _ (it : CaseSetting) (case : CaseSystem) (c : IsCaseOver it case) (sides 
             none : (v k : ℤ) → v ≡ v +ℤ (k *ℤ pos 0)
             none v k = omega (arith, ints)
 
-        link : (x : Variable → ℤ) (keeps : KeepsEachArc it.lts x) → (kept_at case i).factor.bottom *ℤ dot (kept_at case i).row.coeffs (columns x keeps) ≡ (kept_at case i).factor.top *ℤ value_in x (row_expression it.lts it.class it.problem it.number [] (kept_at case i).name).terms
+        link : (x : Variable → ℤ) (keeps : KeepsEachArc it.lts x)
+            → (kept_at case i).factor.bottom *ℤ dot (kept_at case i).row.coeffs (columns x keeps)
+            ≡ (kept_at case i).factor.top *ℤ value_in x (row_expression it.lts it.class it.problem it.number [] (kept_at case i).name).terms
         link x keeps = drop (kept_at case i).factor.bottom (kept_at case i).factor.top (dot (kept_at case i).row.coeffs (columns x keeps)) (kept_at case i).row.constant
             (value_in x (row_expression it.lts it.class it.problem it.number [] (kept_at case i).name).terms)
             (row_expression it.lts it.class it.problem it.number [] (kept_at case i).name).constant
@@ -192,7 +201,8 @@ module _ (it : CaseSetting) (case : CaseSystem) (c : IsCaseOver it case) (sides 
             less : (a b c d : ℤ) → a ≡ c → a +ℤ b ≡ c +ℤ d → b ≡ d
             less a b c d p q = omega (arith, ints)
 
-        constant : (kept_at case i).factor.bottom *ℤ (kept_at case i).row.constant ≡ (kept_at case i).factor.top *ℤ (row_expression it.lts it.class it.problem it.number [] (kept_at case i).name).constant
+        constant : (kept_at case i).factor.bottom *ℤ (kept_at case i).row.constant
+            ≡ (kept_at case i).factor.top *ℤ (row_expression it.lts it.class it.problem it.number [] (kept_at case i).name).constant
         constant = close (kept_at case i).factor.bottom (kept_at case i).factor.top (dot (kept_at case i).row.coeffs (columns (λ v. pos 0) zero_keeps))
             (kept_at case i).row.constant (value_in (λ v. pos 0) (row_expression it.lts it.class it.problem it.number [] (kept_at case i).name).terms)
             (row_expression it.lts it.class it.problem it.number [] (kept_at case i).name).constant (link (λ v. pos 0) zero_keeps)
@@ -278,9 +288,12 @@ module _ (it : CaseSetting) (case : CaseSystem) (c : IsCaseOver it case) (sides 
       own_told = (
         is.positive,
         subst (λ b. pos 0 <ℤ b) (sym is.bottom) (omega (arith, ints)),
-        (λ x keeps. subst (λ b. b *ℤ dot (side_row case.forms side).coeffs (columns x keeps) ≡ factor *ℤ value_in x (row_expression it.lts it.class it.problem it.number named (row_name.Above d)).terms) (sym is.bottom)
+        (λ x keeps. subst (λ b. b *ℤ dot (side_row case.forms side).coeffs (columns x keeps)
+            ≡ factor *ℤ value_in x (row_expression it.lts it.class it.problem it.number named (row_name.Above d)).terms) (sym is.bottom)
             (side_value x keeps side.high ∙ ap (λ e. factor *ℤ value_in x e.terms) (sym expression))),
-        subst (λ b. b *ℤ (side_row case.forms side).constant ≡ factor *ℤ (row_expression it.lts it.class it.problem it.number named (row_name.Above d)).constant) (sym is.bottom) (side_number side.high ∙ ap (λ e. factor *ℤ e.constant) (sym expression)),
+        subst (λ b. b *ℤ (side_row case.forms side).constant
+            ≡ factor *ℤ (row_expression it.lts it.class it.problem it.number named (row_name.Above d)).constant) (sym is.bottom)
+            (side_number side.high ∙ ap (λ e. factor *ℤ e.constant) (sym expression)),
       )
 
       side_told : Told (row_name.Above d) (split_factor (named_at named d).form (form_at case.forms (side_at sides d).form)) (side_row case.forms (side_at sides d))
@@ -302,7 +315,8 @@ module _ (it : CaseSetting) (case : CaseSystem) (c : IsCaseOver it case) (sides 
 
     -- ---- the law
 
-    module _ (multiplier : ℕ → ℤ) (farkas : AreFarkasMultipliers node multiplier) (shares : List Share) (made : each (share_fold case sides named) (weights_from multiplier 0 (length node.rows)) (Ok shares)) where
+    module _ (multiplier : ℕ → ℤ) (farkas : AreFarkasMultipliers node multiplier) (shares : List Share)
+        (made : each (share_fold case sides named) (weights_from multiplier 0 (length node.rows)) (Ok shares)) where
       module _ (x : Variable → ℤ) (keeps : KeepsEachArc it.lts x) where
         abbrev worth : ℕ → ℤ
         worth i = dot (row_at node i).coeffs (columns x keeps)

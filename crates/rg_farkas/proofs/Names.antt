@@ -54,7 +54,8 @@ apart_used : (lts : System) (s s' order : ℕ) → s < states lts → s' < state
 apart_used lts s s' zero lt lt' = two_used lts (plus (Tokens s')) (minus (Tokens s)) lt' lt
 apart_used lts s s' (suc order) lt lt' = two_used lts (plus (Tokens s)) (minus (Tokens s')) lt lt'
 
-pub names_used : (lts : System) (class : Class) (problem : Problem) (number : ℕ) (name : RowName) → IsSeparationProblem lts problem → IsLive lts problem → Contains (names_of lts class problem number) name → NamesUsed lts (row_expression lts class problem number [] name).terms
+pub names_used : (lts : System) (class : Class) (problem : Problem) (number : ℕ) (name : RowName) → IsSeparationProblem lts problem
+    → IsLive lts problem → Contains (names_of lts class problem number) name → NamesUsed lts (row_expression lts class problem number [] name).terms
 names_used lts class (Event s t) number name (lt, lt', _) live has =
     each_name lts class (Event s t) number (λ n. NamesUsed lts (row_expression lts class (Event s t) number [] n).terms)
     (each_problem_name lts class s t (λ n. NamesUsed lts (row_expression lts class (Event s t) number [] n).terms)
@@ -74,7 +75,8 @@ names_used lts class (Event s t) number name (lt, lt', _) live has =
     state q has' = let (_, _, lt) = where_is (λ q. has_label_at q t lts.arcs) 0 (states lts) q has' in omega arith
 names_used lts class (States s s') number name (lt, lt', _) live has =
     each_name lts class (States s s') number (λ n. NamesUsed lts (row_expression lts class (States s s') number [] n).terms)
-    (λ n h. ⊎_elim (λ is. subst (λ k. NamesUsed lts (row_expression lts class (States s s') number [] k).terms) is (apart_used lts s s' (order_of lts class number) lt lt')) (λ there. absurd (nothing n there)) (Contains-cons_cases row_name.Apart n [] h))
+    (λ n h. ⊎_elim (λ is. subst (λ k. NamesUsed lts (row_expression lts class (States s s') number [] k).terms) is
+    (apart_used lts s s' (order_of lts class number) lt lt')) (λ there. absurd (nothing n there)) (Contains-cons_cases row_name.Apart n [] h))
     (λ _ q lt. one_used lts (plus (Tokens q)) lt)
     (λ _ q lt. one_used lts (minus (Tokens q)) lt)
     (λ _ u lt e. one_used lts (minus (Effect u)) (lt, e))

@@ -41,5 +41,6 @@ parts_made numbers seen items q n g e e' whole part' =
       parts_are = sym e' ∙ same_numbers (λ z. pos (max g 1) *ℤ z) items q part.same_length (times_max items q g part);
     })
 
-pub parts_in_range : (seen items q : List ℤ) (n g : ℕ) → seen ≡ items → n ≡ length items → IsPrimitivePart seen q g → ((k : ℕ) → k < length seen → InRange (number_at q k)) → All InRange (take n (q ++ drop (length q) items))
+pub parts_in_range : (seen items q : List ℤ) (n g : ℕ) → seen ≡ items → n ≡ length items → IsPrimitivePart seen q g
+    → ((k : ℕ) → k < length seen → InRange (number_at q k)) → All InRange (take n (q ++ drop (length q) items))
 parts_in_range seen items q n g e whole part' range = written_in_range items q n whole (subst (λ l. IsPrimitivePart l q g) e part').same_length (λ k lt. range k (subst (λ l. k < length l) (sym e) lt))

@@ -35,11 +35,11 @@ use Rattle.rg_case_folds.specs.Spreading.{tree_fold, checked_leaf, Share, ArcTim
 use Rattle.rg_case_folds.proofs.Potentials.{arc_sum, tree_sum, arc_label}
 use Rattle.rg_case_folds.proofs.Scaling.{Divides, AllDivide}
 use Rattle.rg_case_folds.proofs.Signs.{AllPositive}
-use Rattle.rg_case_folds.proofs.ExactRows.{common_bottom}
+use Rattle.rg_case_folds.proofs.ExactRows.{common_bottom, part_exact as part_is}
 use Rattle.rg_farkas.specs.Refuting.{terms_sum, RefuteOnArcs, SharesRefute}
 use Rattle.rg_farkas.specs.View.{AreRowsWithin, arc_times}
 use Rattle.rg_cert_data.specs.Certificates.{IsTermWithin}
-use Rattle.rg_farkas.proofs.Fractions.{part_is, whole_in, scaled_are, scaled_divide, scaled_positive, divide_both}
+use Rattle.rg_farkas.proofs.Fractions.{whole_in, scaled_are, scaled_divide, scaled_positive, divide_both}
 use Rattle.rg_farkas.proofs.Relations.{used_chord, relation_row}
 use Rattle.rg_farkas.proofs.ChordSums.{weighted, are_shares, divides_share, chord_bottom, rows_cancel}
 use Rattle.rg_farkas.proofs.Listed.{Differ, rows_sum, ordered_differ, named-scaled, arcs_named, leaf_sum}
@@ -64,11 +64,16 @@ all_not_zero P (r ∷ rows) all = go (int_lt r.multiplier (pos 0) || int_lt (pos
 all_named : (Q : RowName → Type 0) (shares : List Share) (zs : List ℤ) → All (λ s. Q s.name) shares → All (λ r. Q r.name) (named_from (map (λ s. s.name) shares) zs)
 all_named Q [] zs all = All-nil (λ r. Q r.name)
 all_named Q (s ∷ shares) [] all = All-nil (λ r. Q r.name)
-all_named Q (s ∷ shares) (z ∷ zs) all = All-cons (λ r. Q r.name) (record { multiplier = z; name = s.name }) (named_from (map (λ u. u.name) shares) zs) (All-head (λ u. Q u.name) s shares all) (all_named Q shares zs (All-tail (λ u. Q u.name) s shares all))
+all_named Q (s ∷ shares) (z ∷ zs) all = All-cons (λ r. Q r.name) (record { multiplier = z; name = s.name })
+    (named_from (map (λ u. u.name) shares) zs) (All-head (λ u. Q u.name) s shares all) (all_named Q shares zs (All-tail (λ u. Q u.name) s shares all))
 
-all_arcs : (P : NamedRow → Type 0) (number : Arc → ℤ) (arcs : List Arc) → ((a : Arc) → Contains arcs a → P (record { multiplier = number a; name = arc_name a })) → All P (map (λ a. record { multiplier = number a; name = arc_name a }) arcs)
+all_arcs : (P : NamedRow → Type 0) (number : Arc → ℤ) (arcs : List Arc)
+    → ((a : Arc) → Contains arcs a → P (record { multiplier = number a; name = arc_name a }))
+    → All P (map (λ a. record { multiplier = number a; name = arc_name a }) arcs)
 all_arcs P number [] has = All-nil P
-all_arcs P number (a ∷ arcs) has = All-cons P (record { multiplier = number a; name = arc_name a }) (map (λ u. record { multiplier = number u; name = arc_name u }) arcs) (has a (0, omega arith, refl)) (all_arcs P number arcs (λ u (k, lt, e). has u (suc k, omega arith, e)))
+all_arcs P number (a ∷ arcs) has = All-cons P (record { multiplier = number a; name = arc_name a })
+    (map (λ u. record { multiplier = number u; name = arc_name u }) arcs) (has a (0, omega arith, refl))
+    (all_arcs P number arcs (λ u (k, lt, e). has u (suc k, omega arith, e)))
 
 is_multiplier : (k : ℤ) (name : RowName) → pos 1 ≤ℤ k → IsMultiplier k name
 is_multiplier k (row_name.Arc a) h = tt
@@ -120,7 +125,8 @@ named_both (x ∷ xs) ys [] vs e = absurd (omega arith)
 named_both (x ∷ xs) ys (u ∷ us) vs e = ap (λ l. record { multiplier = u; name = x } ∷ l) (named_both xs ys us vs (omega arith))
 
 -- the named rows with their numbers
-named_shares : (m : ℤ) (shares : List Share) (ys : List RowName) (xs : List Ratio) → named_from (map (λ s. s.name) shares ++ ys) (map (whole_in m) (map (λ s. s.multiplier) shares ++ xs)) ≡ weighted m shares ++ named_from ys (map (whole_in m) xs)
+named_shares : (m : ℤ) (shares : List Share) (ys : List RowName) (xs : List Ratio)
+    → named_from (map (λ s. s.name) shares ++ ys) (map (whole_in m) (map (λ s. s.multiplier) shares ++ xs)) ≡ weighted m shares ++ named_from ys (map (whole_in m) xs)
 named_shares m [] ys xs = refl
 named_shares m (s ∷ shares) ys xs = ap (λ l. record { multiplier = whole_in m s.multiplier; name = s.name } ∷ l) (named_shares m shares ys xs)
 
@@ -132,9 +138,12 @@ named_tree : (arcs : List ArcTimes) → named_from (map arc_name (map (λ x. x.a
 named_tree [] = refl
 named_tree (x ∷ arcs) = ap (λ l. record { multiplier = x.multiplier; name = arc_name x.arc } ∷ l) (named_tree arcs)
 
-chord_bottoms : (lts : System) (tree : List Arc) (basis : CycleBasis) (expression : RowName → Expression) (shares : List Share) (cs : List ℕ) (xs : List Ratio) → each (chord_fold lts tree basis expression shares) cs (Ok xs) → AllPositive (map (λ r. r.bottom) xs)
+chord_bottoms : (lts : System) (tree : List Arc) (basis : CycleBasis) (expression : RowName → Expression) (shares : List Share) (cs : List ℕ)
+    (xs : List Ratio) → each (chord_fold lts tree basis expression shares) cs (Ok xs) → AllPositive (map (λ r. r.bottom) xs)
 chord_bottoms lts tree basis expression shares [] xs e = subst (λ (l : List Ratio). AllPositive (map (λ r. r.bottom) l)) (sym e) tt
-chord_bottoms lts tree basis expression shares (c ∷ cs) xs (x, fold, (rest, more, e)) = subst (λ (l : List Ratio). AllPositive (map (λ r. r.bottom) l)) (sym e) (chord_bottom lts tree basis expression shares c x fold, chord_bottoms lts tree basis expression shares cs rest more)
+chord_bottoms lts tree basis expression shares (c ∷ cs) xs (x, fold, (rest, more, e)) =
+    subst (λ (l : List Ratio). AllPositive (map (λ r. r.bottom) l)) (sym e)
+    (chord_bottom lts tree basis expression shares c x fold, chord_bottoms lts tree basis expression shares cs rest more)
 
 both_positive : (rs xs : List Ratio) → AllPositive (map (λ r. r.bottom) rs) → AllPositive (map (λ r. r.bottom) xs) → AllPositive (map (λ r. r.bottom) (rs ++ xs))
 both_positive [] xs p q = q
@@ -145,15 +154,19 @@ share_bottoms [] all = tt
 share_bottoms (s ∷ shares) all = (All-head (λ u. pos 0 <ℤ u.multiplier.bottom) s shares all, share_bottoms shares (All-tail (λ u. pos 0 <ℤ u.multiplier.bottom) s shares all))
 
 whole_positive : (m : ℤ) (r : Ratio) → pos 0 <ℤ m → pos 0 <ℤ r.bottom → pos 0 <ℤ r.top → Divides r.bottom m → pos 0 <ℤ whole_in m r
-whole_positive m r positive bottom top d = mul_positive r.top (int_div m r.bottom) top (factor_positive r.bottom (int_div m r.bottom) (weaker r.bottom bottom) (subst (λ x. pos 0 <ℤ x) (part_is r.bottom m d) positive))
+whole_positive m r positive bottom top d = mul_positive r.top (int_div m r.bottom) top
+    (factor_positive r.bottom (int_div m r.bottom) (weaker r.bottom bottom) (subst (λ x. pos 0 <ℤ x) (part_is r.bottom m d) positive))
   where
     weaker : (d : ℤ) → pos 0 <ℤ d → pos 0 ≤ℤ d
     weaker d h = omega (arith, ints)
 
 -- ---- arcs
 
-arc_value : (lts : System) (tree : List Arc) (expression : RowName → Expression) → SaysArcs expression → (start : ℤ) (effect : ℕ → ℤ) (a : Arc) → a.label < labels lts → value_in (numbers_along lts tree start effect) (expression (arc_name a)).terms ≡ chord_sum lts tree effect a
-arc_value lts tree expression says start effect a lt = ap (λ (e : Expression). value_in (numbers_along lts tree start effect) e.terms) (says a) ∙ close (potential lts tree start effect a.from) (effect a.label) (potential lts tree start effect a.to) ∙ arc_sum lts tree start effect a lt
+arc_value : (lts : System) (tree : List Arc) (expression : RowName → Expression) → SaysArcs expression → (start : ℤ) (effect : ℕ → ℤ) (a : Arc)
+    → a.label < labels lts → value_in (numbers_along lts tree start effect) (expression (arc_name a)).terms ≡ chord_sum lts tree effect a
+arc_value lts tree expression says start effect a lt =
+    ap (λ (e : Expression). value_in (numbers_along lts tree start effect) e.terms) (says a)
+    ∙ close (potential lts tree start effect a.from) (effect a.label) (potential lts tree start effect a.to) ∙ arc_sum lts tree start effect a lt
   where
     close : (x e y : ℤ) → (pos 1 *ℤ x) +ℤ ((pos 1 *ℤ e) +ℤ ((negsuc 0 *ℤ y) +ℤ pos 0)) ≡ (x +ℤ e) -ℤ y
     close x e y = omega (arith, ints)
@@ -161,13 +174,16 @@ arc_value lts tree expression says start effect a lt = ap (λ (e : Expression). 
 in_times : (arcs : List Arc) (zs : List ℤ) (x : ArcTimes) → Contains (arc_times arcs zs) x → Contains arcs x.arc
 in_times [] zs x (k, lt, e) = absurd (omega arith)
 in_times (a ∷ arcs) [] x (k, lt, e) = absurd (omega arith)
-in_times (a ∷ arcs) (z ∷ zs) x has = ⊎_elim (λ e. (0, omega arith, ap (λ (u : ArcTimes). u.arc) e)) (λ there. (let (k, lt, at) = in_times arcs zs x there in (suc k, omega arith, at))) (Contains-cons_cases (record { arc = a; multiplier = z }) x (arc_times arcs zs) has)
+in_times (a ∷ arcs) (z ∷ zs) x has = ⊎_elim (λ e. (0, omega arith, ap (λ (u : ArcTimes). u.arc) e))
+    (λ there. (let (k, lt, at) = in_times arcs zs x there in (suc k, omega arith, at)))
+    (Contains-cons_cases (record { arc = a; multiplier = z }) x (arc_times arcs zs) has)
 
 in_arcs : (arcs : List ArcTimes) (x : ArcTimes) → Contains arcs x → Contains (map (λ y. y.arc) arcs) x.arc
 in_arcs arcs x has = Contains-map (λ y. y.arc) arcs x has
 
 -- the row of an arc names states and a label of the system
-arc_within : (lts : System) (expression : RowName → Expression) → IsInRange lts → SaysArcs expression → (a : Arc) → Contains lts.arcs a → All (IsTermWithin (states lts) (labels lts)) (expression (arc_name a)).terms
+arc_within : (lts : System) (expression : RowName → Expression) → IsInRange lts → SaysArcs expression → (a : Arc) → Contains lts.arcs a
+    → All (IsTermWithin (states lts) (labels lts)) (expression (arc_name a)).terms
 arc_within lts expression fine says a has =
     let ranges = arc_in_range lts fine a.from a.label a.to has in
     subst (λ (e : Expression). All (IsTermWithin (states lts) (labels lts)) e.terms) (sym (says a))
@@ -184,8 +200,10 @@ all_of (x ∷ arcs) P has = All-cons (λ y. P y.arc) x arcs (has x (0, omega ari
 module _ (lts : System) (tree : List Arc) (basis : CycleBasis) (expression : RowName → Expression) (shares : List Share) (m : ℤ) (xs : List Ratio) (arcs : List ArcTimes)
     (fine : IsInRange lts) (reached : IsAllReachable lts) (g : IsTree lts tree) (is : IsBasis lts tree basis) (says : SaysArcs expression)
     (inside : (a : Arc) → Contains (chord_arcs lts tree basis ++ tree) a → Contains lts.arcs a) (within : AreRowsWithin lts expression shares)
-    (folds : each (chord_fold lts tree basis expression shares) (used_chords lts basis) (Ok xs)) (divide : AllDivide (map (λ r. r.bottom) (map (λ s. s.multiplier) shares)) m) (divide_chords : AllDivide (map (λ r. r.bottom) xs) m)
-    (runs : Runs expression (weighted m shares ++ named_from (map arc_name (chord_arcs lts tree basis)) (map (whole_in m) xs)) tree arcs) (refute : RefuteOnArcs lts expression (weighted m shares)) where
+    (folds : each (chord_fold lts tree basis expression shares) (used_chords lts basis) (Ok xs))
+    (divide : AllDivide (map (λ r. r.bottom) (map (λ s. s.multiplier) shares)) m) (divide_chords : AllDivide (map (λ r. r.bottom) xs) m)
+    (runs : Runs expression (weighted m shares ++ named_from (map arc_name (chord_arcs lts tree basis)) (map (whole_in m) xs)) tree arcs)
+    (refute : RefuteOnArcs lts expression (weighted m shares)) where
   abbrev pub rows_before : List NamedRow
   rows_before = weighted m shares ++ named_from (map arc_name (chord_arcs lts tree basis)) (map (whole_in m) xs)
 
@@ -193,7 +211,9 @@ module _ (lts : System) (tree : List Arc) (basis : CycleBasis) (expression : Row
   all_rows = (weighted m shares ++ named_from (map arc_name (chord_arcs lts tree basis)) (map (whole_in m) xs)) ++ tree_rows arcs
 
   -- what g of all rows' names adds up to
-  parts_sum : (h : RowName → ℤ) → rows_sum h all_rows ≡ (rows_sum h (weighted m shares) +ℤ sum_over (λ r. r.multiplier *ℤ h (arc_name r.arc)) (arc_times (chord_arcs lts tree basis) (map (whole_in m) xs))) +ℤ sum_over (λ x. x.multiplier *ℤ h (arc_name x.arc)) arcs
+  parts_sum : (h : RowName → ℤ) → rows_sum h all_rows
+      ≡ (rows_sum h (weighted m shares) +ℤ sum_over (λ r. r.multiplier *ℤ h (arc_name r.arc))
+      (arc_times (chord_arcs lts tree basis) (map (whole_in m) xs))) +ℤ sum_over (λ x. x.multiplier *ℤ h (arc_name x.arc)) arcs
   parts_sum h =
       sum_over-append (λ r. r.multiplier *ℤ h r.name) rows_before (tree_rows arcs)
       ∙ ap₂ ◌+ℤ◌ (sum_over-append (λ r. r.multiplier *ℤ h r.name) (weighted m shares) (named_from (map arc_name (chord_arcs lts tree basis)) (map (whole_in m) xs))
@@ -226,10 +246,12 @@ module _ (lts : System) (tree : List Arc) (basis : CycleBasis) (expression : Row
       close : (a b c : ℤ) → a +ℤ b ≡ pos 0 → c ≡ pos 0 → (a +ℤ b) +ℤ c ≡ pos 0
       close a b c p q = omega (arith, ints)
 
-      named : terms_sum expression (weighted m shares) (numbers_along lts tree start effect) +ℤ sum_over (λ r. r.multiplier *ℤ chord_sum lts tree effect r.arc) (arc_times (chord_arcs lts tree basis) (map (whole_in m) xs)) ≡ pos 0
+      named : terms_sum expression (weighted m shares) (numbers_along lts tree start effect)
+          +ℤ sum_over (λ r. r.multiplier *ℤ chord_sum lts tree effect r.arc) (arc_times (chord_arcs lts tree basis) (map (whole_in m) xs)) ≡ pos 0
       named =
           let (b, positive, divides) = common_bottom (λ t. (basis.relation t).d) (dependent_labels (labels lts) basis) (λ t has. (relation_row lts tree basis is t has).positive) in
-          rows_cancel lts tree basis expression shares m b (λ t. int_div b (basis.relation t).d) divide (λ t has. part_is (basis.relation t).d b (divides t has)) fine g is positive within refute xs folds divide_chords start effect
+          rows_cancel lts tree basis expression shares m b (λ t. int_div b (basis.relation t).d) divide
+          (λ t has. part_is (basis.relation t).d b (divides t has)) fine g is positive within refute xs folds divide_chords start effect
 
   -- the rows name states and labels of the system
   rows_within : RowsWithin (states lts) (labels lts) expression all_rows
@@ -242,7 +264,8 @@ module _ (lts : System) (tree : List Arc) (basis : CycleBasis) (expression : Row
       (all_of arcs (λ a. All (IsTermWithin (states lts) (labels lts)) (expression (arc_name a)).terms)
       (λ x has. arc_within lts expression fine says x.arc (inside x.arc (Contains-append_right (chord_arcs lts tree basis) tree x.arc (tree_has x has))))))
     where
-      chords : (cs : List Arc) (zs : List ℤ) → ((a : Arc) → Contains cs a → Contains (chord_arcs lts tree basis ++ tree) a) → All (λ r. All (IsTermWithin (states lts) (labels lts)) (expression r.name).terms) (named_from (map arc_name cs) zs)
+      chords : (cs : List Arc) (zs : List ℤ) → ((a : Arc) → Contains cs a → Contains (chord_arcs lts tree basis ++ tree) a)
+          → All (λ r. All (IsTermWithin (states lts) (labels lts)) (expression r.name).terms) (named_from (map arc_name cs) zs)
       chords [] zs has = All-nil (λ r. All (IsTermWithin (states lts) (labels lts)) (expression r.name).terms)
       chords (a ∷ cs) [] has = All-nil (λ r. All (IsTermWithin (states lts) (labels lts)) (expression r.name).terms)
       chords (a ∷ cs) (z ∷ zs) has = All-cons (λ r. All (IsTermWithin (states lts) (labels lts)) (expression r.name).terms)
@@ -264,7 +287,8 @@ module _ (lts : System) (tree : List Arc) (basis : CycleBasis) (expression : Row
       (sum_over-map (λ r. r.multiplier *ℤ coefficient_in (expression r.name).terms (Tokens q))
       (λ x. record { multiplier = x.multiplier; name = arc_name x.arc }) arcs ∙ sum_over-same _ (λ x. x.multiplier *ℤ arc_at q x.arc) arcs
       (λ x has. ap (λ z. x.multiplier *ℤ z) (arc_coefficient expression says x.arc q)))
-      ∙ state_sum lts expression rows_before (lts.initial ∷ []) q arcs (subst (Grows lts (lts.initial ∷ [])) (sym runs.arcs_are) g) runs.balanced lacks (subst (λ l. Contains (map (λ a. a.to) l) q) (sym runs.arcs_are) entered)
+      ∙ state_sum lts expression rows_before (lts.initial ∷ []) q arcs
+      (subst (Grows lts (lts.initial ∷ [])) (sym runs.arcs_are) g) runs.balanced lacks (subst (λ l. Contains (map (λ a. a.to) l) q) (sym runs.arcs_are) entered)
     where
       lacks : ¬ Contains (lts.initial ∷ []) q
       lacks has = ⊎_elim (λ e. ne (sym e)) (λ (k, lt', e). omega arith) (Contains-cons_cases lts.initial q [] has)
@@ -274,8 +298,10 @@ module _ (lts : System) (tree : List Arc) (basis : CycleBasis) (expression : Row
 
   initial_state : left_over (Tokens lts.initial) ≡ pos 0
   initial_state = close (left_over (Tokens lts.initial)) _ _ one
-      (sym (sum_below-only (states lts) lts.initial (λ q. left_over (Tokens q) *ℤ potential lts tree (pos 1) (λ t. pos 0) q) fine.initial (λ q lt ne. ap (λ z. z *ℤ potential lts tree (pos 1) (λ t. pos 0) q) (other_state q lt ne) ∙ zero-*ℤ (potential lts tree (pos 1) (λ t. pos 0) q)))
-      ∙ last _ ∙ ap (λ z. sum_below (states lts) (λ q. left_over (Tokens q) *ℤ potential lts tree (pos 1) (λ t. pos 0) q) +ℤ z) (sym (sum_below-zero (labels lts) (λ u. left_over (Effect u) *ℤ pos 0) (λ u lt. *ℤ-zero (left_over (Effect u)))))
+      (sym (sum_below-only (states lts) lts.initial (λ q. left_over (Tokens q) *ℤ potential lts tree (pos 1) (λ t. pos 0) q) fine.initial
+      (λ q lt ne. ap (λ z. z *ℤ potential lts tree (pos 1) (λ t. pos 0) q) (other_state q lt ne) ∙ zero-*ℤ (potential lts tree (pos 1) (λ t. pos 0) q)))
+      ∙ last _ ∙ ap (λ z. sum_below (states lts) (λ q. left_over (Tokens q) *ℤ potential lts tree (pos 1) (λ t. pos 0) q) +ℤ z)
+      (sym (sum_below-zero (labels lts) (λ u. left_over (Effect u) *ℤ pos 0) (λ u lt. *ℤ-zero (left_over (Effect u)))))
       ∙ along_split (pos 1) (λ t. pos 0))
     where
       one : potential lts tree (pos 1) (λ t. pos 0) lts.initial ≡ pos 1
@@ -323,9 +349,6 @@ module _ (lts : System) (tree : List Arc) (basis : CycleBasis) (expression : Row
       close : (a b c : ℤ) → b ≡ pos 0 → c ≡ pos 0 → (a +ℤ b) +ℤ c ≡ a
       close a b c p q = omega (arith, ints)
 
-  pub rows_are_within : RowsWithin (states lts) (labels lts) expression all_rows
-  rows_are_within = rows_within
-
 -- ---- the leaf
 
 -- positive multiples of rows that cancel
@@ -352,12 +375,17 @@ module _ (lts : System) (tree : List Arc) (basis : CycleBasis) (stands : RowName
     (well : IsWellFormed lts) (reached : IsAllReachable lts) (g : IsTree lts tree) (is : IsBasis lts tree basis) (says : SaysArcs expression)
     (arcs_stand : (a : Arc) → Contains lts.arcs a → stands (arc_name a)) (stand : All (λ s. stands s.name) shares) (within : AreRowsWithin lts expression shares)
     (bottoms : All (λ s. pos 0 <ℤ s.multiplier.bottom) shares) (refute : SharesRefute lts expression shares)
-    (xs : List Ratio) (folds : each (chord_fold lts tree basis expression shares) (used_chords lts basis) (Ok xs)) (m : ℤ) (positive : pos 0 <ℤ m) (divide : AllDivide (map (λ r. r.bottom) (map (λ s. s.multiplier) shares)) m) (divide_chords : AllDivide (map (λ r. r.bottom) xs) m)
+    (xs : List Ratio) (folds : each (chord_fold lts tree basis expression shares) (used_chords lts basis) (Ok xs)) (m : ℤ) (positive : pos 0 <ℤ m)
+    (divide : AllDivide (map (λ r. r.bottom) (map (λ s. s.multiplier) shares)) m) (divide_chords : AllDivide (map (λ r. r.bottom) xs) m)
     (arcs : List ArcTimes) (runs : Runs expression (weighted m shares ++ named_from (map arc_name (chord_arcs lts tree basis)) (map (whole_in m) xs)) tree arcs) (d : ℤ)
     (d_positive : pos 0 <ℤ d) (parts : List ℤ)
     (numbers_are : map (whole_in m) (map (λ s. s.multiplier) shares ++ xs) ++ map (λ x. x.multiplier) arcs ≡ map (λ z. d *ℤ z) parts) where
   abbrev leaf_rows : List NamedRow
-  leaf_rows = not_zero (named_from (map (λ s. s.name) shares) parts ++ map (λ a. record { multiplier = multiplier_among (chord_arcs lts tree basis ++ map (λ x. x.arc) arcs) (drop (length shares) parts) a; name = arc_name a }) lts.arcs)
+  leaf_rows = not_zero (named_from (map (λ s. s.name) shares) parts
+      ++ map (λ a. record {
+        multiplier = multiplier_among (chord_arcs lts tree basis ++ map (λ x. x.arc) arcs) (drop (length shares) parts) a;
+        name = arc_name a;
+      }) lts.arcs)
 
   refuted : RefuteOnArcs lts expression (weighted m shares)
   refuted = refute.refute m (weighted m shares) positive (are_shares m shares divide)
@@ -392,8 +420,11 @@ module _ (lts : System) (tree : List Arc) (basis : CycleBasis) (stands : RowName
 
   leaf_scaled : (h : RowName → ℤ) → d *ℤ rows_sum h leaf_rows ≡ rows_sum h ((weighted m shares ++ named_from (map arc_name (chord_arcs lts tree basis)) (map (whole_in m) xs)) ++ tree_rows arcs)
   leaf_scaled h =
-      ap (λ n. d *ℤ rows_sum h (not_zero (named_from (map (λ s. s.name) shares) parts ++ map (λ a. record { multiplier = multiplier_among (chord_arcs lts tree basis ++ map (λ x. x.arc) arcs) (drop n parts) a; name = arc_name a }) lts.arcs))) (sym (length-map shares (λ s. s.name)))
-      ∙ ap (λ z. d *ℤ z) (leaf_sum h (map (λ s. s.name) shares) lts.arcs (chord_arcs lts tree basis ++ map (λ x. x.arc) arcs) parts (ordered_differ lts.arcs well.arc_order) differ (λ a has. inside a (subst (λ l. Contains (chord_arcs lts tree basis ++ l) a) runs.arcs_are has)) parts_length)
+      ap (λ n. d *ℤ rows_sum h (not_zero (named_from (map (λ s. s.name) shares) parts
+      ++ map (λ a. record { multiplier = multiplier_among (chord_arcs lts tree basis ++ map (λ x. x.arc) arcs) (drop n parts) a; name = arc_name a }) lts.arcs)))
+      (sym (length-map shares (λ s. s.name)))
+      ∙ ap (λ z. d *ℤ z) (leaf_sum h (map (λ s. s.name) shares) lts.arcs (chord_arcs lts tree basis ++ map (λ x. x.arc) arcs) parts
+      (ordered_differ lts.arcs well.arc_order) differ (λ a has. inside a (subst (λ l. Contains (chord_arcs lts tree basis ++ l) a) runs.arcs_are has)) parts_length)
       ∙ sym (named-scaled h d (map (λ s. s.name) shares ++ map arc_name (chord_arcs lts tree basis ++ map (λ x. x.arc) arcs)) parts)
       ∙ ap (λ zs. rows_sum h (named_from (map (λ s. s.name) shares ++ map arc_name (chord_arcs lts tree basis ++ map (λ x. x.arc) arcs)) zs)) (sym numbers_are)
       ∙ ap (λ ns. rows_sum h (named_from ns (map (whole_in m) (map (λ s. s.multiplier) shares ++ xs) ++ map (λ x. x.multiplier) arcs)))
@@ -407,7 +438,12 @@ module _ (lts : System) (tree : List Arc) (basis : CycleBasis) (stands : RowName
       differ = subst (λ l. Differ (chord_arcs lts tree basis ++ l)) (sym runs.arcs_are) (given_differ lts tree basis is (ordered_differ lts.arcs well.arc_order) g)
 
   -- what holds of named rows and of arcs holds of the leaf
-  all_of_leaf : (P : NamedRow → Type 0) → All P (named_from (map (λ s. s.name) shares) parts) → ((a : Arc) → Contains lts.arcs a → P (record { multiplier = multiplier_among (chord_arcs lts tree basis ++ map (λ x. x.arc) arcs) (drop (length shares) parts) a; name = arc_name a })) → All P leaf_rows
+  all_of_leaf : (P : NamedRow → Type 0) → All P (named_from (map (λ s. s.name) shares) parts)
+      → ((a : Arc) → Contains lts.arcs a → P (record {
+        multiplier =
+            multiplier_among (chord_arcs lts tree basis ++ map (λ x. x.arc) arcs) (drop (length shares) parts) a;
+        name = arc_name a;
+      })) → All P leaf_rows
   all_of_leaf P named has = all_not_zero P
       (named_from (map (λ s. s.name) shares) parts ++ map
       (λ a. record { multiplier = multiplier_among (chord_arcs lts tree basis ++ map (λ x. x.arc) arcs) (drop (length shares) parts) a; name = arc_name a }) lts.arcs)
@@ -425,25 +461,33 @@ module _ (lts : System) (tree : List Arc) (basis : CycleBasis) (stands : RowName
         (positive_named d m shares parts (map (whole_in m) xs ++ map (λ x. x.multiplier) arcs) d_positive
         (λ s has. whole_positive m s.multiplier positive (All-contains (λ u. pos 0 <ℤ u.multiplier.bottom) shares s bottoms has)
         (All-contains (λ u. pos 0 <ℤ u.multiplier.top) shares s refute.positive has) (divides_share m shares s divide has)) first_numbers) (λ a has. tt);
-    small = is_small lts expression leaf_rows rows (all_of_leaf (λ r. All (IsTermWithin (states lts) (labels lts)) (expression r.name).terms) (all_named (λ name. All (IsTermWithin (states lts) (labels lts)) (expression name).terms) shares parts within) arc_is_within) range checked;
-    cancels = λ v. scaled_zero d (coefficient_sum expression leaf_rows v) _ d_positive (leaf_scaled (λ name. coefficient_in (expression name).terms v)) (all_cancel lts tree basis expression shares m xs arcs well.in_range reached g is says inside within folds divide divide_chords runs refuted v);
+    small = is_small lts expression leaf_rows rows
+        (all_of_leaf (λ r. All (IsTermWithin (states lts) (labels lts)) (expression r.name).terms)
+        (all_named (λ name. All (IsTermWithin (states lts) (labels lts)) (expression name).terms) shares parts within) arc_is_within) range checked;
+    cancels = λ v. scaled_zero d (coefficient_sum expression leaf_rows v) _ d_positive
+        (leaf_scaled (λ name. coefficient_in (expression name).terms v))
+        (all_cancel lts tree basis expression shares m xs arcs well.in_range reached g is says inside within folds divide divide_chords runs refuted v);
     contradicts = scaled_negative d (constant_sum expression leaf_rows) _ d_positive (leaf_scaled (λ name. (expression name).constant))
         (subst (λ z. z <ℤ pos 0) (sym (constants_are lts tree basis expression shares m xs arcs well.in_range reached g is says inside within folds divide divide_chords
         runs refuted)) refuted.contradict);
   }
     where
       first_numbers : map (whole_in m) (map (λ s. s.multiplier) shares) ++ (map (whole_in m) xs ++ map (λ x. x.multiplier) arcs) ≡ map (λ z. d *ℤ z) parts
-      first_numbers = sym (append_assoc (map (whole_in m) (map (λ s. s.multiplier) shares)) (map (whole_in m) xs) (map (λ x. x.multiplier) arcs)) ∙ ap (λ l. l ++ map (λ x. x.multiplier) arcs) (sym (map-append (whole_in m) (map (λ s. s.multiplier) shares) xs)) ∙ numbers_are
+      first_numbers = sym (append_assoc (map (whole_in m) (map (λ s. s.multiplier) shares)) (map (whole_in m) xs) (map (λ x. x.multiplier) arcs))
+          ∙ ap (λ l. l ++ map (λ x. x.multiplier) arcs) (sym (map-append (whole_in m) (map (λ s. s.multiplier) shares) xs)) ∙ numbers_are
 
 -- the leaf of shares that stand and refute refutes
 pub leaf_refutes : (lts : System) (tree : List Arc) (basis : CycleBasis) (stands : RowName → Type 0) (expression : RowName → Expression) (shares : List Share) (rows : List NamedRow)
     → IsWellFormed lts → IsAllReachable lts → IsTree lts tree → IsBasis lts tree basis → SaysArcs expression → ((a : Arc) → Contains lts.arcs a → stands (arc_name a))
     → All (λ s. stands s.name) shares → AreRowsWithin lts expression shares → All (λ s. pos 0 <ℤ s.multiplier.bottom) shares → SharesRefute lts expression shares
     → leaf_fold lts tree basis expression shares (Ok rows) → All (λ r. InRange r.multiplier) rows → LeafRefutes stands expression rows
-leaf_refutes lts tree basis stands expression shares rows well reached g is says arcs_stand stand within bottoms refute (xs, folds, (scaled, scales, (arcs, runs_fold, (parts, parts_are, checked)))) range =
+leaf_refutes lts tree basis stands expression shares rows well reached g is says arcs_stand stand within bottoms refute
+    (xs, folds, (scaled, scales, (arcs, runs_fold, (parts, parts_are, checked)))) range =
     let divides = divide_both (map (λ s. s.multiplier) shares) xs scaled.multiple (scaled_divide (map (λ s. s.multiplier) shares ++ xs) scaled scales) in
     let numbers = scaled_are (map (λ s. s.multiplier) shares ++ xs) scaled scales in
-    let positive = scaled_positive (map (λ s. s.multiplier) shares ++ xs) scaled (both_positive (map (λ s. s.multiplier) shares) xs (share_bottoms shares bottoms) (chord_bottoms lts tree basis expression shares (used_chords lts basis) xs folds)) scales in
+    let positive = scaled_positive (map (λ s. s.multiplier) shares ++ xs) scaled
+    (both_positive (map (λ s. s.multiplier) shares) xs (share_bottoms shares bottoms)
+    (chord_bottoms lts tree basis expression shares (used_chords lts basis) xs folds)) scales in
     let runs : Runs expression (weighted scaled.multiple shares ++ named_from (map arc_name (chord_arcs lts tree basis)) (map (whole_in scaled.multiple) xs)) tree arcs =
     tree_runs expression _ tree arcs (subst (λ l. tree_fold expression l [] (reverse tree) (Ok arcs))
     (ap (named_from (map (λ s. s.name) shares ++ map arc_name (chord_arcs lts tree basis))) numbers

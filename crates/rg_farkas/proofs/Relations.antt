@@ -1,5 +1,5 @@
 -- What relations say of any effects, with the sums of the chords that the basis uses.
-use Rattle.std.proofs.Common.{◌≡◌, ⊎_elim, ℕ, zero, suc, ◌+◌, ◌<◌, Bool, true, false, not, nat_lt, if◌then◌else◌, List, [], map, length, slice_index_or, Contains, ap, ap₂, refl, subst, sym, ◌∙◌, arith}
+use Rattle.std.proofs.Common.{◌≡◌, ⊎_elim, ℕ, ◌+◌, ◌<◌, Bool, true, false, not, nat_lt, if◌then◌else◌, List, [], length, slice_index_or, Contains, ap, ap₂, refl, subst, sym, ◌∙◌, arith}
 use Rattle.std.specs.Prelude.{ℤ, pos, ◌+ℤ◌, ◌*ℤ◌}
 use Rattle.std.proofs.Math.IntN.{zero-*ℤ, *ℤ-zero}
 use Rattle.std.proofs.lemmas.Int.{ints}
@@ -13,19 +13,20 @@ use Rattle.rg_integers.proofs.Ring.{ring, mul-add, mul_left_comm}
 use Rattle.rg_integers.proofs.Sums.{sum_below-same, sum_below-zero, sum_below-split}
 use Rattle.rg_integers.proofs.ListSums.{sum_over-zero, sum_over-same, sum_over-plus, sum_over-times}
 use Rattle.rg_linear.specs.System.{LinearRow, row_at, entry}
-use Rattle.rg_linear.specs.Dictionary.{Relation, DictionaryRow, Takes, numbers_from}
-use Rattle.rg_linear.specs.Cycle.{IsHomogeneous, FollowsRelations, vector_at, IsZeroVector, CycleBasis}
-use Rattle.rg_linear.proofs.Members.{numbers_from-Contains, is_member}
+use Rattle.rg_linear.specs.Dictionary.{Relation, DictionaryRow, Takes}
+use Rattle.rg_linear.specs.Cycle.{IsHomogeneous, FollowsRelations, vector_at, CycleBasis}
+use Rattle.rg_linear.proofs.Members.{is_member}
 use Rattle.rg_linear.proofs.Columns.{values_of, values_of-column, values_of-point, below_test, past_test}
 use Rattle.rg_linear.proofs.Cycles.{no_constant, cycle_set_knows}
-use Rattle.rg_linear.proofs.Firsts.{kept_is}
 use Rattle.rg_case_folds.specs.Potentials.{chord_sum}
-use Rattle.rg_case_folds.specs.Chords.{chord_vector, chord_vectors, chord_at, KeepsChords, chord_system, IsBasis}
+use Rattle.rg_case_folds.specs.Chords.{chord_vector, chord_vectors, chord_at, chord_system, IsBasis}
 use Rattle.rg_folds.specs.Substitution.{is_in, numbers_where, free_labels, dependent_labels}
 use Rattle.rg_case_folds.specs.Spreading.{used_chords}
 use Rattle.rg_case_folds.proofs.Lists.{not_in, where_contains}
 use Rattle.rg_case_folds.proofs.PointEffects.{in_has}
 use Rattle.rg_folds.proofs.Sums.{both_sums}
+use Rattle.rg_case_folds.proofs.ExactRows.{dependent}
+use Rattle.rg_case_folds.proofs.ChordRows.{map_numbers, kept_place as kept_index}
 
 none_plus : (i : ℕ) → 0 + i ≡ i
 none_plus i = omega arith
@@ -37,35 +38,12 @@ is_false : (b : Bool) → not b ≡ true → b ≡ false
 is_false true p = cc
 is_false false p = refl
 
--- a label outside the basis
-pub dependent : (lts : System) (basis : CycleBasis) (t : ℕ) → Contains (dependent_labels (labels lts) basis) t → (t < labels lts) × ¬ Contains basis.members t
-dependent lts basis t has =
-    let h = where_contains (λ u. not (is_in basis.members u)) 0 (labels lts) t has in
-    (omega arith, not_in basis.members t (is_false (is_in basis.members t) h.0))
-
 -- ---- the rows of the chords' system at a point
 
-map_numbers : (f : ℕ → ℤ) (a n j : ℕ) → j < n → slice_index_or (map f (numbers_from a n)) j (pos 0) ≡ f (a + j)
-map_numbers f a zero j lt = absurd (omega arith)
-map_numbers f a (suc n) zero lt = ap f (last a)
-  where
-    last : (a : ℕ) → a ≡ a + 0
-    last a = omega arith
-map_numbers f a (suc n) (suc j) lt = map_numbers f (suc a) n j (omega arith) ∙ ap f (next a j)
-  where
-    next : (a j : ℕ) → suc a + j ≡ a + suc j
-    next a j = omega arith
-
 vector_sum : (lts : System) (tree : List Arc) (effect : ℕ → ℤ) (a : Arc) → sum_below (labels lts) (λ j. slice_index_or (chord_vector lts tree a) j (pos 0) *ℤ effect j) ≡ chord_sum lts tree effect a
-vector_sum lts tree effect a = sum_below-same (labels lts) (λ j. slice_index_or (chord_vector lts tree a) j (pos 0) *ℤ effect j) (λ t. chord_entry tree a t *ℤ effect t) (λ j lt. ap (λ z. z *ℤ effect j) (map_numbers (chord_entry tree a) 0 (labels lts) j lt ∙ ap (chord_entry tree a) (none_plus j)))
-
--- an index that is kept is a chord's
-pub kept_index : (lts : System) (tree : List Arc) (kept : List ℕ) (p : ℕ) → KeepsChords lts tree kept → Contains kept p → p < length (chords lts tree)
-kept_index lts tree kept p is has =
-    let among = kept_is (vector_at (chord_vectors lts tree)) (λ i. IsZeroVector (vector_at (chord_vectors lts tree) i)) [] (numbers_from 0 (length (chord_vectors lts tree))) kept p is has in
-    let below = (numbers_from-Contains 0 (length (chord_vectors lts tree)) p among).1 in
-    let same = length-map (chords lts tree) (chord_vector lts tree) in
-    omega arith
+vector_sum lts tree effect a = sum_below-same (labels lts) (λ j. slice_index_or (chord_vector lts tree a) j (pos 0) *ℤ effect j)
+    (λ t. chord_entry tree a t *ℤ effect t) (λ j lt. ap (λ z. z *ℤ effect j)
+    (map_numbers (chord_entry tree a) 0 (labels lts) j lt ∙ ap (chord_entry tree a) (none_plus j)))
 
 -- the chord with number c
 abbrev pub used_chord : System → List Arc → CycleBasis → ℕ → Arc
@@ -107,11 +85,14 @@ module _ (lts : System) (tree : List Arc) (basis : CycleBasis) (is : IsBasis lts
   relation_row t has = let h = dependent lts basis t has in is.relations t h.0 h.1
 
   -- the numbers of the labels in a relation
-  free_part : (k : Relation) → ((m : ℕ) → ¬ Contains basis.members m → k.coefficient m ≡ pos 0) → (v : ℕ → ℤ) → sum_below (labels lts) (λ j. k.coefficient j *ℤ v j) ≡ sum_over (λ f. k.coefficient f *ℤ v f) (free_labels (labels lts) basis)
+  free_part : (k : Relation) → ((m : ℕ) → ¬ Contains basis.members m → k.coefficient m ≡ pos 0) → (v : ℕ → ℤ)
+      → sum_below (labels lts) (λ j. k.coefficient j *ℤ v j) ≡ sum_over (λ f. k.coefficient f *ℤ v f) (free_labels (labels lts) basis)
   free_part k over v = close _ _ _ all others
     where
-      all : sum_over (λ f. k.coefficient f *ℤ v f) (free_labels (labels lts) basis) +ℤ sum_over (λ f. k.coefficient f *ℤ v f) (dependent_labels (labels lts) basis) ≡ sum_below (labels lts) (λ j. k.coefficient j *ℤ v j)
-      all = both_sums (λ t. is_in basis.members t) (λ f. k.coefficient f *ℤ v f) 0 (labels lts) ∙ sum_below-same (labels lts) (λ j. k.coefficient (0 + j) *ℤ v (0 + j)) (λ j. k.coefficient j *ℤ v j) (λ j lt. ap (λ m. k.coefficient m *ℤ v m) (none_plus j))
+      all : sum_over (λ f. k.coefficient f *ℤ v f) (free_labels (labels lts) basis)
+          +ℤ sum_over (λ f. k.coefficient f *ℤ v f) (dependent_labels (labels lts) basis) ≡ sum_below (labels lts) (λ j. k.coefficient j *ℤ v j)
+      all = both_sums (λ t. is_in basis.members t) (λ f. k.coefficient f *ℤ v f) 0 (labels lts)
+          ∙ sum_below-same (labels lts) (λ j. k.coefficient (0 + j) *ℤ v (0 + j)) (λ j. k.coefficient j *ℤ v j) (λ j lt. ap (λ m. k.coefficient m *ℤ v m) (none_plus j))
 
       others : sum_over (λ f. k.coefficient f *ℤ v f) (dependent_labels (labels lts) basis) ≡ pos 0
       others = sum_over-zero (λ f. k.coefficient f *ℤ v f) (dependent_labels (labels lts) basis) (λ f has. zero_times (k.coefficient f) (v f) (over f (dependent lts basis f has).1))
@@ -120,7 +101,8 @@ module _ (lts : System) (tree : List Arc) (basis : CycleBasis) (is : IsBasis lts
       close x y s e z = omega (arith, ints)
 
   -- the numbers of the rows in a relation
-  chord_part : (k : Relation) → ((m : ℕ) → ¬ Contains basis.members m → k.coefficient m ≡ pos 0) → (v : ℕ → ℤ) → sum_below (length basis.kept) (λ i. k.coefficient (labels lts + i) *ℤ v i) ≡ sum_over (λ c. k.coefficient (labels lts + c) *ℤ v c) (used_chords lts basis)
+  chord_part : (k : Relation) → ((m : ℕ) → ¬ Contains basis.members m → k.coefficient m ≡ pos 0) → (v : ℕ → ℤ)
+      → sum_below (length basis.kept) (λ i. k.coefficient (labels lts + i) *ℤ v i) ≡ sum_over (λ c. k.coefficient (labels lts + c) *ℤ v c) (used_chords lts basis)
   chord_part k over v = close _ _ _ all others
     where
       all : sum_over (λ c. k.coefficient (labels lts + c) *ℤ v c) (used_chords lts basis) +ℤ sum_over (λ c. k.coefficient (labels lts + c) *ℤ v c)
@@ -141,7 +123,8 @@ module _ (lts : System) (tree : List Arc) (basis : CycleBasis) (is : IsBasis lts
 
   -- a relation at all effects, with the sums of the chords
   relation_holds : (effect : ℕ → ℤ) (t : ℕ) → Contains (dependent_labels (labels lts) basis) t
-      → (basis.relation t).d *ℤ effect t ≡ sum_over (λ f. (basis.relation t).coefficient f *ℤ effect f) (free_labels (labels lts) basis) +ℤ sum_over (λ c. (basis.relation t).coefficient (labels lts + c) *ℤ chord_sum lts tree effect (used_chord lts tree basis c)) (used_chords lts basis)
+      → (basis.relation t).d *ℤ effect t ≡ sum_over (λ f. (basis.relation t).coefficient f *ℤ effect f) (free_labels (labels lts) basis)
+      +ℤ sum_over (λ c. (basis.relation t).coefficient (labels lts + c) *ℤ chord_sum lts tree effect (used_chord lts tree basis c)) (used_chords lts basis)
   relation_holds effect t has =
       ap (λ z. (basis.relation t).d *ℤ z) (sym (values_of-column (chord_system lts tree basis.kept) (pos 1) effect t (dependent lts basis t has).0))
       ∙ (relation_row t has).holds (pos 1) (values_of (chord_system lts tree basis.kept) (pos 1) effect) (values_of-point (chord_system lts tree basis.kept) (pos 1) effect (omega (arith, ints)))
@@ -170,7 +153,9 @@ module _ (lts : System) (tree : List Arc) (basis : CycleBasis) (is : IsBasis lts
   free_taken effect f lt has = (taken effect).values f has ∙ ap (λ b. (taken effect).times *ℤ (if b then effect f else pos 0)) (below_test f (labels lts) lt)
 
   row_taken : (effect : ℕ → ℤ) (i : ℕ) → Contains basis.members (labels lts + i) → (taken effect).v (labels lts + i) ≡ pos 0
-  row_taken effect i has = (taken effect).values (labels lts + i) has ∙ ap (λ b. (taken effect).times *ℤ (if b then effect (labels lts + i) else pos 0)) (past_test (labels lts + i) (labels lts) (omega arith)) ∙ *ℤ-zero (taken effect).times
+  row_taken effect i has = (taken effect).values (labels lts + i) has
+      ∙ ap (λ b. (taken effect).times *ℤ (if b then effect (labels lts + i) else pos 0)) (past_test (labels lts + i) (labels lts) (omega arith))
+      ∙ *ℤ-zero (taken effect).times
 
   pub taken_follows : (effect : ℕ → ℤ) → FollowsRelations (chord_system lts tree basis.kept) basis.members (taken effect).v
   taken_follows effect t k lt row =
@@ -193,14 +178,20 @@ module _ (lts : System) (tree : List Arc) (basis : CycleBasis) (is : IsBasis lts
 
   -- how far effects are from those, by the chords
   away : (effect : ℕ → ℤ) (t : ℕ) → Contains (dependent_labels (labels lts) basis) t
-      → (taken effect).times *ℤ ((basis.relation t).d *ℤ effect t) ≡ ((basis.relation t).d *ℤ (taken effect).v t) +ℤ ((taken effect).times *ℤ sum_over (λ c. (basis.relation t).coefficient (labels lts + c) *ℤ chord_sum lts tree effect (used_chord lts tree basis c)) (used_chords lts basis))
+      → (taken effect).times *ℤ ((basis.relation t).d *ℤ effect t)
+      ≡ ((basis.relation t).d *ℤ (taken effect).v t)
+      +ℤ ((taken effect).times *ℤ sum_over (λ c. (basis.relation t).coefficient (labels lts + c)
+      *ℤ chord_sum lts tree effect (used_chord lts tree basis c)) (used_chords lts basis))
   away effect t has =
       ap (λ z. (taken effect).times *ℤ z) (relation_holds effect t has)
       ∙ mul-add (taken effect).times _ _
-      ∙ ap (λ z. z +ℤ ((taken effect).times *ℤ sum_over (λ c. (basis.relation t).coefficient (labels lts + c) *ℤ chord_sum lts tree effect (used_chord lts tree basis c)) (used_chords lts basis))) (sym along)
+      ∙ ap (λ z. z +ℤ ((taken effect).times *ℤ sum_over
+      (λ c. (basis.relation t).coefficient (labels lts + c) *ℤ chord_sum lts tree effect (used_chord lts tree basis c)) (used_chords lts basis))) (sym along)
     where
       same : (f : ℕ) → Contains (free_labels (labels lts) basis) f → (basis.relation t).coefficient f *ℤ (taken effect).v f ≡ (taken effect).times *ℤ ((basis.relation t).coefficient f *ℤ effect f)
-      same f free = let w = where_contains (λ u. is_in basis.members u) 0 (labels lts) f free in ap (λ z. (basis.relation t).coefficient f *ℤ z) (free_taken effect f (omega arith) (in_has basis.members f w.0)) ∙ mul_left_comm ((basis.relation t).coefficient f) (taken effect).times (effect f)
+      same f free = let w = where_contains (λ u. is_in basis.members u) 0 (labels lts) f free in
+          ap (λ z. (basis.relation t).coefficient f *ℤ z) (free_taken effect f (omega arith) (in_has basis.members f w.0))
+          ∙ mul_left_comm ((basis.relation t).coefficient f) (taken effect).times (effect f)
 
       along : (basis.relation t).d *ℤ (taken effect).v t ≡ (taken effect).times *ℤ sum_over (λ f. (basis.relation t).coefficient f *ℤ effect f) (free_labels (labels lts) basis)
       along =
@@ -215,14 +206,18 @@ module _ (lts : System) (tree : List Arc) (basis : CycleBasis) (is : IsBasis lts
 
   -- counts of labels at effects, and at those that follow the relations
   pub counts_away : (effect counts part : ℕ → ℤ) (b : ℤ) → ((t : ℕ) → Contains (dependent_labels (labels lts) basis) t → b ≡ (basis.relation t).d *ℤ part t)
-      → b *ℤ ((taken effect).times *ℤ sum_below (labels lts) (λ u. counts u *ℤ effect u)) ≡ (b *ℤ sum_below (labels lts) (λ u. counts u *ℤ (taken effect).v u)) +ℤ ((taken effect).times *ℤ sum_over (λ t. counts t *ℤ (part t *ℤ chords_at effect t)) (dependent_labels (labels lts) basis))
+      → b *ℤ ((taken effect).times *ℤ sum_below (labels lts) (λ u. counts u *ℤ effect u))
+      ≡ (b *ℤ sum_below (labels lts) (λ u. counts u *ℤ (taken effect).v u))
+      +ℤ ((taken effect).times *ℤ sum_over (λ t. counts t *ℤ (part t *ℤ chords_at effect t)) (dependent_labels (labels lts) basis))
   counts_away effect counts part b exact =
       ap (λ z. b *ℤ ((taken effect).times *ℤ z)) (sym (both effect))
       ∙ close b (taken effect).times _ _ _ _ _ free others
       ∙ ap (λ z. (b *ℤ z) +ℤ ((taken effect).times *ℤ sum_over (λ t. counts t *ℤ (part t *ℤ chords_at effect t)) (dependent_labels (labels lts) basis))) (both (taken effect).v)
     where
-      both : (v : ℕ → ℤ) → sum_over (λ u. counts u *ℤ v u) (free_labels (labels lts) basis) +ℤ sum_over (λ u. counts u *ℤ v u) (dependent_labels (labels lts) basis) ≡ sum_below (labels lts) (λ u. counts u *ℤ v u)
-      both v = both_sums (λ t. is_in basis.members t) (λ u. counts u *ℤ v u) 0 (labels lts) ∙ sum_below-same (labels lts) (λ i. counts (0 + i) *ℤ v (0 + i)) (λ i. counts i *ℤ v i) (λ i lt. ap (λ k. counts k *ℤ v k) (none_plus i))
+      both : (v : ℕ → ℤ) → sum_over (λ u. counts u *ℤ v u) (free_labels (labels lts) basis)
+          +ℤ sum_over (λ u. counts u *ℤ v u) (dependent_labels (labels lts) basis) ≡ sum_below (labels lts) (λ u. counts u *ℤ v u)
+      both v = both_sums (λ t. is_in basis.members t) (λ u. counts u *ℤ v u) 0 (labels lts)
+          ∙ sum_below-same (labels lts) (λ i. counts (0 + i) *ℤ v (0 + i)) (λ i. counts i *ℤ v i) (λ i lt. ap (λ k. counts k *ℤ v k) (none_plus i))
 
       free : (taken effect).times *ℤ sum_over (λ u. counts u *ℤ effect u) (free_labels (labels lts) basis) ≡ sum_over (λ u. counts u *ℤ (taken effect).v u) (free_labels (labels lts) basis)
       free = sym (sum_over-times (taken effect).times (λ u. counts u *ℤ effect u) (free_labels (labels lts) basis))
@@ -230,7 +225,9 @@ module _ (lts : System) (tree : List Arc) (basis : CycleBasis) (is : IsBasis lts
           (λ f has. (let w = where_contains (λ u. is_in basis.members u) 0 (labels lts) f has in mul_left_comm (taken effect).times (counts f) (effect f)
           ∙ ap (λ z. counts f *ℤ z) (sym (free_taken effect f (omega arith) (in_has basis.members f w.0)))))
 
-      one : (t : ℕ) → Contains (dependent_labels (labels lts) basis) t → b *ℤ ((taken effect).times *ℤ (counts t *ℤ effect t)) ≡ (b *ℤ (counts t *ℤ (taken effect).v t)) +ℤ ((taken effect).times *ℤ (counts t *ℤ (part t *ℤ chords_at effect t)))
+      one : (t : ℕ) → Contains (dependent_labels (labels lts) basis) t
+          → b *ℤ ((taken effect).times *ℤ (counts t *ℤ effect t))
+          ≡ (b *ℤ (counts t *ℤ (taken effect).v t)) +ℤ ((taken effect).times *ℤ (counts t *ℤ (part t *ℤ chords_at effect t)))
       one t has = ap (λ z. z *ℤ ((taken effect).times *ℤ (counts t *ℤ effect t))) (exact t has) ∙ left (basis.relation t).d (part t) (taken effect).times (counts t)
           (effect t) ∙ ap (λ z. (counts t *ℤ part t) *ℤ z) (away effect t has) ∙ right (basis.relation t).d (part t) (taken effect).times (counts t) ((taken effect).v t)
           (chords_at effect t) ∙ ap (λ z. (z *ℤ (counts t *ℤ (taken effect).v t)) +ℤ ((taken effect).times *ℤ (counts t *ℤ (part t *ℤ chords_at effect t))))
@@ -250,7 +247,8 @@ module _ (lts : System) (tree : List Arc) (basis : CycleBasis) (is : IsBasis lts
           ∙ sym (sum_over-times b (λ u. (taken effect).times *ℤ (counts u *ℤ effect u)) (dependent_labels (labels lts) basis))
           ∙ sum_over-same _ (λ t. (b *ℤ (counts t *ℤ (taken effect).v t)) +ℤ ((taken effect).times *ℤ (counts t *ℤ (part t *ℤ chords_at effect t)))) (dependent_labels (labels lts) basis) one
           ∙ sum_over-plus (λ t. b *ℤ (counts t *ℤ (taken effect).v t)) (λ t. (taken effect).times *ℤ (counts t *ℤ (part t *ℤ chords_at effect t))) (dependent_labels (labels lts) basis)
-          ∙ ap₂ ◌+ℤ◌ (sum_over-times b (λ t. counts t *ℤ (taken effect).v t) (dependent_labels (labels lts) basis)) (sum_over-times (taken effect).times (λ t. counts t *ℤ (part t *ℤ chords_at effect t)) (dependent_labels (labels lts) basis))
+          ∙ ap₂ ◌+ℤ◌ (sum_over-times b (λ t. counts t *ℤ (taken effect).v t) (dependent_labels (labels lts) basis))
+          (sum_over-times (taken effect).times (λ t. counts t *ℤ (part t *ℤ chords_at effect t)) (dependent_labels (labels lts) basis))
 
       close : (b n x y x' y' s : ℤ) → n *ℤ x ≡ x' → b *ℤ (n *ℤ y) ≡ (b *ℤ y') +ℤ s → b *ℤ (n *ℤ (x +ℤ y)) ≡ (b *ℤ (x' +ℤ y')) +ℤ s
       close b n x y x' y' s p q = ap (λ z. b *ℤ z) (mul-add n x y) ∙ mul-add b (n *ℤ x) (n *ℤ y) ∙ ap₂ (λ a c. (b *ℤ a) +ℤ c) p q ∙ shut b x' y' s

@@ -20,7 +20,8 @@ use Rattle.rg_cert_meaning.specs.declared.Form.TheVariants as split_form
 -- ---- expressions below sides
 
 -- the sides say nothing of the rows that stand without them
-pub same_expression : (lts : System) (class : Class) (problem : Problem) (number : ℕ) (above : List Side) (name : RowName) → RowStands lts class problem number [] name → row_expression lts class problem number above name ≡ row_expression lts class problem number [] name
+pub same_expression : (lts : System) (class : Class) (problem : Problem) (number : ℕ) (above : List Side) (name : RowName)
+    → RowStands lts class problem number [] name → row_expression lts class problem number above name ≡ row_expression lts class problem number [] name
 same_expression lts class (Event s u) number above (row_name.Arc a) h = refl
 same_expression lts class (Event s u) number above (row_name.Tokens q) h = refl
 same_expression lts class (Event s u) number above (row_name.Cap q) h = refl
@@ -48,7 +49,8 @@ same_expression lts class (States s u) number above row_name.Keep h = refl
 same_expression lts class (States s u) number above row_name.Apart h = refl
 same_expression lts class (States s u) number above (row_name.Above d) h = absurd h
 
-pub stands_below : (lts : System) (class : Class) (problem : Problem) (number : ℕ) (above : List Side) (name : RowName) → RowStands lts class problem number [] name → RowStands lts class problem number above name
+pub stands_below : (lts : System) (class : Class) (problem : Problem) (number : ℕ) (above : List Side) (name : RowName)
+    → RowStands lts class problem number [] name → RowStands lts class problem number above name
 stands_below lts class (Event s u) number above (row_name.Arc a) h = h
 stands_below lts class (Event s u) number above (row_name.Tokens q) h = h
 stands_below lts class (Event s u) number above (row_name.Cap q) h = h
@@ -77,11 +79,13 @@ stands_below lts class (States s u) number above row_name.Apart h = h
 stands_below lts class (States s u) number above (row_name.Above d) h = absurd h
 
 -- a side's own row
-pub above_expression : (lts : System) (class : Class) (problem : Problem) (number : ℕ) (above : List Side) (d : ℕ) → row_expression lts class problem number above (row_name.Above d) ≡ side_expression class lts.initial (slice_get above d)
+pub above_expression : (lts : System) (class : Class) (problem : Problem) (number : ℕ) (above : List Side) (d : ℕ)
+    → row_expression lts class problem number above (row_name.Above d) ≡ side_expression class lts.initial (slice_get above d)
 above_expression lts class (Event s t) number above d = refl
 above_expression lts class (States s s') number above d = refl
 
-pub above_stands : (lts : System) (class : Class) (problem : Problem) (number : ℕ) (above : List Side) (d : ℕ) (side : Side) → slice_get above d ≡ Some side → FormStands class side.form → RowStands lts class problem number above (row_name.Above d)
+pub above_stands : (lts : System) (class : Class) (problem : Problem) (number : ℕ) (above : List Side) (d : ℕ) (side : Side)
+    → slice_get above d ≡ Some side → FormStands class side.form → RowStands lts class problem number above (row_name.Above d)
 above_stands lts class (Event s t) number above d side e stands = subst (SideStands class) (sym e) stands
 above_stands lts class (States s s') number above d side e stands = subst (SideStands class) (sym e) stands
 
@@ -105,7 +109,8 @@ dot-neg (x ∷ xs) (y ∷ ys) = ap₂ ◌+ℤ◌ (turn x y) (dot-neg xs ys) ∙ 
 
 -- ---- which variables have a form
 
-pub form_used : (lts : System) (class : Class) (problem : Problem) (split : Form) → lts.initial < states lts → Contains (split_forms lts class problem) split → IsUsed lts (form_variable lts.initial split) × (has_start class ≡ true) × FormStands class split
+pub form_used : (lts : System) (class : Class) (problem : Problem) (split : Form) → lts.initial < states lts
+    → Contains (split_forms lts class problem) split → IsUsed lts (form_variable lts.initial split) × (has_start class ≡ true) × FormStands class split
 form_used lts class problem split first has = let own = split_is lts class problem split has in (by split own, split_starts lts class problem split own, stands split own)
   where
     by : (split : Form) → IsSplitOf lts class problem split → IsUsed lts (form_variable lts.initial split)

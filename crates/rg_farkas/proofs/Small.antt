@@ -26,13 +26,16 @@ use Rattle.rg_cert_meaning.specs.declared.Variable.TheVariants.{Tokens, Effect}
 
 pub each_made : {A X : Type 0} (make : A → Result X Wide → Type 0) (items : List A) (ys : List X) (a : A) → each make items (Ok ys) → Contains items a → (y : X) × make a (Ok y)
 each_made make [] ys a e (k, lt, at) = absurd (omega arith)
-each_made make (b ∷ items) ys a (y, made, (rest, more, e)) has = ⊎_elim (λ is. (y, subst (λ u. make u (Ok y)) is made)) (λ there. each_made make items rest a more there) (Contains-cons_cases b a items has)
+each_made make (b ∷ items) ys a (y, made, (rest, more, e)) has =
+    ⊎_elim (λ is. (y, subst (λ u. make u (Ok y)) is made)) (λ there. each_made make items rest a more there) (Contains-cons_cases b a items has)
 
 -- ---- one sum
 
 sum_is : (c : RowName → ℤ) (rows : List NamedRow) → sum_over (λ r. pos (nat_abs (r.multiplier *ℤ c r.name))) rows ≡ pos (sum_by (λ r. nat_abs (r.multiplier *ℤ c r.name)) rows)
 sum_is c [] = refl
-sum_is c (r ∷ rows) = ap (λ z. pos (nat_abs (r.multiplier *ℤ c r.name)) +ℤ z) (sum_is c rows) ∙ join (nat_abs (r.multiplier *ℤ c r.name)) (sum_by (λ u. nat_abs (u.multiplier *ℤ c u.name)) rows) ∙ ap pos (sym (sum_by-cons (λ u. nat_abs (u.multiplier *ℤ c u.name)) r rows))
+sum_is c (r ∷ rows) = ap (λ z. pos (nat_abs (r.multiplier *ℤ c r.name)) +ℤ z) (sum_is c rows)
+    ∙ join (nat_abs (r.multiplier *ℤ c r.name)) (sum_by (λ u. nat_abs (u.multiplier *ℤ c u.name)) rows)
+    ∙ ap pos (sym (sum_by-cons (λ u. nat_abs (u.multiplier *ℤ c u.name)) r rows))
   where
     join : (a b : ℕ) → pos a +ℤ pos b ≡ pos (a + b)
     join a b = omega (arith, ints)
@@ -53,7 +56,9 @@ size_range c (r ∷ rows) h (k, made, rest) = further_range (λ r. and_then (who
 
 pub size_fits : (c : RowName → ℤ) (rows : List NamedRow) (h : ℤ) → sizes_fold c rows (Ok h) → sum_by (λ r. nat_abs (r.multiplier *ℤ c r.name)) rows ≤ greatest
 size_fits c rows h fold =
-    let is : h ≡ pos (sum_by (λ r. nat_abs (r.multiplier *ℤ c r.name)) rows) = joined_whole (λ r. and_then (whole_product r.multiplier (c r.name)) (λ z. gives (size z))) (λ r. pos (nat_abs (r.multiplier *ℤ c r.name))) (made_size c) h rows fold ∙ sum_is c rows in
+    let is : h ≡ pos (sum_by (λ r. nat_abs (r.multiplier *ℤ c r.name)) rows) =
+    joined_whole (λ r. and_then (whole_product r.multiplier (c r.name)) (λ z. gives (size z))) (λ r. pos (nat_abs (r.multiplier *ℤ c r.name)))
+    (made_size c) h rows fold ∙ sum_is c rows in
     let range : InRange (pos (sum_by (λ r. nat_abs (r.multiplier *ℤ c r.name)) rows)) = subst InRange is (size_range c rows h fold) in
     below (sum_by (λ r. nat_abs (r.multiplier *ℤ c r.name)) rows) range
   where
@@ -64,11 +69,14 @@ size_fits c rows h fold =
 
 -- a variable of the system is among all of them
 pub has_variable : (lts : System) (v : Variable) → IsVariableWithin (states lts) (labels lts) v → Contains (variables_of lts) v
-has_variable lts (Tokens q) lt = Contains-append_left (map Tokens (all_numbers (states lts))) (map Effect (all_numbers (labels lts))) (Tokens q) (Contains-map Tokens (all_numbers (states lts)) q (where_has (λ i. true) 0 (states lts) q refl (omega arith) (omega arith)))
-has_variable lts (Effect u) lt = Contains-append_right (map Tokens (all_numbers (states lts))) (map Effect (all_numbers (labels lts))) (Effect u) (Contains-map Effect (all_numbers (labels lts)) u (where_has (λ i. true) 0 (labels lts) u refl (omega arith) (omega arith)))
+has_variable lts (Tokens q) lt = Contains-append_left (map Tokens (all_numbers (states lts))) (map Effect (all_numbers (labels lts))) (Tokens q)
+    (Contains-map Tokens (all_numbers (states lts)) q (where_has (λ i. true) 0 (states lts) q refl (omega arith) (omega arith)))
+has_variable lts (Effect u) lt = Contains-append_right (map Tokens (all_numbers (states lts))) (map Effect (all_numbers (labels lts))) (Effect u)
+    (Contains-map Effect (all_numbers (labels lts)) u (where_has (λ i. true) 0 (labels lts) u refl (omega arith) (omega arith)))
 
 -- other variables have no coefficients
-none_outside : (n l : ℕ) (expression : RowName → Expression) (rows : List NamedRow) (v : Variable) → RowsWithin n l expression rows → ¬ IsVariableWithin n l v → sum_by (λ r. nat_abs (r.multiplier *ℤ coefficient_in (expression r.name).terms v)) rows ≡ 0
+none_outside : (n l : ℕ) (expression : RowName → Expression) (rows : List NamedRow) (v : Variable) → RowsWithin n l expression rows
+    → ¬ IsVariableWithin n l v → sum_by (λ r. nat_abs (r.multiplier *ℤ coefficient_in (expression r.name).terms v)) rows ≡ 0
 none_outside n l expression [] v within out = refl
 none_outside n l expression (r ∷ rows) v within out =
     sum_by-cons (λ u. nat_abs (u.multiplier *ℤ coefficient_in (expression u.name).terms v)) r rows
@@ -86,7 +94,8 @@ within_or_not : (n l : ℕ) (v : Variable) → IsVariableWithin n l v ⊎ ¬ IsV
 within_or_not n l (Tokens q) = below_or_not q n
 within_or_not n l (Effect u) = below_or_not u l
 
-pub is_small : (lts : System) (expression : RowName → Expression) (rows all : List NamedRow) → RowsWithin (states lts) (labels lts) expression rows → All (λ r. InRange r.multiplier) rows → checked_leaf lts expression rows (Ok all) → IsSmall expression rows
+pub is_small : (lts : System) (expression : RowName → Expression) (rows all : List NamedRow) → RowsWithin (states lts) (labels lts) expression rows
+    → All (λ r. InRange r.multiplier) rows → checked_leaf lts expression rows (Ok all) → IsSmall expression rows
 is_small lts expression rows all within range (sums, each_is, (sum, constants, e)) = record {
   multipliers = All-weaker (λ r. InRange r.multiplier) (λ r. nat_abs r.multiplier ≤ greatest) (λ r h. below (nat_abs r.multiplier) h) rows range;
   coefficients = λ v. ⊎_elim (λ lt. (let (h, fold) = each_made (λ u. sizes_fold (λ name. coefficient_in (expression name).terms u) rows)

@@ -34,17 +34,21 @@ whole_product_is x y m (_, e) = e ∙ close (x *ℤ y)
     close : (p : ℤ) → p -ℤ (pos 0 *ℤ pos 0) ≡ p
     close p = omega (arith, ints)
 
-pub further_whole : {A : Type 0} (make : A → Result ℤ Wide → Type 0) (y : A → ℤ) → ((a : A) (k : ℤ) → make a (Ok k) → k ≡ y a) → (f h : ℤ) (items : List A) → further whole_sum make f items (Ok h) → h ≡ f +ℤ sum_over y items
+pub further_whole : {A : Type 0} (make : A → Result ℤ Wide → Type 0) (y : A → ℤ) → ((a : A) (k : ℤ) → make a (Ok k) → k ≡ y a)
+    → (f h : ℤ) (items : List A) → further whole_sum make f items (Ok h) → h ≡ f +ℤ sum_over y items
 further_whole make y made f h [] e = e ∙ none f
   where
     none : (z : ℤ) → z ≡ z +ℤ pos 0
     none z = omega (arith, ints)
-further_whole make y made f h (a ∷ items) (k, is, (g, added, rest)) = further_whole make y made g h items rest ∙ ap (λ z. z +ℤ sum_over y items) (whole_sum_is f k g added ∙ ap (λ z. f +ℤ z) (made a k is)) ∙ assoc f (y a) (sum_over y items)
+further_whole make y made f h (a ∷ items) (k, is, (g, added, rest)) =
+    further_whole make y made g h items rest ∙ ap (λ z. z +ℤ sum_over y items) (whole_sum_is f k g added ∙ ap (λ z. f +ℤ z) (made a k is))
+    ∙ assoc f (y a) (sum_over y items)
   where
     assoc : (x y z : ℤ) → (x +ℤ y) +ℤ z ≡ x +ℤ (y +ℤ z)
     assoc x y z = omega (arith, ints)
 
-pub joined_whole : {A : Type 0} (make : A → Result ℤ Wide → Type 0) (y : A → ℤ) → ((a : A) (k : ℤ) → make a (Ok k) → k ≡ y a) → (h : ℤ) (items : List A) → joined whole_sum make (pos 0) items (Ok h) → h ≡ sum_over y items
+pub joined_whole : {A : Type 0} (make : A → Result ℤ Wide → Type 0) (y : A → ℤ) → ((a : A) (k : ℤ) → make a (Ok k) → k ≡ y a)
+    → (h : ℤ) (items : List A) → joined whole_sum make (pos 0) items (Ok h) → h ≡ sum_over y items
 joined_whole make y made h [] e = e
 joined_whole make y made h (a ∷ items) (k, is, rest) = further_whole make y made k h items rest ∙ ap (λ z. z +ℤ sum_over y items) (made a k is)
 
@@ -67,16 +71,23 @@ pub record Runs (expression : RowName → Expression) (rows : List NamedRow) (tr
   pub balanced : Balanced expression rows arcs
   pub arcs_are : map (λ x. x.arc) arcs ≡ tree
 
-runs : (expression : RowName → Expression) (rows : List NamedRow) (done : List ArcTimes) (last_first : List Arc) (arcs : List ArcTimes) → Balanced expression rows done → tree_fold expression rows done last_first (Ok arcs) → Runs expression rows (reverse last_first ++ map (λ x. x.arc) done) arcs
+runs : (expression : RowName → Expression) (rows : List NamedRow) (done : List ArcTimes) (last_first : List Arc) (arcs : List ArcTimes)
+    → Balanced expression rows done → tree_fold expression rows done last_first (Ok arcs) → Runs expression rows (reverse last_first ++ map (λ x. x.arc) done) arcs
 runs expression rows done [] arcs balanced e = record { balanced = subst (Balanced expression rows) (sym e) balanced; arcs_are = ap (map (λ x. x.arc)) e }
 runs expression rows done (a ∷ last_first) arcs balanced (m, sum, rest) =
-    let ih = runs expression rows (record { arc = a; multiplier = m } ∷ done) last_first arcs (joined_whole addend_fold addend_value addend_is m (addends_at expression rows done a.to) sum, balanced) rest in
-    record { balanced = ih.balanced; arcs_are = ih.arcs_are ∙ sym (ap (λ l. l ++ map (λ x. x.arc) done) (reverse_more a last_first) ∙ append_assoc (reverse last_first) (a ∷ []) (map (λ x. x.arc) done)) }
+    let ih = runs expression rows (record { arc = a; multiplier = m } ∷ done) last_first arcs
+    (joined_whole addend_fold addend_value addend_is m (addends_at expression rows done a.to) sum, balanced) rest in
+    record {
+      balanced = ih.balanced;
+      arcs_are = ih.arcs_are
+          ∙ sym (ap (λ l. l ++ map (λ x. x.arc) done) (reverse_more a last_first) ∙ append_assoc (reverse last_first) (a ∷ []) (map (λ x. x.arc) done));
+    }
   where
     reverse_more : (a : Arc) (xs : List Arc) → reverse (a ∷ xs) ≡ reverse xs ++ a ∷ []
     reverse_more a xs = reverse-append (a ∷ []) xs
 
-pub tree_runs : (expression : RowName → Expression) (rows : List NamedRow) (tree : List Arc) (arcs : List ArcTimes) → tree_fold expression rows [] (reverse tree) (Ok arcs) → Runs expression rows tree arcs
+pub tree_runs : (expression : RowName → Expression) (rows : List NamedRow) (tree : List Arc) (arcs : List ArcTimes)
+    → tree_fold expression rows [] (reverse tree) (Ok arcs) → Runs expression rows tree arcs
 tree_runs expression rows tree arcs h =
     let all = runs expression rows [] (reverse tree) arcs tt h in
     record { balanced = all.balanced; arcs_are = all.arcs_are ∙ append-nil (reverse (reverse tree)) ∙ reverse-reverse tree }
@@ -118,7 +129,8 @@ leaving_sum s (x ∷ arcs) = go (x.arc.from == s) (leaving_sum s arcs)
         none z y = omega (arith, ints)
 
 -- arcs that don't lead to a state that is met
-later_sum : (lts : System) (met : List ℕ) (s : ℕ) (arcs : List ArcTimes) → Grows lts met (map (λ x. x.arc) arcs) → Contains met s → sum_over (λ x. x.multiplier *ℤ arc_at s x.arc) arcs ≡ sum_over (λ x. x.multiplier *ℤ (if x.arc.from == s then pos 1 else pos 0)) arcs
+later_sum : (lts : System) (met : List ℕ) (s : ℕ) (arcs : List ArcTimes) → Grows lts met (map (λ x. x.arc) arcs) → Contains met s
+    → sum_over (λ x. x.multiplier *ℤ arc_at s x.arc) arcs ≡ sum_over (λ x. x.multiplier *ℤ (if x.arc.from == s then pos 1 else pos 0)) arcs
 later_sum lts met s [] g has = refl
 later_sum lts met s (x ∷ arcs) (j, g) has = ap₂ ◌+ℤ◌
     (ap (λ b. x.multiplier *ℤ ((if x.arc.from == s then pos 1 else pos 0) -ℤ (if b then pos 1 else pos 0))) (ne_eqb x.arc.to s not_met)
@@ -132,19 +144,23 @@ later_sum lts met s (x ∷ arcs) (j, g) has = ap₂ ◌+ℤ◌
     less_none z = omega (arith, ints)
 
 -- the sum of rows at a state, and the multipliers of the arcs that leave and enter it
-pub state_sum : (lts : System) (expression : RowName → Expression) (rows : List NamedRow) (met : List ℕ) (s : ℕ) (arcs : List ArcTimes) → Grows lts met (map (λ x. x.arc) arcs) → Balanced expression rows arcs → ¬ Contains met s → Contains (map (λ a. a.to) (map (λ x. x.arc) arcs)) s
+pub state_sum : (lts : System) (expression : RowName → Expression) (rows : List NamedRow) (met : List ℕ) (s : ℕ) (arcs : List ArcTimes)
+    → Grows lts met (map (λ x. x.arc) arcs) → Balanced expression rows arcs → ¬ Contains met s → Contains (map (λ a. a.to) (map (λ x. x.arc) arcs)) s
     → sum_over (λ r. r.multiplier *ℤ coefficient_in (expression r.name).terms (Tokens s)) rows +ℤ sum_over (λ x. x.multiplier *ℤ arc_at s x.arc) arcs ≡ pos 0
 state_sum lts expression rows met s [] g balanced lacks (k, lt, e) = absurd (omega arith)
-state_sum lts expression rows met s (x ∷ arcs) (j, g) (own, balanced) lacks has = ⊎_elim here (λ ne. other ne (state_sum lts expression rows (met ++ x.arc.to ∷ []) s arcs g balanced (lacks' ne) (has' ne))) (cases_eq x.arc.to s)
+state_sum lts expression rows met s (x ∷ arcs) (j, g) (own, balanced) lacks has =
+    ⊎_elim here (λ ne. other ne (state_sum lts expression rows (met ++ x.arc.to ∷ []) s arcs g balanced (lacks' ne) (has' ne))) (cases_eq x.arc.to s)
   where
     from_differs : x.arc.from ≢ s
     from_differs e = lacks (subst (Contains met) e (source_met lts met x.arc j))
 
-    here : x.arc.to ≡ s → sum_over (λ r. r.multiplier *ℤ coefficient_in (expression r.name).terms (Tokens s)) rows +ℤ ((x.multiplier *ℤ arc_at s x.arc) +ℤ sum_over (λ y. y.multiplier *ℤ arc_at s y.arc) arcs) ≡ pos 0
+    here : x.arc.to ≡ s → sum_over (λ r. r.multiplier *ℤ coefficient_in (expression r.name).terms (Tokens s)) rows
+        +ℤ ((x.multiplier *ℤ arc_at s x.arc) +ℤ sum_over (λ y. y.multiplier *ℤ arc_at s y.arc) arcs) ≡ pos 0
     here e = close _ _ _ _ _ own_sum (ap₂ (λ b c. x.multiplier *ℤ ((if b then pos 1 else pos 0) -ℤ (if c then pos 1 else pos 0))) (ne_eqb x.arc.from s from_differs)
         (eq-eqb x.arc.to s e)) (later_sum lts (met ++ x.arc.to ∷ []) s arcs g (subst (Contains (met ++ x.arc.to ∷ [])) e (Contains-push met x.arc.to)))
       where
-        own_sum : x.multiplier ≡ sum_over (λ r. r.multiplier *ℤ coefficient_in (expression r.name).terms (Tokens s)) rows +ℤ sum_over (λ y. y.multiplier *ℤ (if y.arc.from == s then pos 1 else pos 0)) arcs
+        own_sum : x.multiplier ≡ sum_over (λ r. r.multiplier *ℤ coefficient_in (expression r.name).terms (Tokens s)) rows
+            +ℤ sum_over (λ y. y.multiplier *ℤ (if y.arc.from == s then pos 1 else pos 0)) arcs
         own_sum =
             own
             ∙ ap (λ u. sum_over addend_value (addends_at expression rows arcs u)) e
@@ -163,7 +179,8 @@ state_sum lts expression rows met s (x ∷ arcs) (j, g) (own, balanced) lacks ha
     other : x.arc.to ≢ s → sum_over (λ r. r.multiplier *ℤ coefficient_in (expression r.name).terms (Tokens s)) rows +ℤ sum_over
         (λ y. y.multiplier *ℤ arc_at s y.arc) arcs ≡ pos 0 → sum_over (λ r. r.multiplier *ℤ coefficient_in (expression r.name).terms (Tokens s)) rows +ℤ
         ((x.multiplier *ℤ arc_at s x.arc) +ℤ sum_over (λ y. y.multiplier *ℤ arc_at s y.arc) arcs) ≡ pos 0
-    other ne ih = close _ _ _ (ap₂ (λ b c. x.multiplier *ℤ ((if b then pos 1 else pos 0) -ℤ (if c then pos 1 else pos 0))) (ne_eqb x.arc.from s from_differs) (ne_eqb x.arc.to s ne) ∙ none x.multiplier) ih
+    other ne ih = close _ _ _ (ap₂ (λ b c. x.multiplier *ℤ ((if b then pos 1 else pos 0) -ℤ (if c then pos 1 else pos 0)))
+        (ne_eqb x.arc.from s from_differs) (ne_eqb x.arc.to s ne) ∙ none x.multiplier) ih
       where
         none : (z : ℤ) → z *ℤ (pos 0 -ℤ pos 0) ≡ pos 0
         none z = omega (arith, ints)

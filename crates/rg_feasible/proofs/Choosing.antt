@@ -33,7 +33,8 @@ module _ (system : LinearSystem) (members stack : List ℕ) (i : ℕ) (numbers :
   negative = subst (λ z. z <ℤ pos 0) constant fails
 
   -- a member that isn't fixed has the coefficient 0 where it is not named
-  unnamed : (m q : ℕ) → ¬ Contains (fixed_of system (reverse stack)) m → q < length members → slice_index_or members q m ≡ m → ¬ NamesFree system.columns members stack numbers q → shows.k.coefficient m ≡ pos 0
+  unnamed : (m q : ℕ) → ¬ Contains (fixed_of system (reverse stack)) m → q < length members → slice_index_or members q m ≡ m
+      → ¬ NamesFree system.columns members stack numbers q → shows.k.coefficient m ≡ pos 0
   unnamed m q loose within at lacks = ⊎_elim (λ z. z) (λ ne. absurd (lacks (record { within = within; not_fixed = not_fixed; named = λ z. ne (here z) }))) (is_zero_or_not (shows.k.coefficient m))
     where
       is : slice_index members q ≡ m
@@ -53,7 +54,8 @@ module _ (system : LinearSystem) (members stack : List ℕ) (i : ℕ) (numbers :
     none = λ m (q, within, at) loose. unnamed m q loose within at (none q);
   }
 
-  pub row_chooses : (p : ℕ) → NamesFree system.columns members stack numbers p → ((q : ℕ) → q < p → ¬ NamesFree system.columns members stack numbers q) → Chooses system members (fixed_of system (reverse stack)) i (slice_index members p)
+  pub row_chooses : (p : ℕ) → NamesFree system.columns members stack numbers p
+      → ((q : ℕ) → q < p → ¬ NamesFree system.columns members stack numbers q) → Chooses system members (fixed_of system (reverse stack)) i (slice_index members p)
   row_chooses p names before = record {
     k = shows.k;
     row = shows.row;
@@ -75,7 +77,8 @@ module _ (system : LinearSystem) (members stack : List ℕ) (i : ℕ) (numbers :
 
 -- ---- the step of a dictionary
 
-module _ (d : Contents) (stack : List ℕ) (i : ℕ) (numbers : List ℤ) (system : LinearSystem) (whole : IsDictionary system d) (shows : ShowsRow system d.members (d.columns + i) numbers) (fails : number_at numbers 1 <ℤ pos 0) where
+module _ (d : Contents) (stack : List ℕ) (i : ℕ) (numbers : List ℤ) (system : LinearSystem) (whole : IsDictionary system d)
+    (shows : ShowsRow system d.members (d.columns + i) numbers) (fails : number_at numbers 1 <ℤ pos 0) where
   pub pivot_is : d.columns + i ≡ row_variable system i
   pivot_is = ap (λ n. n + i) whole.columns
 
@@ -85,8 +88,11 @@ module _ (d : Contents) (stack : List ℕ) (i : ℕ) (numbers : List ℤ) (syste
   pub step_stuck : ((q : ℕ) → ¬ NamesFree d.columns d.members stack numbers q) → IsStuck system d.members (fixed_of system (reverse stack)) i
   step_stuck none = row_is_stuck system d.members stack i numbers shown fails (subst (λ n. (q : ℕ) → ¬ NamesFree n d.members stack numbers q) whole.columns none)
 
-  pub step_chooses : (p : ℕ) → NamesFree d.columns d.members stack numbers p → ((q : ℕ) → q < p → ¬ NamesFree d.columns d.members stack numbers q) → Chooses system d.members (fixed_of system (reverse stack)) i (slice_index d.members p)
-  step_chooses p names before = row_chooses system d.members stack i numbers shown fails p (subst (λ n. NamesFree n d.members stack numbers p) whole.columns names) (subst (λ n. (q : ℕ) → q < p → ¬ NamesFree n d.members stack numbers q) whole.columns before)
+  pub step_chooses : (p : ℕ) → NamesFree d.columns d.members stack numbers p → ((q : ℕ) → q < p → ¬ NamesFree d.columns d.members stack numbers q)
+      → Chooses system d.members (fixed_of system (reverse stack)) i (slice_index d.members p)
+  step_chooses p names before = row_chooses system d.members stack i numbers shown fails p
+      (subst (λ n. NamesFree n d.members stack numbers p) whole.columns names)
+      (subst (λ n. (q : ℕ) → q < p → ¬ NamesFree n d.members stack numbers q) whole.columns before)
 
   pub step_fits : (j : ℕ) → AllFit system d.members (d.columns + i) j → AllFit system d.members (row_variable system i) j
   step_fits j fit = subst (λ w. AllFit system d.members w j) pivot_is fit

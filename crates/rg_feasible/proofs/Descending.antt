@@ -1,27 +1,15 @@
 -- The start of the loop over the rows, and its end at a term out of range.
-use Rattle.std.proofs.Common.{◌≡◌, ℕ, ◌<◌, List, [], reverse, length, ap, subst, sym, ◌∙◌}
+use Rattle.std.proofs.Common.{ℕ, ◌<◌, List, reverse, subst, sym}
 use Rattle.rg_linear.specs.System.{LinearSystem}
-use Rattle.rg_linear.specs.Dictionary.{numbers_from, IsFree}
-use Rattle.rg_linear.specs.Descent.{Outcome, Outcome.wide, DescentFrom, DescentFromStart}
-use Rattle.rg_linear.specs.Stack.{limit, Resumes, Resumes.last, IsStackOf}
+use Rattle.rg_linear.specs.Dictionary.{IsFree}
+use Rattle.rg_linear.specs.Descent.{Outcome.wide, DescentFromStart}
+use Rattle.rg_linear.specs.Stack.{limit}
 use Rattle.rg_linear.proofs.Stacks.{step_wide}
-use Rattle.rg_linear.proofs.Members.{Contains-nil}
 use Rattle.rg_linear.proofs.Descending.{LeadsOn}
-use Rattle.rg_feasible.specs.Contents.{Contents, IsDictionary}
 use Rattle.rg_feasible.specs.declared.settled.PivotWide.{PivotWide}
 use Rattle.rg_feasible.specs.declared.step.Step.TheVariants.{Wide}
 use Rattle.rg_feasible.specs.Settling.{wide_at}
 use Rattle.rg_feasible.specs.Steps.{StepTells}
-
-pub leads_start : (system : LinearSystem) (d : Contents) (stack : List ℕ) → IsDictionary system d → d.members ≡ numbers_from 0 d.columns → stack ≡ [] → LeadsOn system d.members stack d.rows 0
-leads_start system d stack whole start none = record {
-  limit = whole.rows ∙ ap (λ xs. limit system (reverse xs)) (sym none);
-  stacked = subst (λ xs. IsStackOf system (reverse xs) d.members) (sym none) (record { falls = tt; all = λ m has. absurd (Contains-nil m has) });
-  leads = λ o rest. at_start o (subst (λ xs. Resumes system (reverse xs) d.members 0 o) none rest);
-}
-  where
-    at_start : (o : Outcome) → Resumes system [] d.members 0 o → DescentFromStart system o
-    at_start o (last from) = subst (λ members. DescentFrom system members [] (length system.rows) 0 o) (start ∙ ap (numbers_from 0) whole.columns) from
 
 module _ (system : LinearSystem) (members stack : List ℕ) (below i : ℕ) (is : LeadsOn system members stack below i) (lt : i < below) where
   pub leads_wide : (new : List ℕ) (w : PivotWide) → StepTells system members (reverse stack) i new (Wide w) → DescentFromStart system (wide (wide_at new w))

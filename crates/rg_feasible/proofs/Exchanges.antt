@@ -68,7 +68,8 @@ module _ (system : LinearSystem) (members : List ℕ) (i q : ℕ) (old : List �
           is = ap (λ xs. renewal_term s xs (suc (suc q)) n) shown ∙ found.1;
         }
 
-    pub all_fit : ((v : ℕ) → v < variables system → IsKept members i v → number_at (row_numbers system old v) (suc (suc q)) ≢ pos 0 → (e : ℕ) → e < suc (suc (length members)) → FitsTerm (renewal_term s (row_numbers system old v) (suc (suc q)) e))
+    pub all_fit : ((v : ℕ) → v < variables system → IsKept members i v → number_at (row_numbers system old v) (suc (suc q)) ≢ pos 0 → (e : ℕ)
+        → e < suc (suc (length members)) → FitsTerm (renewal_term s (row_numbers system old v) (suc (suc q)) e))
         → AllFit system members i (get_or members q 0)
     all_fit fits v n t is = let of = term_of v n t is in subst FitsTerm of.is (fits v of.variable of.kept of.leaving n of.inside)
 
@@ -99,10 +100,13 @@ module _ (system : LinearSystem) (members : List ℕ) (i q : ℕ) (old : List �
         earlier w' n' t' (inr (same, lower)) of = subst FitsTerm of.is (subst (λ x. FitsTerm (renewal_term s (row_numbers system old x) (suc (suc q)) n')) (sym same) (f.row.first n' lower))
 
     module _ (to : ℕ) (index : to ≡ index_for i (without (get_or members q 0) members)) where
-      moved_shows : (r : Relation) (row new : List ℤ) → row ≡ numbers_of (set members q i) r → new ≡ moved row (suc (suc q)) (suc (suc to)) → new ≡ numbers_of (exchanged members i (get_or members q 0)) r
-      moved_shows r row new shown is = is ∙ ap (λ xs. moved xs (suc (suc q)) (suc (suc to))) shown ∙ moved_numbers members r i q to lt ∙ ap (λ ms. numbers_of ms r) (exchanged-split members i q to free.ordered lt index)
+      moved_shows : (r : Relation) (row new : List ℤ) → row ≡ numbers_of (set members q i) r → new ≡ moved row (suc (suc q)) (suc (suc to))
+          → new ≡ numbers_of (exchanged members i (get_or members q 0)) r
+      moved_shows r row new shown is = is ∙ ap (λ xs. moved xs (suc (suc q)) (suc (suc to))) shown ∙ moved_numbers members r i q to lt
+          ∙ ap (λ ms. numbers_of ms r) (exchanged-split members i q to free.ordered lt index)
 
-      row_stays : (v : ℕ) (new : List ℤ) (r : ShowsRow system members v (row_numbers system old v)) → v ≢ i → r.k.coefficient (get_or members q 0) ≡ pos 0 → new ≡ moved (row_numbers system old v) (suc (suc q)) (suc (suc to))
+      row_stays : (v : ℕ) (new : List ℤ) (r : ShowsRow system members v (row_numbers system old v)) → v ≢ i
+          → r.k.coefficient (get_or members q 0) ≡ pos 0 → new ≡ moved (row_numbers system old v) (suc (suc q)) (suc (suc to))
           → ShowsRow system (exchanged members i (get_or members q 0)) v new
       row_stays v new r other none is = record {
         k = r.k;
@@ -127,7 +131,8 @@ module _ (system : LinearSystem) (members : List ℕ) (i q : ℕ) (old : List �
               (λ m lacks. renewed-over system members i (get_or members q 0) pivot.k pivot.row member named_pivot v r.k r.row other m (λ has. lacks (set_Contains members i q m lt has)))
               d.part
 
-      row_shows : (v : ℕ) (new : List ℤ) → v < variables system → IsKept members i v → IsExchangedRow s (row_numbers system old v) new (suc (suc q)) (suc (suc to)) → ShowsRow system (exchanged members i (get_or members q 0)) v new
+      row_shows : (v : ℕ) (new : List ℤ) → v < variables system → IsKept members i v
+          → IsExchangedRow s (row_numbers system old v) new (suc (suc q)) (suc (suc to)) → ShowsRow system (exchanged members i (get_or members q 0)) v new
       row_shows v new less kept x = ⊎_elim
           (λ none. row_stays v new r kept.1 none (x.stays (number_of v r.k r.shown ∙ none)))
           (λ some. row_changes v new r kept.1 (x.changes (λ e. some (sym (number_of v r.k r.shown) ∙ e))))
@@ -139,20 +144,25 @@ module _ (system : LinearSystem) (members : List ℕ) (i q : ℕ) (old : List �
       leaving_shows : (t new : List ℤ) → IsTurned s t (suc (suc q)) → new ≡ moved t (suc (suc q)) (suc (suc to)) → ShowsRow system (exchanged members i (get_or members q 0)) (get_or members q 0) new
       leaving_shows t new is_turned is = record {
         k = turned pivot.k i (get_or members q 0);
-        row = turned_row system members i (get_or members q 0) pivot.k pivot.row member named_pivot (turned pivot.k i (get_or members q 0)) (turned_reduced system members i (get_or members q 0) pivot.k pivot.row member);
+        row = turned_row system members i (get_or members q 0) pivot.k pivot.row member named_pivot (turned pivot.k i (get_or members q 0))
+            (turned_reduced system members i (get_or members q 0) pivot.k pivot.row member);
         shown = moved_shows (turned pivot.k i (get_or members q 0)) t new (turned_shows members pivot.k s i q lt (with_sign_of pivot.k pivot.row) outside t free.ordered is_turned) is;
       }
 
       -- the table after the exchange
-      pub new_table : (new t : List ℤ) → length new ≡ length old → ((v : ℕ) → v < variables system → v ≢ get_or members q 0 → IsKept members i v → IsExchangedRow s (row_numbers system old v) (row_numbers system new v) (suc (suc q)) (suc (suc to)))
+      pub new_table : (new t : List ℤ) → length new ≡ length old
+          → ((v : ℕ) → v < variables system → v ≢ get_or members q 0 → IsKept members i v
+          → IsExchangedRow s (row_numbers system old v) (row_numbers system new v) (suc (suc q)) (suc (suc to)))
           → IsTurned s t (suc (suc q)) → row_numbers system new (get_or members q 0) ≡ moved t (suc (suc q)) (suc (suc to)) → IsTable system (exchanged members i (get_or members q 0)) new
       new_table new t same rows is_turned is = record {
         size = same ∙ table.size;
         rows = λ v less lacks. at v less lacks (equal_or_not v (get_or members q 0));
       }
         where
-          at : (v : ℕ) → v < variables system → ¬ Contains (exchanged members i (get_or members q 0)) v → (v ≡ get_or members q 0) ⊎ (v ≢ get_or members q 0) → ShowsRow system (exchanged members i (get_or members q 0)) v (row_numbers system new v)
-          at v less lacks (inl e) = subst (λ x. ShowsRow system (exchanged members i (get_or members q 0)) x (row_numbers system new x)) (sym e) (leaving_shows t (row_numbers system new (get_or members q 0)) is_turned is)
+          at : (v : ℕ) → v < variables system → ¬ Contains (exchanged members i (get_or members q 0)) v
+              → (v ≡ get_or members q 0) ⊎ (v ≢ get_or members q 0) → ShowsRow system (exchanged members i (get_or members q 0)) v (row_numbers system new v)
+          at v less lacks (inl e) = subst (λ x. ShowsRow system (exchanged members i (get_or members q 0)) x (row_numbers system new x)) (sym e)
+              (leaving_shows t (row_numbers system new (get_or members q 0)) is_turned is)
           at v less lacks (inr ne) = row_shows v (row_numbers system new v) less kept (rows v less ne kept)
             where
               kept : IsKept members i v
@@ -194,12 +204,15 @@ module _ (system : LinearSystem) (members : List ℕ) (i q width p n : ℕ) (old
       -- no term passes
       pub fit_after : AllFit system members i (get_or members q 0)
       fit_after = all_fit system members i q old free table inner outside lt named_there s signed_there
-          (λ v less kept some e inside. ((rows_there v less kept).changes some).renewed.fits e (omega (arith, inside, free.count, length-row (row_width system) old (variables system) v table.size less)))
+          (λ v less kept some e inside. ((rows_there v less kept).changes some).renewed.fits e
+          (omega (arith, inside, free.count, length-row (row_width system) old (variables system) v table.size less)))
 
       -- the table shows the relations over the new set
-      pub table_after : (new t row : List ℤ) → to ≡ index_for i (without (get_or members q 0) members) → length new ≡ length mid → ((v : ℕ) → v ≢ get_or members q 0 → row_at width new v ≡ row_at width mid v) → row_at width new (get_or members q 0) ≡ row
+      pub table_after : (new t row : List ℤ) → to ≡ index_for i (without (get_or members q 0) members) → length new ≡ length mid
+          → ((v : ℕ) → v ≢ get_or members q 0 → row_at width new v ≡ row_at width mid v) → row_at width new (get_or members q 0) ≡ row
           → IsTurned s t p → row ≡ moved t p p' → IsTable system (exchanged members i (get_or members q 0)) new
       table_after new t row index same others here turned is = new_table system members i q old free table inner outside lt named_there s signed_there to index new t (same ∙ rows.same_length)
-          (λ v less ne kept. subst (λ xs. IsExchangedRow s (row_numbers system old v) xs (suc (suc q)) (suc (suc to))) (sym (subst (λ x. row_at x new v ≡ row_at x mid v) wide (others v ne))) (rows_there v less kept))
+          (λ v less ne kept. subst (λ xs. IsExchangedRow s (row_numbers system old v) xs (suc (suc q)) (suc (suc to)))
+          (sym (subst (λ x. row_at x new v ≡ row_at x mid v) wide (others v ne))) (rows_there v less kept))
           (subst (λ x. IsTurned s t x) two turned)
           (subst (λ x. row_at x new (get_or members q 0) ≡ row) wide here ∙ is ∙ ap₂ (moved t) two two')

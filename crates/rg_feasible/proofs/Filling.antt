@@ -12,10 +12,13 @@ use Rattle.rg_linear.specs.View.{linear_row, linear_system, IsWellFormed}
 use Rattle.rg_linear.proofs.KeptRows.{item_is, below_rows, constant_in_range}
 use Rattle.rg_feasible.specs.Contents.{Contents, IsDictionary, columns_alone, with_row}
 
-module _ (system : LinearSystem) (columns : ℕ) (rows : List Row) (i : ℕ) (item : Row) (well : IsWellFormed (linear_system columns rows)) (lt : i < length rows) (at : item ≡ slice_index_or rows i item) where
+module _ (system : LinearSystem) (columns : ℕ) (rows : List Row) (i : ℕ) (item : Row) (well : IsWellFormed (linear_system columns rows))
+    (lt : i < length rows) (at : item ≡ slice_index_or rows i item) where
   -- one row more, as the code hands it on
-  pub row_pushed : with_row (with_rows system (take i (map linear_row rows))) (linear_row item).coeffs (cast_signed w128 (cast_unsigned w128 item.constant)) ≡ with_rows system (take (i + 1) (map linear_row rows))
-  row_pushed = ap (with_row (with_rows system (take i (map linear_row rows))) (linear_row item).coeffs) (back item.constant (constant_in_range (linear_system columns rows) well rows i item refl lt at))
+  pub row_pushed : with_row (with_rows system (take i (map linear_row rows))) (linear_row item).coeffs
+      (cast_signed w128 (cast_unsigned w128 item.constant)) ≡ with_rows system (take (i + 1) (map linear_row rows))
+  row_pushed = ap (with_row (with_rows system (take i (map linear_row rows))) (linear_row item).coeffs)
+      (back item.constant (constant_in_range (linear_system columns rows) well rows i item refl lt at))
       ∙ ap (λ (r : LinearRow). with_row (with_rows system (take i (map linear_row rows))) r.coeffs r.constant) (item_is (linear_system columns rows) rows i item refl lt at)
       ∙ (λ j. record {
         columns = system.columns;
@@ -53,7 +56,8 @@ own_well_formed system columns own shared count are well = first (subst IsWellFo
         same i lt = get_or_append_left (map linear_row own) (map linear_row shared) (record { coeffs = []; constant = pos 0 }) i lt
 
 -- rows after those of a system are as well formed as the whole
-pub further_well_formed : (system : LinearSystem) (columns : ℕ) (further : List Row) → columns ≡ system.columns → IsWellFormed (with_rows system (map linear_row further)) → IsWellFormed (linear_system columns further)
+pub further_well_formed : (system : LinearSystem) (columns : ℕ) (further : List Row) → columns ≡ system.columns
+    → IsWellFormed (with_rows system (map linear_row further)) → IsWellFormed (linear_system columns further)
 further_well_formed system columns further count well = subst (λ n. IsWellFormed (linear_system n further)) (sym count) (record {
   few = (let e = size in let f = well.few in omega arith);
   one_each = λ i lt. subst (λ (r : LinearRow). length r.coeffs ≡ system.columns) (behind i) (well.one_each (length system.rows + i) (past i lt));

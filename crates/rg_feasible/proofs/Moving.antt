@@ -116,4 +116,6 @@ in_range-moved row p q from to all k lt = at k (omega (arith, lt, length-moved r
 
     at : (k : ℕ) → k < length row → (k < q) ⊎ (q ≤ k) → InRange (number_at (moved row p q) k)
     at k lt (inl less) = before k less (cases_lt k p)
-    at k lt (inr ge) = ⊎_elim (λ less. past k lt less) (λ le. (let e : q ≡ k = omega arith in subst (λ n. InRange (number_at (moved row p q) n)) e (subst InRange (sym (moved_at row p q from to)) (all p from)))) (cases_lt q k)
+    at k lt (inr ge) = ⊎_elim (λ less. past k lt less)
+        (λ le. (let e : q ≡ k = omega arith in subst (λ n. InRange (number_at (moved row p q) n)) e
+        (subst InRange (sym (moved_at row p q from to)) (all p from)))) (cases_lt q k)

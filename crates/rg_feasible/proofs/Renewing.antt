@@ -114,7 +114,8 @@ wide_high pivot old row p n w h after f = at n f
     at zero f = absurd (omega (arith, f.after))
     at (suc e) f = subst (λ m. FirstOfRow pivot old p m w) (one e) (record {
       inside = omega (arith, f.below, h.same_length);
-      is = f.is ∙ index_same pivot row old (number_at pivot p) (number_at old p) (suc e) (h.others (suc e) (omega (arith, f.after))) ∙ sym (term_high pivot old p e (omega (arith, f.after)) (omega (arith, f.after)) (omega (arith, f.below, h.same_length)));
+      is = f.is ∙ index_same pivot row old (number_at pivot p) (number_at old p) (suc e) (h.others (suc e) (omega (arith, f.after)))
+          ∙ sym (term_high pivot old p e (omega (arith, f.after)) (omega (arith, f.after)) (omega (arith, f.below, h.same_length)));
       passes = f.passes;
       first = high_fit pivot old row p e h after (omega (arith, f.below, h.same_length)) (λ m ge lt. f.first m ge lt);
     })
@@ -155,10 +156,13 @@ last_same pivot old row p after inside m = last_number pivot row p after (omega 
     ∙ sym (last_number pivot old p after inside)
 
 pub renewed : (pivot old row next : List ℤ) (p : ℕ) → 1 < p → p < length old → Most pivot old p row → length next ≡ length row
-    → FitsTerm (renewal_term pivot row p (length row - 1)) → number_at next p ≡ term_value (renewal_term pivot row p (length row - 1)) → ((n : ℕ) → n ≢ p → number_at next n ≡ number_at row n) → IsRenewed pivot old next p
+    → FitsTerm (renewal_term pivot row p (length row - 1)) → number_at next p ≡ term_value (renewal_term pivot row p (length row - 1))
+    → ((n : ℕ) → n ≢ p → number_at next n ≡ number_at row n) → IsRenewed pivot old next p
 renewed pivot old row next p after inside m same fits is others = record {
   same_length = same ∙ m.same_length;
-  fits = λ e lt. ⊎_elim (λ less. m.fits e less) (λ past. subst (λ n. FitsTerm (renewal_term pivot old p n)) (end e lt past) (subst FitsTerm (last_same pivot old row p after inside m) fits)) (cases_lt e (length old - 1));
+  fits = λ e lt. ⊎_elim (λ less. m.fits e less)
+      (λ past. subst (λ n. FitsTerm (renewal_term pivot old p n)) (end e lt past) (subst FitsTerm (last_same pivot old row p after inside m) fits))
+      (cases_lt e (length old - 1));
   values = λ e lt. others (index_of p e) (elsewhere e (cases_lt e p)) ∙ m.values e lt;
   last = is ∙ ap term_value (last_same pivot old row p after inside m);
 }

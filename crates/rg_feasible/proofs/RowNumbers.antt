@@ -40,7 +40,8 @@ pub shown_other : (members : List ℕ) (r : Relation) (q i m : ℕ) → m < leng
 shown_other members r q i m lt ne = number_shown (set members q i) r m (subst (λ n. m < n) (sym (length-put members q i)) lt) ∙ ap r.coefficient (get_or-set_other members q m i 0 ne)
 
 -- a list of as many numbers that agrees with those of a relation
-shows : (members : List ℕ) (r : Relation) (q i : ℕ) (row : List ℤ) → q < length members → length row ≡ suc (suc (length members)) → number_at row 0 ≡ r.d → number_at row 1 ≡ r.constant → number_at row (suc (suc q)) ≡ r.coefficient i
+shows : (members : List ℕ) (r : Relation) (q i : ℕ) (row : List ℤ) → q < length members → length row ≡ suc (suc (length members))
+    → number_at row 0 ≡ r.d → number_at row 1 ≡ r.constant → number_at row (suc (suc q)) ≡ r.coefficient i
     → ((m : ℕ) → m < length members → m ≢ q → number_at row (suc (suc m)) ≡ r.coefficient (get_or members m 0)) → row ≡ numbers_of (set members q i) r
 shows members r q i row lt size d constant at_q others = ext_get_or (pos 0) row (numbers_of (set members q i) r) lengths (λ n less. at n (subst (λ x. n < x) size less))
   where
@@ -82,7 +83,8 @@ module _ (members : List ℕ) (k : Relation) (s : List ℤ) (i q : ℕ) (lt : q 
       below = omega (arith, length-numbers members l)
 
       d : number_at raw 0 ≡ l.d *ℤ size (k.coefficient (get_or members q 0))
-      d = ap (number_at raw) (sym (index_low (suc (suc q)) 0 (omega arith))) ∙ r.values 0 (omega (arith, length-numbers members l)) ∙ first_value l.d (number_at s (suc (suc q))) ∙ ap (λ (z : ℤ). l.d *ℤ z) (signed_leaving members k s q signed lt)
+      d = ap (number_at raw) (sym (index_low (suc (suc q)) 0 (omega arith))) ∙ r.values 0 (omega (arith, length-numbers members l))
+          ∙ first_value l.d (number_at s (suc (suc q))) ∙ ap (λ (z : ℤ). l.d *ℤ z) (signed_leaving members k s q signed lt)
 
       value : (a x : ℤ) (n : ℕ) → number_at (numbers_of members l) n ≡ a → number_at s n ≡ x
           → term_value (low_term s (numbers_of members l) (suc (suc q)) n) ≡ (a *ℤ size (k.coefficient (get_or members q 0))) -ℤ (x *ℤ l.coefficient (get_or members q 0))
@@ -92,7 +94,8 @@ module _ (members : List ℕ) (k : Relation) (s : List ℤ) (i q : ℕ) (lt : q 
       constant = renewed_at s (numbers_of members l) raw (suc (suc q)) 1 (omega arith) below r (omega arith) (omega arith) (λ e. omega arith)
           ∙ value l.constant (sign (k.coefficient (get_or members q 0)) *ℤ k.constant) 1 refl (signed_number members k s q 1 signed lt (omega arith))
 
-      final : term_value (renewal_term s (numbers_of members l) (suc (suc q)) (length (numbers_of members l) - 1)) ≡ (sign (k.coefficient (get_or members q 0)) *ℤ k.d) *ℤ l.coefficient (get_or members q 0)
+      final : term_value (renewal_term s (numbers_of members l) (suc (suc q)) (length (numbers_of members l) - 1))
+          ≡ (sign (k.coefficient (get_or members q 0)) *ℤ k.d) *ℤ l.coefficient (get_or members q 0)
       final = ap term_value (term_last s (numbers_of members l) (suc (suc q)) (length (numbers_of members l) - 1) (omega arith) (omega arith))
           ∙ last_value (number_at s (suc (suc q))) (number_at s 0) (number_at (numbers_of members l) (suc (suc q)))
           ∙ ap₂ ◌*ℤ◌ (signed_number members k s q 0 signed lt (omega arith)) (number_shown members l q lt)
@@ -102,11 +105,13 @@ module _ (members : List ℕ) (k : Relation) (s : List ℤ) (i q : ℕ) (lt : q 
 
       others : (m : ℕ) → m < length members → m ≢ q → number_at raw (suc (suc m)) ≡ (renewed k i (get_or members q 0) l).coefficient (get_or members m 0)
       others m inside ne = renewed_at s (numbers_of members l) raw (suc (suc q)) (suc (suc m)) (omega arith) below r (omega arith) (omega (arith, length-numbers members l)) (λ e. ne (omega arith))
-          ∙ value (l.coefficient (get_or members m 0)) (sign (k.coefficient (get_or members q 0)) *ℤ k.coefficient (get_or members m 0)) (suc (suc m)) (number_shown members l m inside) (signed_member members k s q m signed lt inside)
+          ∙ value (l.coefficient (get_or members m 0)) (sign (k.coefficient (get_or members q 0)) *ℤ k.coefficient (get_or members m 0))
+          (suc (suc m)) (number_shown members l m inside) (signed_member members k s q m signed lt inside)
           ∙ rw (differs (get_or members m 0) i (not_i m inside)) refl
 
   pub turned_shows : (row : List ℤ) → IsStrictlyIncreasing members → IsTurned s row (suc (suc q)) → row ≡ numbers_of (set members q i) (turned k i (get_or members q 0))
-  turned_shows row ordered t = shows members (turned k i (get_or members q 0)) q i row lt (t.same_length ∙ signed.same_length ∙ length-numbers members k) (t.d ∙ signed_leaving members k s q signed lt) constant at_q others
+  turned_shows row ordered t = shows members (turned k i (get_or members q 0)) q i row lt
+      (t.same_length ∙ signed.same_length ∙ length-numbers members k) (t.d ∙ signed_leaving members k s q signed lt) constant at_q others
     where
       width : length s ≡ suc (suc (length members))
       width = signed.same_length ∙ length-numbers members k
@@ -125,8 +130,11 @@ module _ (members : List ℕ) (k : Relation) (s : List ℤ) (i q : ℕ) (lt : q 
           ∙ rw (differs (get_or members m 0) (get_or members q 0) (distinct members ordered m q inside lt ne), differs (get_or members m 0) i (not_i m inside)) refl
 
 -- a row that doesn't name the member that leaves
-pub kept_shows : (members : List ℕ) (l : Relation) (i q : ℕ) → q < length members → l.coefficient i ≡ pos 0 → l.coefficient (get_or members q 0) ≡ pos 0 → numbers_of members l ≡ numbers_of (set members q i) l
-kept_shows members l i q lt none_i none_j = ap (λ xs. l.d ∷ l.constant ∷ xs) (sym (map-set l.coefficient members q i ∙ ap (set (map l.coefficient members) q) (none_i ∙ sym (get_or-map l.coefficient members q 0 (pos 0) lt ∙ none_j)) ∙ set-get_or (map l.coefficient members) q (pos 0)))
+pub kept_shows : (members : List ℕ) (l : Relation) (i q : ℕ) → q < length members → l.coefficient i ≡ pos 0
+    → l.coefficient (get_or members q 0) ≡ pos 0 → numbers_of members l ≡ numbers_of (set members q i) l
+kept_shows members l i q lt none_i none_j = ap (λ xs. l.d ∷ l.constant ∷ xs)
+    (sym (map-set l.coefficient members q i ∙ ap (set (map l.coefficient members) q)
+    (none_i ∙ sym (get_or-map l.coefficient members q 0 (pos 0) lt ∙ none_j)) ∙ set-get_or (map l.coefficient members) q (pos 0)))
 
 -- ---- the move
 
@@ -139,12 +147,16 @@ remove-map f ms q = ap₂ ◌++◌ (take-map f q ms) (drop-map f (suc q) ms) ∙
 insert-map : (f : ℕ → ℤ) (ms : List ℕ) (to i : ℕ) → insert (map f ms) to (f i) ≡ map f (insert ms to i)
 insert-map f ms to i = ap₂ (λ xs ys. xs ++ f i ∷ ys) (take-map f to ms) (drop-map f to ms) ∙ sym (map-append f (take to ms) (i ∷ drop to ms))
 
-pub moved_numbers : (members : List ℕ) (r : Relation) (i q to : ℕ) → q < length members → moved (numbers_of (set members q i) r) (suc (suc q)) (suc (suc to)) ≡ numbers_of (insert (remove members q) to i) r
+pub moved_numbers : (members : List ℕ) (r : Relation) (i q to : ℕ) → q < length members
+    → moved (numbers_of (set members q i) r) (suc (suc q)) (suc (suc to)) ≡ numbers_of (insert (remove members q) to i) r
 moved_numbers members r i q to lt = ap (λ xs. r.d ∷ r.constant ∷ xs)
-    (ap₂ (λ xs z. insert xs to z) (remove-map r.coefficient (set members q i) q ∙ ap (map r.coefficient) (take_put members q i lt)) (get_or-map r.coefficient (set members q i) q 0 (pos 0) (subst (λ n. q < n) (sym (length-put members q i)) lt) ∙ ap r.coefficient (get_or-set_same members q i 0 lt))
+    (ap₂ (λ xs z. insert xs to z) (remove-map r.coefficient (set members q i) q ∙ ap (map r.coefficient) (take_put members q i lt))
+    (get_or-map r.coefficient (set members q i) q 0 (pos 0) (subst (λ n. q < n) (sym (length-put members q i)) lt)
+    ∙ ap r.coefficient (get_or-set_same members q i 0 lt))
     ∙ insert-map r.coefficient (remove members q) to i)
 
-pub exchanged-split : (members : List ℕ) (i q to : ℕ) → IsStrictlyIncreasing members → q < length members → to ≡ index_for i (without (get_or members q 0) members) → insert (remove members q) to i ≡ exchanged members i (get_or members q 0)
+pub exchanged-split : (members : List ℕ) (i q to : ℕ) → IsStrictlyIncreasing members → q < length members
+    → to ≡ index_for i (without (get_or members q 0) members) → insert (remove members q) to i ≡ exchanged members i (get_or members q 0)
 exchanged-split members i q to ordered lt is = ap₂ (λ ns n. insert ns n i) (sym (gone members q ordered lt)) is ∙ sym (put_in-split i (without (get_or members q 0) members))
 
 pub set_Contains : (members : List ℕ) (i q m : ℕ) → q < length members → Contains (exchanged members i (get_or members q 0)) m → Contains (set members q i) m
@@ -179,7 +191,8 @@ pub record ReducedTo (ns : List ℕ) (raw : Relation) (reduced : List ℤ) : Typ
   pub is : IsReduced raw l
   pub shown : reduced ≡ numbers_of ns l
 
-pub reduced_shows : (ns : List ℕ) (raw : Relation) (row reduced : List ℤ) (g : ℕ) → row ≡ numbers_of ns raw → pos 0 <ℤ raw.d → ((m : ℕ) → ¬ Contains ns m → raw.coefficient m ≡ pos 0) → IsPrimitivePart row reduced g → ReducedTo ns raw reduced
+pub reduced_shows : (ns : List ℕ) (raw : Relation) (row reduced : List ℤ) (g : ℕ) → row ≡ numbers_of ns raw → pos 0 <ℤ raw.d
+    → ((m : ℕ) → ¬ Contains ns m → raw.coefficient m ≡ pos 0) → IsPrimitivePart row reduced g → ReducedTo ns raw reduced
 reduced_shows ns raw row reduced g shown positive none part = record { l = quotient raw g; is = is; shown = ext_get_or (pos 0) reduced (numbers_of ns (quotient raw g)) lengths at }
   where
     size : length row ≡ suc (suc (length ns))
@@ -235,7 +248,8 @@ reduced_shows ns raw row reduced g shown positive none part = record { l = quoti
             at : (n : ℕ) → n < suc (suc (length ns)) → (e * g) ∣ unsigned_abs (number_at (numbers_of ns raw) n)
             at zero lt = scaled g e raw.d by_d de
             at (suc zero) lt = scaled g e raw.constant by_constant ce
-            at (suc (suc m)) lt = subst (λ z. (e * g) ∣ unsigned_abs z) (sym (number_shown ns raw m (omega arith))) (scaled g e (raw.coefficient (get_or ns m 0)) (by_each (get_or ns m 0)) (me (get_or ns m 0)))
+            at (suc (suc m)) lt = subst (λ z. (e * g) ∣ unsigned_abs z) (sym (number_shown ns raw m (omega arith)))
+                (scaled g e (raw.coefficient (get_or ns m 0)) (by_each (get_or ns m 0)) (me (get_or ns m 0)))
 
     lengths : length reduced ≡ length (numbers_of ns (quotient raw g))
     lengths = part.same_length ∙ size ∙ sym (length-numbers ns (quotient raw g))
@@ -243,7 +257,8 @@ reduced_shows ns raw row reduced g shown positive none part = record { l = quoti
     times : (n : ℕ) → n < suc (suc (length ns)) → number_at (numbers_of ns (quotient raw g)) n *ℤ pos g ≡ number_at (numbers_of ns raw) n
     times zero lt = exact raw.d (pos g) by_d
     times (suc zero) lt = exact raw.constant (pos g) by_constant
-    times (suc (suc m)) lt = ap (λ (z : ℤ). z *ℤ pos g) (number_shown ns (quotient raw g) m (omega arith)) ∙ exact (raw.coefficient (get_or ns m 0)) (pos g) (by_each (get_or ns m 0)) ∙ sym (number_shown ns raw m (omega arith))
+    times (suc (suc m)) lt = ap (λ (z : ℤ). z *ℤ pos g) (number_shown ns (quotient raw g) m (omega arith))
+        ∙ exact (raw.coefficient (get_or ns m 0)) (pos g) (by_each (get_or ns m 0)) ∙ sym (number_shown ns raw m (omega arith))
 
     at : (n : ℕ) → n < length reduced → number_at reduced n ≡ number_at (numbers_of ns (quotient raw g)) n
     at n lt = mul-cancel (number_at reduced n) (number_at (numbers_of ns (quotient raw g)) n) (pos g) (positive_differs (pos g) (is_positive g g_positive))

@@ -22,7 +22,8 @@ use Rattle.rg_feasible.specs.Settling.{IsRefutation, relation_of, multiplier_wit
 
 -- ---- numbers beside members
 
-beside_at : (members : List ℕ) (numbers : List ℤ) (w p : ℕ) → p < length members → length numbers ≡ length members → slice_index members p ≡ w → ((q : ℕ) → q < p → slice_index members q ≡ w → ⊥) → number_beside members numbers w ≡ number_at numbers p
+beside_at : (members : List ℕ) (numbers : List ℤ) (w p : ℕ) → p < length members → length numbers ≡ length members → slice_index members p ≡ w
+    → ((q : ℕ) → q < p → slice_index members q ≡ w → ⊥) → number_beside members numbers w ≡ number_at numbers p
 beside_at [] numbers w p lt size is first = absurd (omega arith)
 beside_at (m ∷ members) [] w p lt size is first = absurd (omega arith)
 beside_at (m ∷ members) (z ∷ numbers) w zero lt size is first = ap (λ b. if b then z else number_beside members numbers w) (ap (λ x. x == w) is ∙ same w)
@@ -41,7 +42,8 @@ row_shows d system whole w lt out = subst (λ n. ShowsRow system d.members w (sl
 
 -- ---- values
 
-pub value_outside : (system : LinearSystem) (members : List ℕ) (w : ℕ) (k : Relation) → DictionaryRow system members w k → (scale : ℤ) (v : ℕ → ℤ) → IsBasicPoint system members scale v → (f : Fraction) → IsValue f k.constant k.d → IsValue f (v w) scale
+pub value_outside : (system : LinearSystem) (members : List ℕ) (w : ℕ) (k : Relation) → DictionaryRow system members w k → (scale : ℤ) (v : ℕ → ℤ)
+    → IsBasicPoint system members scale v → (f : Fraction) → IsValue f k.constant k.d → IsValue f (v w) scale
 value_outside system members w k row scale v basic f is = SameValue-trans (numerator_of f) (denominator_of f) k.constant k.d (v w) scale (positive_differs k.d row.positive) is
     (sym (constant_left system members w k row scale v basic.point basic.zero) ∙ *ℤ_comm k.d (v w))
 
@@ -93,15 +95,18 @@ multiplier_not_negative d i row is lt = (multipliers_refute is.system d.table is
 pub failing_is : (d : DescentState) (i failing : ℕ) → IsRefutation d i → d.failing ≡ Some failing → i ≡ failing
 failing_is d i failing is e = same_Some i failing (sym is.failing ∙ e)
 
-pub refuted_row : (d : DescentState) (i failing : ℕ) → IsRefutation d i → d.failing ≡ Some failing → (d.table.columns + failing < d.table.columns + d.table.rows) × ¬ Contains d.table.members (d.table.columns + failing)
-refuted_row d i failing is e = subst (λ n. (d.table.columns + n < d.table.columns + d.table.rows) × ¬ Contains d.table.members (d.table.columns + n)) (failing_is d i failing is e) (failing_row is.system d.table is.outcome.0 i is.dictionary is.outcome.1)
+pub refuted_row : (d : DescentState) (i failing : ℕ) → IsRefutation d i → d.failing ≡ Some failing
+    → (d.table.columns + failing < d.table.columns + d.table.rows) × ¬ Contains d.table.members (d.table.columns + failing)
+refuted_row d i failing is e = subst (λ n. (d.table.columns + n < d.table.columns + d.table.rows) × ¬ Contains d.table.members (d.table.columns + n))
+    (failing_is d i failing is e) (failing_row is.system d.table is.outcome.0 i is.dictionary is.outcome.1)
 
 -- what the code reads off
 multiplier_own : (d : Contents) (i : ℕ) → multiplier_with d i i ≡ number_at (row_of d (d.columns + i)) 0
 multiplier_own d i = ap (λ b. if b then (relation_of d.members (row_of d (d.columns + i))).d else neg_ℤ ((relation_of d.members (row_of d (d.columns + i))).coefficient (d.columns + i))) (same i)
 
 multiplier_else : (d : Contents) (i row : ℕ) → row ≢ i → multiplier_with d i row ≡ neg_ℤ (number_beside d.members (drop 2 (row_of d (d.columns + i))) (d.columns + row))
-multiplier_else d i row ne = ap (λ b. if b then (relation_of d.members (row_of d (d.columns + i))).d else neg_ℤ ((relation_of d.members (row_of d (d.columns + i))).coefficient (d.columns + row))) (differs row i ne)
+multiplier_else d i row ne = ap (λ b. if b then (relation_of d.members (row_of d (d.columns + i))).d else neg_ℤ
+    ((relation_of d.members (row_of d (d.columns + i))).coefficient (d.columns + row))) (differs row i ne)
 
 multiplier_none : (d : Contents) (i row : ℕ) → row ≢ i → ¬ Contains d.members (d.columns + row) → multiplier_with d i row ≡ pos 0
 multiplier_none d i row ne lacks = multiplier_else d i row ne ∙ ap neg_ℤ (beside_none d.members (drop 2 (row_of d (d.columns + i))) (d.columns + row) lacks)

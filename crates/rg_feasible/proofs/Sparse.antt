@@ -46,7 +46,8 @@ named_more row p m indices next h more ne other is = subst (NamedBelow row p (m 
         (cases_lt (k + 1) (length indices))
       where
         last : length indices ≡ k + 1 → get_or (indices ++ m ∷ []) k 0 < get_or (indices ++ m ∷ []) (k + 1) 0
-        last e = let a = get_or_append_left indices (m ∷ []) 0 k (omega arith) in let b = get_or_at indices m [] 0 (k + 1) e in let r = (h.each (get_or indices k 0)).0 (member_at indices k (omega arith)) in omega arith
+        last e = let a = get_or_append_left indices (m ∷ []) 0 k (omega arith) in let b = get_or_at indices m [] 0 (k + 1) e in let r =
+            (h.each (get_or indices k 0)).0 (member_at indices k (omega arith)) in omega arith
 
     to : (n : ℕ) → Contains (indices ++ m ∷ []) n → (0 < n) × (n < m + 1) × (n ≢ p) × (number_at row n ≢ pos 0)
     to n has = ⊎_elim (λ before. (let r = (h.each n).0 before in (r.0, omega arith, r.2, r.3)))
@@ -74,7 +75,8 @@ pub named_all : (row : List ℤ) (p m : ℕ) (indices : List ℕ) → NamedBelow
 named_all row p m indices h e = let all = subst (λ n. NamedBelow row p n indices) e h in record { ordered = all.ordered; each = all.each }
 
 -- a listed index is inside the row, behind the first, and not p
-pub listed_index : (row : List ℤ) (p : ℕ) (indices : List ℕ) (k : ℕ) → AreNamedIndices row p indices → k < length indices → (0 < get_or indices k 0) × (get_or indices k 0 < length row) × (get_or indices k 0 ≢ p)
+pub listed_index : (row : List ℤ) (p : ℕ) (indices : List ℕ) (k : ℕ) → AreNamedIndices row p indices → k < length indices
+    → (0 < get_or indices k 0) × (get_or indices k 0 < length row) × (get_or indices k 0 ≢ p)
 listed_index row p indices k h lt = let r = (h.each (get_or indices k 0)).0 (member_at indices k lt) in (r.0, r.1, r.2)
 
 -- ---- the indices that are renewed so far
@@ -86,18 +88,18 @@ pub record RenewedAt (pivot old new : List ℤ) (leaving : ℤ) (indices : List 
   pub values : (j : ℕ) → j < k → number_at new (get_or indices j 0) ≡ term_value (index_term pivot old (pos 1) leaving (get_or indices j 0))
   pub others : (n : ℕ) → ((j : ℕ) → j < k → get_or indices j 0 ≢ n) → number_at new n ≡ number_at old n
 
-pub renewed_none : (pivot old : List ℤ) (leaving : ℤ) (indices : List ℕ) → RenewedAt pivot old old leaving indices 0
-renewed_none pivot old leaving indices = record { same_length = refl; fits = λ j lt. absurd (omega arith); values = λ j lt. absurd (omega arith); others = λ n not. refl }
-
 apart : (indices : List ℕ) (j k : ℕ) → IsStrictlyIncreasing indices → j < k → k < length indices → get_or indices j 0 ≢ get_or indices k 0
 apart indices j k ordered lt inside e = let r = rising indices j k ordered lt inside in omega arith
 
 -- the next index is as it was
-pub still : (pivot old new : List ℤ) (leaving : ℤ) (indices : List ℕ) (k : ℕ) → RenewedAt pivot old new leaving indices k → IsStrictlyIncreasing indices → k < length indices → number_at new (get_or indices k 0) ≡ number_at old (get_or indices k 0)
+pub still : (pivot old new : List ℤ) (leaving : ℤ) (indices : List ℕ) (k : ℕ) → RenewedAt pivot old new leaving indices k
+    → IsStrictlyIncreasing indices → k < length indices → number_at new (get_or indices k 0) ≡ number_at old (get_or indices k 0)
 still pivot old new leaving indices k r ordered inside = r.others (get_or indices k 0) (λ j lt. apart indices j k ordered lt inside)
 
-pub renewed_more : (pivot old new : List ℤ) (leaving : ℤ) (indices : List ℕ) (k : ℕ) (z : ℤ) → RenewedAt pivot old new leaving indices k → IsStrictlyIncreasing indices → k < length indices → get_or indices k 0 < length old
-    → FitsTerm (index_term pivot old (pos 1) leaving (get_or indices k 0)) → z ≡ term_value (index_term pivot old (pos 1) leaving (get_or indices k 0)) → RenewedAt pivot old (set new (get_or indices k 0) z) leaving indices (k + 1)
+pub renewed_more : (pivot old new : List ℤ) (leaving : ℤ) (indices : List ℕ) (k : ℕ) (z : ℤ) → RenewedAt pivot old new leaving indices k
+    → IsStrictlyIncreasing indices → k < length indices → get_or indices k 0 < length old
+    → FitsTerm (index_term pivot old (pos 1) leaving (get_or indices k 0))
+    → z ≡ term_value (index_term pivot old (pos 1) leaving (get_or indices k 0)) → RenewedAt pivot old (set new (get_or indices k 0) z) leaving indices (k + 1)
 renewed_more pivot old new leaving indices k z r ordered inside within fits is = record {
   same_length = length-set new (get_or indices k 0) z ∙ r.same_length;
   fits = below_more (λ j. FitsTerm (index_term pivot old (pos 1) leaving (get_or indices j 0))) k r.fits fits;
@@ -154,7 +156,8 @@ index_rises p m e lt = ⊎_elim (λ less. before less (index_low p m less) (case
 abbrev Reached : List ℕ → ℕ → ℕ → Type 0
 Reached indices k n = (j : ℕ) × (j < k) × (get_or indices j 0 ≡ n)
 
-module _ (pivot old : List ℤ) (p : ℕ) (indices : List ℕ) (after : 1 < p) (inside : p < length old) (same : length pivot ≡ length old) (unit : number_at pivot p ≡ pos 1) (in_range : RowInRange old) (named : AreNamedIndices pivot p indices) where
+module _ (pivot old : List ℤ) (p : ℕ) (indices : List ℕ) (after : 1 < p) (inside : p < length old) (same : length pivot ≡ length old)
+    (unit : number_at pivot p ≡ pos 1) (in_range : RowInRange old) (named : AreNamedIndices pivot p indices) where
   first_fits : FitsWith (number_at old 0) (first_term pivot old p)
   first_fits = subst (λ s. FitsWith (number_at old 0) (record { a = number_at old 0; b = s; c = pos 0; d = pos 0 })) (sym unit) (unit_term (number_at old 0) (pos 0) (in_range 0 (omega arith)))
 
@@ -176,13 +179,15 @@ module _ (pivot old : List ℤ) (p : ℕ) (indices : List ℕ) (after : 1 < p) (
   listed_fits new k n r (j, lt, e) = subst (λ m. FitsWith (number_at new m) (low_term pivot old p m)) e
       (subst (λ s. FitsWith (number_at new (get_or indices j 0)) (index_term pivot old s (number_at old p) (get_or indices j 0))) (sym unit) (r.fits j lt, r.values j lt))
 
-  index_fits : (new : List ℤ) (k n : ℕ) → RenewedAt pivot old new (number_at old p) indices k → k ≤ length indices → 0 < n → n < length old → n ≢ p → (Contains indices n → Reached indices k n) → FitsWith (number_at new n) (low_term pivot old p n)
+  index_fits : (new : List ℤ) (k n : ℕ) → RenewedAt pivot old new (number_at old p) indices k → k ≤ length indices → 0 < n → n < length old → n ≢ p
+      → (Contains indices n → Reached indices k n) → FitsWith (number_at new n) (low_term pivot old p n)
   index_fits new k n r le more lt ne reach = ⊎_elim (λ has. listed_fits new k n r (reach has))
       (λ lacks. subst (λ z. FitsWith z (low_term pivot old p n)) (sym (unlisted_stays new k n r le lacks)) (zero_fits n lt (unlisted_zero n more lt ne lacks)))
       (is_member indices n)
 
   -- the terms whose indices the loop has passed
-  term_fits : (new : List ℤ) (k m : ℕ) → RenewedAt pivot old new (number_at old p) indices k → k ≤ length indices → suc m < length old → (Contains indices (index_of p m) → Reached indices k (index_of p m)) → FitsWith (number_at new (index_of p m)) (renewal_term pivot old p m)
+  term_fits : (new : List ℤ) (k m : ℕ) → RenewedAt pivot old new (number_at old p) indices k → k ≤ length indices → suc m < length old
+      → (Contains indices (index_of p m) → Reached indices k (index_of p m)) → FitsWith (number_at new (index_of p m)) (renewal_term pivot old p m)
   term_fits new k zero r le lt reach = subst (λ n. FitsWith (number_at new n) (renewal_term pivot old p 0)) (sym (index_low p 0 (omega arith)))
       (subst (λ z. FitsWith z (first_term pivot old p)) (sym (unlisted_stays new k 0 r le (λ has. (let h = (named.each 0).0 has in omega arith)))) first_fits)
   term_fits new k (suc m) r le lt reach = subst (FitsWith (number_at new (index_of p (suc m)))) (sym (term_is pivot old p (suc m) inside (omega arith) lt))
@@ -227,4 +232,5 @@ module _ (pivot old : List ℤ) (p : ℕ) (indices : List ℕ) (after : 1 < p) (
       before m less has = go (reached_all (index_of p m) has)
         where
           go : Reached indices (length indices) (index_of p m) → Reached indices k (index_of p m)
-          go (j, within, here) = ⊎_elim (λ first. (j, first, here)) (λ past. (let a = index_rises p m e less in let b = not_falling indices k j named.ordered past within in absurd (omega arith))) (cases_lt j k)
+          go (j, within, here) = ⊎_elim (λ first. (j, first, here))
+              (λ past. (let a = index_rises p m e less in let b = not_falling indices k j named.ordered past within in absurd (omega arith))) (cases_lt j k)

@@ -49,7 +49,8 @@ columns_listed f xs n size each = ext_get_or (pos 0) xs (map f (numbers_from 0 n
 abbrev fresh : ℕ → ℕ → List ℕ → List ℤ → Contents
 fresh columns rows members table = record { columns = columns; rows = 0; room = rows; members = members; table = table }
 
-pub stored_fresh : (columns rows capacity indices : ℕ) (members : List ℕ) (table pivot_row : List ℤ) → columns + rows < 2 ^ 32 → members ≡ numbers_from 0 columns → length table ≡ columns * (columns + 2) → RowInRange table
+pub stored_fresh : (columns rows capacity indices : ℕ) (members : List ℕ) (table pivot_row : List ℤ) → columns + rows < 2 ^ 32
+    → members ≡ numbers_from 0 columns → length table ≡ columns * (columns + 2) → RowInRange table
     → (columns + rows) * (columns + 2) ≤ capacity → length pivot_row ≡ columns + 2 → length pivot_row ≤ indices → IsStored (fresh columns rows members table) capacity pivot_row indices
 stored_fresh columns rows capacity indices members table pivot_row few is size fits space width listed = record {
   few = omega arith;
@@ -69,7 +70,8 @@ stored_fresh columns rows capacity indices members table pivot_row few is size f
     below : (k : ℕ) → k < columns → get_or (numbers_from 0 columns) k 0 < columns + 0
     below k lt = let r = get_or-numbers_from 0 columns k 0 lt in omega arith
 
-pub dictionary_fresh : (columns rows : ℕ) (members : List ℕ) (table : List ℤ) → members ≡ numbers_from 0 columns → length table ≡ columns * (columns + 2) → IsDictionary (columns_alone columns) (fresh columns rows members table)
+pub dictionary_fresh : (columns rows : ℕ) (members : List ℕ) (table : List ℤ) → members ≡ numbers_from 0 columns
+    → length table ≡ columns * (columns + 2) → IsDictionary (columns_alone columns) (fresh columns rows members table)
 dictionary_fresh columns rows members table is size = record {
   columns = refl;
   rows = refl;
@@ -126,7 +128,8 @@ slice-append xs ys a e le inside = ap (take (e - a)) (drop-append-le a xs ys (om
 slice_end : (xs ys : List ℤ) (a e : ℕ) → length xs ≡ a → a + length ys ≡ e → slice_range (xs ++ ys) a e ≡ ys
 slice_end xs ys a e size is = ap (take (e - a)) (drop_at xs ys a size) ∙ take_all (e - a) ys (omega arith)
 
-module _ (system : LinearSystem) (columns rows room room' : ℕ) (members : List ℕ) (table new coeffs : List ℤ) (constant : ℤ) (d : IsDictionary system (record { columns = columns; rows = rows; room = room; members = members; table = table }))
+module _ (system : LinearSystem) (columns rows room room' : ℕ) (members : List ℕ) (table new coeffs : List ℤ) (constant : ℤ)
+    (d : IsDictionary system (record { columns = columns; rows = rows; room = room; members = members; table = table }))
     (start : members ≡ numbers_from 0 columns) (size : length coeffs ≡ columns) (is : new ≡ table ++ pos 1 ∷ constant ∷ coeffs) where
   next : LinearSystem
   next = with_row system coeffs constant
@@ -147,22 +150,27 @@ module _ (system : LinearSystem) (columns rows room room' : ℕ) (members : List
   count = omega (arith, more)
 
   whole : length new ≡ variables (with_row system coeffs constant) * row_width (with_row system coeffs constant)
-  whole = ap length is ∙ length-append table (pos 1 ∷ constant ∷ coeffs) ∙ omega (arith, d.table.size, size, width, row_end (variables system) (row_width system)) ∙ ap (λ n. n * row_width system) (sym count)
+  whole = ap length is ∙ length-append table (pos 1 ∷ constant ∷ coeffs)
+      ∙ omega (arith, d.table.size, size, width, row_end (variables system) (row_width system)) ∙ ap (λ n. n * row_width system) (sym count)
 
   -- the row of a variable that was there
   old_row : (i : ℕ) → i < length system.rows → row_at (with_row system coeffs constant) i ≡ row_at system i
   old_row i lt = get_or_append_left system.rows (record { coeffs = coeffs; constant = constant } ∷ []) _ i lt
 
-  old_shown : (w i : ℕ) → system.columns + i ≡ w → i < length system.rows → ¬ Contains members w → row_numbers (with_row system coeffs constant) new w ≡ numbers_of members (row_relation (with_row system coeffs constant) i)
+  old_shown : (w i : ℕ) → system.columns + i ≡ w → i < length system.rows → ¬ Contains members w
+      → row_numbers (with_row system coeffs constant) new w ≡ numbers_of members (row_relation (with_row system coeffs constant) i)
   old_shown w i e lt lacks = ap (λ xs. row_numbers system xs w) is
-      ∙ slice-append table (pos 1 ∷ constant ∷ coeffs) (w * row_width system) ((w + 1) * row_width system) (omega (arith, row_end w (row_width system))) (omega (arith, row_end w (row_width system), row_inside table (row_width system) (variables system) w d.table.size (omega arith)))
+      ∙ slice-append table (pos 1 ∷ constant ∷ coeffs) (w * row_width system) ((w + 1) * row_width system)
+      (omega (arith, row_end w (row_width system)))
+      (omega (arith, row_end w (row_width system), row_inside table (row_width system) (variables system) w d.table.size (omega arith)))
       ∙ before.shown ∙ ap (numbers_of members) (same_relation system members w before.k (row_relation system i) before.row there ∙ ap (relation_of system.columns) (sym (old_row i lt)))
     where
       before : ShowsRow system members w (row_numbers system table w)
       before = d.table.rows w (omega arith) lacks
 
       there : DictionaryRow system members w (row_relation system i)
-      there = subst (λ ms. DictionaryRow system ms w (row_relation system i)) (sym columns_are) (subst (λ x. DictionaryRow system (column_set system) x (row_relation system i)) e (columns_row system i lt))
+      there = subst (λ ms. DictionaryRow system ms w (row_relation system i)) (sym columns_are)
+          (subst (λ x. DictionaryRow system (column_set system) x (row_relation system i)) e (columns_row system i lt))
 
   -- the row that is added
   new_row : row_at (with_row system coeffs constant) (length system.rows) ≡ record { coeffs = coeffs; constant = constant }
@@ -172,18 +180,23 @@ module _ (system : LinearSystem) (columns rows room room' : ℕ) (members : List
   listed = columns_listed (λ j. if nat_lt j system.columns then slice_index_or coeffs j (pos 0) else pos 0) coeffs system.columns (size ∙ d.columns) (λ j lt. rw (below_test j system.columns lt) refl)
       ∙ ap (map (λ j. if nat_lt j system.columns then slice_index_or coeffs j (pos 0) else pos 0)) (sym columns_are)
 
-  new_shown : (w : ℕ) → system.columns + length system.rows ≡ w → row_numbers (with_row system coeffs constant) new w ≡ numbers_of members (row_relation (with_row system coeffs constant) (length system.rows))
+  new_shown : (w : ℕ) → system.columns + length system.rows ≡ w
+      → row_numbers (with_row system coeffs constant) new w ≡ numbers_of members (row_relation (with_row system coeffs constant) (length system.rows))
   new_shown w e = ap (λ xs. row_numbers system xs w) is
-      ∙ slice_end table (pos 1 ∷ constant ∷ coeffs) (w * row_width system) ((w + 1) * row_width system) (d.table.size ∙ ap (λ n. n * row_width system) e) (omega (arith, row_end w (row_width system), size, width))
+      ∙ slice_end table (pos 1 ∷ constant ∷ coeffs) (w * row_width system) ((w + 1) * row_width system)
+      (d.table.size ∙ ap (λ n. n * row_width system) e) (omega (arith, row_end w (row_width system), size, width))
       ∙ ap (λ xs. pos 1 ∷ constant ∷ xs) listed ∙ ap (λ x. numbers_of members (relation_of system.columns x)) (sym new_row)
 
-  shows_row : (w : ℕ) → w < variables (with_row system coeffs constant) → ¬ Contains members w → ShowsRow (with_row system coeffs constant) members w (row_numbers (with_row system coeffs constant) new w)
+  shows_row : (w : ℕ) → w < variables (with_row system coeffs constant) → ¬ Contains members w
+      → ShowsRow (with_row system coeffs constant) members w (row_numbers (with_row system coeffs constant) new w)
   shows_row w lt lacks = at (w - system.columns) (omega (arith, past)) (cases_lt (w - system.columns) (length system.rows))
     where
       past : system.columns ≤ w
-      past = ⊎_elim (λ less. absurd (lacks (subst (λ ms. Contains ms w) (sym columns_are) (Contains-numbers_from 0 system.columns w (omega arith) (omega arith))))) (λ le. le) (cases_lt w system.columns)
+      past = ⊎_elim (λ less. absurd (lacks (subst (λ ms. Contains ms w) (sym columns_are)
+          (Contains-numbers_from 0 system.columns w (omega arith) (omega arith))))) (λ le. le) (cases_lt w system.columns)
 
-      row : (i : ℕ) → system.columns + i ≡ w → i < length (system.rows ++ record { coeffs = coeffs; constant = constant } ∷ []) → DictionaryRow (with_row system coeffs constant) members w (row_relation (with_row system coeffs constant) i)
+      row : (i : ℕ) → system.columns + i ≡ w → i < length (system.rows ++ record { coeffs = coeffs; constant = constant } ∷ [])
+          → DictionaryRow (with_row system coeffs constant) members w (row_relation (with_row system coeffs constant) i)
       row i e inside = subst (λ ms. DictionaryRow (with_row system coeffs constant) ms w (row_relation (with_row system coeffs constant) i)) (sym columns_are)
           (subst (λ x. DictionaryRow (with_row system coeffs constant) (column_set system) x (row_relation (with_row system coeffs constant) i)) e
           (columns_row (with_row system coeffs constant) i inside))
@@ -195,7 +208,8 @@ module _ (system : LinearSystem) (columns rows room room' : ℕ) (members : List
         shown = new_shown w (omega arith);
       }
 
-      at : (i : ℕ) → system.columns + i ≡ w → (i < length system.rows) ⊎ (length system.rows ≤ i) → ShowsRow (with_row system coeffs constant) members w (row_numbers (with_row system coeffs constant) new w)
+      at : (i : ℕ) → system.columns + i ≡ w → (i < length system.rows) ⊎ (length system.rows ≤ i)
+          → ShowsRow (with_row system coeffs constant) members w (row_numbers (with_row system coeffs constant) new w)
       at i e (inl less) = record { k = row_relation (with_row system coeffs constant) i; row = row i e (omega (arith, more)); shown = old_shown w i e less lacks }
       at i e (inr most) = last i e (omega (arith, more, count))
 
@@ -209,8 +223,10 @@ module _ (system : LinearSystem) (columns rows room room' : ℕ) (members : List
 
 -- ---- after an exchange
 
-pub stored_exchanged : (old new : Contents) (capacity i q to indices indices' : ℕ) (pivot_row written : List ℤ) → IsStored old capacity pivot_row indices → new.columns ≡ old.columns → new.rows ≡ old.rows → new.room ≡ old.room
-    → new.members ≡ insert (remove old.members q) to i → new.members ≡ exchanged old.members i (get_or old.members q 0) → i < old.columns + old.rows → ¬ Contains old.members i → q < length old.members → to < length old.members
+pub stored_exchanged : (old new : Contents) (capacity i q to indices indices' : ℕ) (pivot_row written : List ℤ)
+    → IsStored old capacity pivot_row indices → new.columns ≡ old.columns → new.rows ≡ old.rows → new.room ≡ old.room
+    → new.members ≡ insert (remove old.members q) to i → new.members ≡ exchanged old.members i (get_or old.members q 0) → i < old.columns + old.rows
+    → ¬ Contains old.members i → q < length old.members → to < length old.members
     → length new.table ≡ length old.table → RowInRange new.table → length written ≡ length pivot_row → indices ≤ indices' → IsStored new capacity written indices'
 stored_exchanged old new capacity i q to indices indices' pivot_row written h columns rows room is members below outside lt inside size fits width more = record {
   few = rw (columns, rows, room) h.few;

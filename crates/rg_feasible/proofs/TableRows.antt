@@ -33,17 +33,20 @@ in_range-part a n table h = in_range-take n (drop a table) (in_range-drop a tabl
 
 -- ---- one more variable
 
-pub rows_skipped : (members : List ℕ) (i width : ℕ) (pivot old new : List ℤ) (p q w : ℕ) → RowsExchanged members i width pivot old new p q w → (IsKept members i w → ⊥) → RowsExchanged members i width pivot old new p q (w + 1)
+pub rows_skipped : (members : List ℕ) (i width : ℕ) (pivot old new : List ℤ) (p q w : ℕ) → RowsExchanged members i width pivot old new p q w
+    → (IsKept members i w → ⊥) → RowsExchanged members i width pivot old new p q (w + 1)
 rows_skipped members i width pivot old new p q w r none = record {
   same_length = r.same_length;
   done = λ v lt kept. ⊎_elim (λ less. r.done v less kept) (λ most. (let e : v ≡ w = omega arith in absurd (none (subst (IsKept members i) e kept)))) (cases_lt v w);
 }
 
-pub rows_more : (members : List ℕ) (i width : ℕ) (pivot old new row : List ℤ) (p q w n k : ℕ) → RowsExchanged members i width pivot old new p q w → length old ≡ n * width → w < n → k ≡ width → length row ≡ width
+pub rows_more : (members : List ℕ) (i width : ℕ) (pivot old new row : List ℤ) (p q w n k : ℕ) → RowsExchanged members i width pivot old new p q w
+    → length old ≡ n * width → w < n → k ≡ width → length row ≡ width
     → IsExchangedRow pivot (row_at width old w) row p q → length (put_mid (w * width) k new row) ≡ length old → RowsExchanged members i width pivot old (put_mid (w * width) k new row) p q (w + 1)
 rows_more members i width pivot old new row p q w n k r size lt is same done whole = record {
   same_length = whole;
-  done = λ v less kept. ⊎_elim (λ before. subst (λ x. IsExchangedRow pivot (row_at width old v) x p q) (sym (other v (λ e. omega arith))) (r.done v before kept)) (λ most. here v (omega arith)) (cases_lt v w);
+  done = λ v less kept. ⊎_elim (λ before. subst (λ x. IsExchangedRow pivot (row_at width old v) x p q) (sym (other v (λ e. omega arith)))
+      (r.done v before kept)) (λ most. here v (omega arith)) (cases_lt v w);
 }
   where
     other : (v : ℕ) → v ≢ w → row_at width (put_mid (w * width) k new row) v ≡ row_at width new v
@@ -55,7 +58,8 @@ rows_more members i width pivot old new row p q w n k r size lt is same done who
 
 -- ---- the first term that passes
 
-pub first_of_rows : (members : List ℕ) (i width : ℕ) (pivot old new : List ℤ) (p q w n e : ℕ) (t : Wide) → RowsExchanged members i width pivot old new p q w → length old ≡ n * width → w < n → IsKept members i w
+pub first_of_rows : (members : List ℕ) (i width : ℕ) (pivot old new : List ℤ) (p q w n e : ℕ) (t : Wide)
+    → RowsExchanged members i width pivot old new p q w → length old ≡ n * width → w < n → IsKept members i w
     → number_at (row_at width old w) p ≢ pos 0 → FirstOfRow pivot (row_at width old w) p e t → FirstOfRows members i width pivot old p w e t
 first_of_rows members i width pivot old new p q w n e t r size lt kept named row = record {
   kept = kept;

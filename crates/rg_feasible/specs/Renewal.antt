@@ -1,5 +1,5 @@
 -- The rows of a table in an exchange, number by number.
-use Rattle.std.specs.Prelude.{◌≡◌, ◌≢◌, ◌↔◌, ℕ, suc, ◌*◌, ◌<◌, ◌≤◌, ◌-◌, nat_lt, ◌==◌, if◌then◌else◌, List, length, Contains, ℤ, pos, neg_ℤ, ◌*ℤ◌, FitsSigned}
+use Rattle.std.specs.Prelude.{◌≡◌, ◌≢◌, ◌↔◌, ℕ, suc, ◌<◌, ◌≤◌, ◌-◌, nat_lt, ◌==◌, if◌then◌else◌, List, length, Contains, ℤ, pos, neg_ℤ, ◌*ℤ◌, FitsSigned}
 use Rattle.std.specs.Int.{w64}
 use Rattle.std.specs.List.{insert, remove}
 use Rattle.std.specs.List.Sorted.{IsStrictlyIncreasing}
@@ -8,8 +8,11 @@ use Rattle.rg_integers.specs.Sign.{sign}
 use Rattle.rg_integers.specs.Sum.{number_at}
 use Rattle.rg_integers.specs.declared.term.Wide.{Wide}
 use Rattle.rg_integers.specs.Term.{term_value, FitsTerm}
-use Rattle.rg_linear.specs.Table.{row_at}
+use Rattle.rg_linear.specs.System.{LinearSystem}
+use Rattle.rg_linear.specs.Exchange.{exchanged, AllFit, FirstWide}
+use Rattle.rg_linear.specs.Table.{IsTable, row_at}
 use Rattle.rg_fraction.specs.Rows.{IsPrimitivePart}
+use Rattle.rg_feasible.specs.declared.table.ExchangeWide.{ExchangeWide}
 
 -- every number is in range
 abbrev pub RowInRange : List ℤ → Type 0
@@ -120,3 +123,15 @@ pub record FirstOfRows (members : List ℕ) (i width : ℕ) (pivot table : List 
   pub named : number_at (row_at width table w) p ≢ pos 0
   pub row : FirstOfRow pivot (row_at width table w) p e t
   pub first : (v : ℕ) → v < w → IsKept members i v → number_at (row_at width table v) p ≢ pos 0 → (m : ℕ) → m < width → FitsTerm (renewal_term pivot (row_at width table v) p m)
+
+-- the exchange of the rows of the variables below w comes to this term, the first that passes
+abbrev pub FirstWideInRows : List ℕ → ℕ → ℕ → List ℤ → List ℤ → ℕ → ℕ → ExchangeWide → Type 0
+FirstWideInRows members i width pivot table p w e = (e.target < w) × FirstOfRows members i width pivot table p e.target e.entry e.wide
+
+-- the exchange of the pivot with the member that leaves comes to the table over the new set: no term passes
+abbrev pub IsExchangedTable : LinearSystem → List ℕ → ℕ → ℕ → List ℤ → Type 0
+IsExchangedTable system members pivot leaves table = AllFit system members pivot leaves × IsTable system (exchanged members pivot leaves) table
+
+-- or to this term, the first that passes
+abbrev pub FirstWideInTable : LinearSystem → List ℕ → ℕ → ℕ → ExchangeWide → Type 0
+FirstWideInTable system members pivot leaves e = FirstWide system members pivot leaves e.target e.entry e.wide

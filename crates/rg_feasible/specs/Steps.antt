@@ -19,7 +19,8 @@ abbrev pub StepTells : LinearSystem → List ℕ → List ℕ → ℕ → List �
 StepTells system old stack i new Satisfied = IsSatisfied system old i × (new ≡ old)
 StepTells system old stack i new Stuck = IsStuck system old (fixed_of system stack) i × (new ≡ old)
 StepTells system old stack i new Exchanged = (j : ℕ) × Chooses system old (fixed_of system stack) i j × AllFit system old (row_variable system i) j × (new ≡ exchanged old (row_variable system i) j)
-StepTells system old stack i new (Wide w) = Chooses system old (fixed_of system stack) i w.leaves × FirstWide system old (row_variable system i) w.leaves w.target w.entry w.wide × (w.pivot ≡ row_variable system i) × (new ≡ old)
+StepTells system old stack i new (Wide w) = Chooses system old (fixed_of system stack) i w.leaves
+    × FirstWide system old (row_variable system i) w.leaves w.target w.entry w.wide × (w.pivot ≡ row_variable system i) × (new ≡ old)
 
 -- the step leaves a dictionary
 abbrev pub IsNotRefused : Step → Type 0

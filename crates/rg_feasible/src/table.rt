@@ -5,9 +5,9 @@ ghost use Rattle.std.specs.List.Sorted.{IsStrictlyIncreasing};
 ghost use Rattle.rg_integers.specs.Sum.{number_at};
 ghost use Rattle.rg_linear.specs.System.{LinearSystem, variables as variables_of};
 ghost use Rattle.rg_linear.specs.Dictionary.{IsFree};
-ghost use Rattle.rg_linear.specs.Exchange.{without, exchanged, AllFit, FirstWide};
+ghost use Rattle.rg_linear.specs.Exchange.{without};
 ghost use Rattle.rg_linear.specs.Table.{IsTable, index_for, row_at};
-ghost use Rattle.rg_feasible.specs.Renewal.{RowInRange, AreNamedIndices, RowsExchanged, FirstOfRows};
+ghost use Rattle.rg_feasible.specs.Renewal.{RowInRange, AreNamedIndices, RowsExchanged, FirstWideInRows, IsExchangedTable, FirstWideInTable};
 
 use crate::row::{copy_signed, exchange_row, is_short, list_indices, write_leaving};
 use rg_integers::Wide;
@@ -81,7 +81,8 @@ pub(crate) fn exchange_rows(
     requires pivot_in_range { RowInRange pivot_row.now }
     requires named { AreNamedIndices pivot_row.now p indices.now }
     requires in_range { RowInRange table.old }
-    ensures rows { MatchResult result (λ _. RowsExchanged members.now pivot (length pivot_row.now) pivot_row.now table.old table.new p q variables) (λ e. (e.target < variables) × FirstOfRows members.now pivot (length pivot_row.now) pivot_row.now table.old p e.target e.entry e.wide) }
+    ensures rows { MatchResult result (λ _. RowsExchanged members.now pivot (length pivot_row.now) pivot_row.now table.old table.new p q variables)
+        (λ e. FirstWideInRows members.now pivot (length pivot_row.now) pivot_row.now table.old p variables e) }
     ensures in_range { RowInRange table.new }
 {
     let width = pivot_row.len();
@@ -139,9 +140,8 @@ pub(crate) fn exchange_table(
     requires to_inside { to < length members.now }
     requires in_range { RowInRange table.old }
     ensures exact { (system : LinearSystem) → variables_of system ≡ variables → IsFree system members.now → IsTable system members.now table.old
-        → number_at (row_at (length members.now + 2) table.old pivot) (index + 2) ≢ pos 0 → MatchResult result
-        (λ _. AllFit system members.now pivot (slice_index members.now index) × IsTable system (exchanged members.now pivot (slice_index members.now index)) table.new)
-        (λ e. FirstWide system members.now pivot (slice_index members.now index) e.target e.entry e.wide) }
+        → number_at (row_at (length members.now + 2) table.old pivot) (index + 2) ≢ pos 0 → let leaves = slice_index members.now index in
+        MatchResult result (λ _. IsExchangedTable system members.now pivot leaves table.new) (λ e. FirstWideInTable system members.now pivot leaves e) }
     ensures in_range { RowInRange table.new }
     ensures room { vec_capacity indices.old ≤ vec_capacity indices.new }
 {

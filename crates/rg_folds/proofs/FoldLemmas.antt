@@ -45,20 +45,26 @@ and_then_same {X} {Y} first next one each_one (Err w) (Ok y) (inr (x', f', n')) 
 and_then_same {X} {Y} first next one each_one (Err w) (Err w') (inl f) (inl f') = ap Err (err_is w w' (one (Err w) (Err w') f f'))
 and_then_same {X} {Y} first next one each_one (Err w) (Err w') (inl f) (inr (x, f', n)) = absurd (ok_not_err x w (one (Ok x) (Err w) f' f))
 and_then_same {X} {Y} first next one each_one (Err w) (Err w') (inr (x, f', n)) (inl f) = absurd (ok_not_err x w' (one (Ok x) (Err w') f' f))
-and_then_same {X} {Y} first next one each_one (Err w) (Err w') (inr (x, f, n)) (inr (x', f', n')) = each_one x (Err w) (Err w') n (subst (λ v. next v (Err w')) (ok_is x' x (one (Ok x') (Ok x) f' f)) n')
+and_then_same {X} {Y} first next one each_one (Err w) (Err w') (inr (x, f, n)) (inr (x', f', n')) =
+    each_one x (Err w) (Err w') n (subst (λ v. next v (Err w')) (ok_is x' x (one (Ok x') (Ok x) f' f)) n')
 
 pub and_then_one : {X Y : Type 0} (first : Result X Wide → Type 0) (next : X → Result Y Wide → Type 0) → IsOne first → ((x : X) → IsOne (next x)) → IsOne (and_then first next)
 and_then_one first next f n = record { one = and_then_same first next f.one (λ x. (n x).one) }
 
 pub each_one : {A X : Type 0} (make : A → Result X Wide → Type 0) → ((a : A) → IsOne (make a)) → (items : List A) → IsOne (each make items)
 each_one make one [] = gives_one []
-each_one {A} {X} make one (a ∷ rest) = and_then_one (make a) (λ x. and_then (each make rest) (λ xs. gives (x ∷ xs))) (one a) (λ x. and_then_one (each make rest) (λ xs. gives (x ∷ xs)) (each_one make one rest) (λ xs. gives_one (x ∷ xs)))
+each_one {A} {X} make one (a ∷ rest) = and_then_one (make a) (λ x. and_then (each make rest) (λ xs. gives (x ∷ xs))) (one a)
+    (λ x. and_then_one (each make rest) (λ xs. gives (x ∷ xs)) (each_one make one rest) (λ xs. gives_one (x ∷ xs)))
 
-pub further_one : {A X : Type 0} (join : X → X → Result X Wide → Type 0) (make : A → Result X Wide → Type 0) → ((x y : X) → IsOne (join x y)) → ((a : A) → IsOne (make a)) → (sum : X) (items : List A) → IsOne (further join make sum items)
+pub further_one : {A X : Type 0} (join : X → X → Result X Wide → Type 0) (make : A → Result X Wide → Type 0) → ((x y : X) → IsOne (join x y))
+    → ((a : A) → IsOne (make a)) → (sum : X) (items : List A) → IsOne (further join make sum items)
 further_one join make joins one sum [] = gives_one sum
-further_one join make joins one sum (a ∷ rest) = and_then_one (make a) (λ x. and_then (join sum x) (λ more. further join make more rest)) (one a) (λ x. and_then_one (join sum x) (λ more. further join make more rest) (joins sum x) (λ more. further_one join make joins one more rest))
+further_one join make joins one sum (a ∷ rest) =
+    and_then_one (make a) (λ x. and_then (join sum x) (λ more. further join make more rest)) (one a)
+    (λ x. and_then_one (join sum x) (λ more. further join make more rest) (joins sum x) (λ more. further_one join make joins one more rest))
 
-pub joined_one : {A X : Type 0} (join : X → X → Result X Wide → Type 0) (make : A → Result X Wide → Type 0) → ((x y : X) → IsOne (join x y)) → ((a : A) → IsOne (make a)) → (none : X) (items : List A) → IsOne (joined join make none items)
+pub joined_one : {A X : Type 0} (join : X → X → Result X Wide → Type 0) (make : A → Result X Wide → Type 0) → ((x y : X) → IsOne (join x y))
+    → ((a : A) → IsOne (make a)) → (none : X) (items : List A) → IsOne (joined join make none items)
 joined_one join make joins one none [] = gives_one none
 joined_one join make joins one none (a ∷ rest) = and_then_one (make a) (λ x. further join make x rest) (one a) (λ x. further_one join make joins one x rest)
 
@@ -120,7 +126,8 @@ fraction_is f n d ne v = record { nonzero = ne; positive = f.positive; reduced =
 pub new_step : (f : Fraction) (n d : ℤ) → d ≢ pos 0 → IsValue f n d → quotient n d (Ok (ratio_of f))
 new_step f n d ne v = fraction_is f n d ne v
 
-step : (s t : Wide) (n d : ℤ) (r : Result Fraction Wide) → d ≢ pos 0 → MatchResult r (λ h. FitsTerm s × FitsTerm t × IsValue h n d) (λ w. FirstPasses s t w) → two_terms s t n d (shown_result ratio_of r)
+step : (s t : Wide) (n d : ℤ) (r : Result Fraction Wide) → d ≢ pos 0
+    → MatchResult r (λ h. FitsTerm s × FitsTerm t × IsValue h n d) (λ w. FirstPasses s t w) → two_terms s t n d (shown_result ratio_of r)
 step s t n d (Ok h) ne (fs, ft, v) = (fs, ft, fraction_is h n d ne v)
 step s t n d (Err w) ne p = p
 

@@ -12,7 +12,9 @@ both_sums test g a zero = omega (arith, ints)
 both_sums test g a (suc n) = go (test a) (both_sums test g (suc a) n)
   where
     front : sum_below (suc n) (λ i. g (a + i)) ≡ g a +ℤ sum_below n (λ i. g (suc a + i))
-    front = ap (λ k. sum_below k (λ i. g (a + i))) (one_more n) ∙ sum_below-split 1 n (λ i. g (a + i)) ∙ ap₂ (λ x y. (pos 0 +ℤ x) +ℤ y) (ap g (last a)) (sum_below-same n (λ i. g (a + (1 + i))) (λ i. g (suc a + i)) (λ i lt. ap g (shift a i))) ∙ none (g a) (sum_below n (λ i. g (suc a + i)))
+    front = ap (λ k. sum_below k (λ i. g (a + i))) (one_more n) ∙ sum_below-split 1 n (λ i. g (a + i))
+        ∙ ap₂ (λ x y. (pos 0 +ℤ x) +ℤ y) (ap g (last a)) (sum_below-same n (λ i. g (a + (1 + i))) (λ i. g (suc a + i)) (λ i lt. ap g (shift a i)))
+        ∙ none (g a) (sum_below n (λ i. g (suc a + i)))
       where
         one_more : (n : ℕ) → suc n ≡ 1 + n
         one_more n = omega arith

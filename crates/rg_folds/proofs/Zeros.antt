@@ -15,6 +15,8 @@ use Rattle.rg_integers.specs.Term.{FitsTerm}
 use Rattle.rg_fraction.proofs.Ones.{one_is_reduced, first_part, second_part}
 use Rattle.rg_fraction.proofs.Forms.{left_exact, right_exact, right_positive, quotients_reduced}
 use Rattle.rg_folds.specs.Fold.{and_then, further, Ratio, whole, ratio_of, IsRatio, quotient, add, mul, IsWithin}
+use Rattle.rg_integers.proofs.Ring.{mul-one as times_one}
+use Rattle.rg_fraction.proofs.Wholes.{ones_fit as one_fits}
 
 -- a quotient is no greater than the number
 smaller : (z : ℤ) (n : ℕ) → InRange z → InRange (int_div z (pos n))
@@ -92,21 +94,12 @@ zero_times z = omega (arith, ints)
 times_zero : (z : ℤ) → InRange (z *ℤ pos 0)
 times_zero z = omega (arith, ints)
 
-one_fits : FitsTerm (product_term (pos 1) (pos 1))
-one_fits = product_fits (pos 1) (pos 1) (omega arith)
-
-not_zero : pos 1 ≢ pos 0
-not_zero e = omega (arith, ints)
-
 -- 0 over a number that isn't 0
 pub zero_ratio : (d : ℤ) → d ≢ pos 0 → IsRatio (whole (pos 0)) (pos 0) d
 zero_ratio d ne = record { nonzero = ne; positive = omega (arith, ints); reduced = one_is_reduced 0; value = both d }
   where
     both : (d : ℤ) → SameValue (pos 0) (pos 1) (pos 0) d
     both d = omega (arith, ints)
-
-times_one : (z : ℤ) → z *ℤ pos 1 ≡ z
-times_one z = omega (arith, ints)
 
 once : (z : ℤ) → InRange z → InRange (pos 1 *ℤ z)
 once z h = omega (arith, ints)
@@ -178,7 +171,11 @@ plus_zero f h = (top, bottom, value)
   where
     top : FitsTerm (sum_top f.top f.bottom (pos 0) (pos 1))
     top = subst (λ x. FitsTerm (record { a = f.top; b = x; c = pos 0; d = int_div f.bottom (int_gcd f.bottom (pos 1)) })) (sym (second_part f.bottom))
-        (record { left = once_back f.top h.top_in_range; right = zero_times (int_div f.bottom (int_gcd f.bottom (pos 1))); difference = less_none f.top (int_div f.bottom (int_gcd f.bottom (pos 1))) h.top_in_range })
+        (record {
+          left = once_back f.top h.top_in_range;
+          right = zero_times (int_div f.bottom (int_gcd f.bottom (pos 1)));
+          difference = less_none f.top (int_div f.bottom (int_gcd f.bottom (pos 1))) h.top_in_range;
+        })
 
     bottom : FitsTerm (sum_bottom f.top f.bottom (pos 0) (pos 1))
     bottom = subst (λ x. FitsTerm (product_term x (pos 1))) (sym (first_part f.bottom)) (product_fits f.bottom (pos 1) (once_back f.bottom h.bottom_in_range))

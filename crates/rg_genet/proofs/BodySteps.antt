@@ -37,9 +37,6 @@ rest_yes : (before : List Line) (x : Line) (xs : List Line) → closes x ≡ tru
 rest_yes before x xs e =
     ap (λ l. faults_after line_fault before l ++ if_not (list_any closes (x ∷ xs)) NoEnd) (first_yes closes x xs e) ∙ ap (λ b. if_not b NoEnd) (any_yes closes x xs e)
 
-pub reads_start : (all : List Line) → ReadsTo all [] all
-reads_start all = record { body = refl; first = λ f is. is; none = λ n. n }
-
 pub reads_more : (all before : List Line) (x : Line) (xs : List Line) → closes x ≡ false → line_fault before x ≡ None → ReadsTo all before (x ∷ xs) → ReadsTo all (before ++ x ∷ []) xs
 reads_more all before x xs e none r =
     let left : rest_faults before (x ∷ xs) ≡ None ∷ rest_faults (before ++ x ∷ []) xs = rest_no before x xs e ∙ ap (λ o. o ∷ rest_faults (before ++ x ∷ []) xs) none in
@@ -53,9 +50,6 @@ pub reads_fault : (all before : List Line) (x : Line) (xs : List Line) (f : Grap
 reads_fault all before x xs f e fault r =
     let left : rest_faults before (x ∷ xs) ≡ Some f ∷ rest_faults (before ++ x ∷ []) xs = rest_no before x xs e ∙ ap (λ o. o ∷ rest_faults (before ++ x ∷ []) xs) fault in
     r.first f (subst (λ l. IsFirst l f) (sym left) refl)
-
-pub reads_no_end : (all before : List Line) → ReadsTo all before [] → IsFirst (rest_faults [] all) NoEnd
-reads_no_end all before r = r.first NoEnd refl
 
 pub reads_end : (all before : List Line) (x : Line) (xs : List Line) → closes x ≡ true → ReadsTo all before (x ∷ xs) → AreNone (rest_faults [] all)
 reads_end all before x xs e r = r.none (subst AreNone (sym (rest_yes before x xs e)) tt)

@@ -1,13 +1,12 @@
 -- Going over the lines up to `.state graph`.
-use Rattle.std.proofs.Common.{◌≡◌, inl, inr, ℕ, suc, ◌+◌, Bool, true, false, List, [], ◌∷◌, drop, map, None, Some, refl, sym, ap, subst, ◌∙◌, arith}
+use Rattle.std.proofs.Common.{◌≡◌, inl, ℕ, suc, ◌+◌, Bool, true, false, List, ◌∷◌, drop, map, None, Some, refl, sym, ap, subst, ◌∙◌, arith}
 use Rattle.std.specs.List.{after_first, before_first, position_or_len}
 use Rattle.rg_text.specs.Faults.{IsFirst, AreNone}
 use Rattle.rg_line_formats.specs.Numbered.{Line}
 use Rattle.rg_genet.specs.declared.fault.GraphFault.{GraphFault}
-use Rattle.rg_genet.specs.declared.fault.GraphFault.TheVariants.{NoEnd}
 use Rattle.rg_genet.specs.Contents.{opens, heading_fault}
 use Rattle.rg_genet.specs.Reading.{HeadsTo, IsHeadFault}
-use Rattle.rg_genet.proofs.BodySteps.{first_no, first_yes}
+use Rattle.rg_genet.proofs.BodySteps.{first_no}
 
 drop_one : {X : Type 0} (x : X) (xs : List X) (n : ℕ) → drop (n + 1) (x ∷ xs) ≡ drop n xs
 drop_one x xs n = let e : n + 1 ≡ suc n = omega arith in rw e refl
@@ -22,9 +21,6 @@ pub after_yes : {X : Type 0} (p : X → Bool) (x : X) (xs : List X) → p x ≡ 
 after_yes p x xs e =
     let index : position_or_len p (x ∷ xs) ≡ 0 = rw e refl in
     ap (λ n. drop (n + 1) (x ∷ xs)) index ∙ drop_one x xs 0
-
-pub heads_start : (all : List Line) → HeadsTo all all
-heads_start all = record { first = λ f is. is; none = λ n. n; after = refl }
 
 pub heads_more : (all : List Line) (x : Line) (xs : List Line) → opens x ≡ false → heading_fault x ≡ None → HeadsTo all (x ∷ xs) → HeadsTo all xs
 heads_more all x xs e none r =
@@ -41,11 +37,3 @@ heads_fault all x xs f e fault r =
     let left : map heading_fault (before_first opens (x ∷ xs)) ≡ Some f ∷ map heading_fault (before_first opens xs) =
     ap (map heading_fault) (first_no opens x xs e) ∙ ap (λ o. o ∷ map heading_fault (before_first opens xs)) fault in
     inl (r.first f (subst (λ l. IsFirst l f) (sym left) refl))
-
-pub heads_opened : (all : List Line) (x : Line) (xs : List Line) → opens x ≡ true → HeadsTo all (x ∷ xs) → AreNone (map heading_fault (before_first opens all)) × (after_first opens all ≡ xs)
-heads_opened all x xs e r = (r.none (subst AreNone (sym (ap (map heading_fault) (first_yes opens x xs e))) tt), r.after ∙ after_yes opens x xs e)
-
--- the last line, whether it opens or not
-pub heads_last : (all : List Line) (x : Line) (o : Bool) → o ≡ opens x → (o ≡ false → heading_fault x ≡ None) → HeadsTo all (x ∷ []) → IsHeadFault all NoEnd
-heads_last all x true is right r = let h = heads_opened all x [] (sym is) r in inr (refl, h.0, h.1)
-heads_last all x false is right r = let h = heads_more all x [] (sym is) (right refl) r in inr (refl, h.none tt, h.after)

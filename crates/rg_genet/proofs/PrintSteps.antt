@@ -37,5 +37,8 @@ pub whole_graph : (lts : System) (arcs : List Arc) (name t₀ t₁ t₂ t₃ t�
     → t₇ ≡ t₀ ++ graph_text lts
 whole_graph lts arcs name t₀ t₁ t₂ t₃ t₄ t₅ t₆ t₇ same named e₁ e₂ e₃ e₄ e₅ e₆ e₇ =
     after _ _ _ _ e₇ (after _ _ _ _ e₆ (after _ _ _ _ e₅ (after _ _ _ _ e₄ (after _ _ _ _ e₃ (after _ _ _ _ e₂ e₁)))))
-    ∙ eight_parts t₀ (codes ".model lts\n.outputs") (labels_text lts.label_names) (codes "\n.state graph\n") (fed (map (λ a. triple_text (names_of lts a)) arcs)) (codes ".marking {") name (codes "}\n.end\n")
-    ∙ (λ i. t₀ ++ (codes ".model lts\n.outputs" ++ (labels_text lts.label_names ++ (codes "\n.state graph\n" ++ (fed (map (λ a. triple_text (names_of lts a)) (same i)) ++ (codes ".marking {" ++ (named i ++ codes "}\n.end\n")))))))
+    ∙ eight_parts t₀ (codes ".model lts\n.outputs") (labels_text lts.label_names) (codes "\n.state graph\n")
+    (fed (map (λ a. triple_text (names_of lts a)) arcs)) (codes ".marking {") name (codes "}\n.end\n")
+    ∙ (λ i. t₀ ++ (codes ".model lts\n.outputs"
+    ++ (labels_text lts.label_names
+    ++ (codes "\n.state graph\n" ++ (fed (map (λ a. triple_text (names_of lts a)) (same i)) ++ (codes ".marking {" ++ (named i ++ codes "}\n.end\n")))))))

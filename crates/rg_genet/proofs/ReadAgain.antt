@@ -151,8 +151,10 @@ module _ (lts : System) (formed : IsWellFormed lts) where
       let has = map_there (names_of lts) lts.arcs w.0 w.1 in
       let there = end_there (names_of lts w.0) (arcs_named lts) has in
       ⊎_elim
-      (λ h. subst (λ k. Contains (state_names (arcs_named lts)) (name_at lts.state_names k)) (equal_numbers w.0.from s h) (met [] (flat_map ends (arcs_named lts)) (name_at lts.state_names w.0.from) there.0))
-      (λ h. subst (λ k. Contains (state_names (arcs_named lts)) (name_at lts.state_names k)) (equal_numbers w.0.to s h) (met [] (flat_map ends (arcs_named lts)) (name_at lts.state_names w.0.to) there.1))
+      (λ h. subst (λ k. Contains (state_names (arcs_named lts)) (name_at lts.state_names k)) (equal_numbers w.0.from s h)
+      (met [] (flat_map ends (arcs_named lts)) (name_at lts.state_names w.0.from) there.0))
+      (λ h. subst (λ k. Contains (state_names (arcs_named lts)) (name_at lts.state_names k)) (equal_numbers w.0.to s h)
+      (met [] (flat_map ends (arcs_named lts)) (name_at lts.state_names w.0.to) there.1))
       (or_cases (w.0.from == s) (w.0.to == s) w.2)
 
   -- of one state alone each name is that of the initial one
@@ -230,9 +232,12 @@ module _ (lts : System) (formed : IsWellFormed lts) where
       → names_of read (arc_of (or_alone (state_names (arcs_named lts)) (initial_name lts)) (label_names (arcs_named lts)) t) ≡ t
   numbers_stand read kept graph t has =
       let names = or_alone (state_names (arcs_named lts)) (initial_name lts) in
-      let from = stands read.state_names names t.from graph.state_names (or_there (state_names (arcs_named lts)) (initial_name lts) t.from (met [] (flat_map ends (arcs_named lts)) t.from (end_there t (arcs_named lts) has).0)) in
-      let to = stands read.state_names names t.to graph.state_names (or_there (state_names (arcs_named lts)) (initial_name lts) t.to (met [] (flat_map ends (arcs_named lts)) t.to (end_there t (arcs_named lts) has).1)) in
-      let label = stands read.label_names (label_names (arcs_named lts)) t.label graph.label_names (met [] (map (λ (u : Triple). u.label) (arcs_named lts)) t.label (label_there t (arcs_named lts) has)) in
+      let from = stands read.state_names names t.from graph.state_names
+      (or_there (state_names (arcs_named lts)) (initial_name lts) t.from (met [] (flat_map ends (arcs_named lts)) t.from (end_there t (arcs_named lts) has).0)) in
+      let to = stands read.state_names names t.to graph.state_names
+      (or_there (state_names (arcs_named lts)) (initial_name lts) t.to (met [] (flat_map ends (arcs_named lts)) t.to (end_there t (arcs_named lts) has).1)) in
+      let label = stands read.label_names (label_names (arcs_named lts)) t.label graph.label_names
+      (met [] (map (λ (u : Triple). u.label) (arcs_named lts)) t.label (label_there t (arcs_named lts) has)) in
       λ i. record { from = from i; label = label i; to = to i }
     where
       stands : (here names : List (List ℕ)) (n : List ℕ) → here ≡ names → Contains names n → name_at here (number_of bytes_eq names n) ≡ n

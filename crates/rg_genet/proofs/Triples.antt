@@ -56,6 +56,12 @@ arcs_more arcs t =
     let states : state_names (arcs ++ t ∷ []) ≡ ns ++ (one.0 ++ two.0) =
     states_more arcs t ∙ two.1 ∙ ap (λ l. l ++ two.0) one.1 ∙ append_assoc ns one.0 two.0 in
     let labels : label_names (arcs ++ t ∷ []) ≡ ls ++ lab.0 = labels_more arcs t ∙ lab.1 in
-    let stay = same_numbers ns ls (one.0 ++ two.0) lab.0 arcs (λ u h. (met [] (flat_map ends arcs) u.from (end_there u arcs h).0, met [] (map (λ (v : Triple). v.label) arcs) u.label (label_there u arcs h), met [] (flat_map ends arcs) u.to (end_there u arcs h).1)) in
+    let stay = same_numbers ns ls (one.0 ++ two.0) lab.0 arcs
+    (λ u h. (
+      met [] (flat_map ends arcs) u.from (end_there u arcs h).0,
+      met [] (map (λ (v : Triple). v.label) arcs) u.label
+          (label_there u arcs h),
+      met [] (flat_map ends arcs) u.to (end_there u arcs h).1,
+    )) in
     map-append (arc_of (state_names (arcs ++ t ∷ [])) (label_names (arcs ++ t ∷ []))) arcs (t ∷ [])
     ∙ ap (λ l. l ++ arc_of (state_names (arcs ++ t ∷ [])) (label_names (arcs ++ t ∷ [])) t ∷ []) (ap₂ (λ s l. map (arc_of s l) arcs) states labels ∙ stay)

@@ -63,7 +63,8 @@ module _ (bytes : List ℕ) where
   pub head_first : (f : GraphFault) → IsHeadFault (numbered bytes) f → FirstFault bytes f
   unfolding head
   head_first f (inl is) =
-      subst (λ l. IsFirst l f) (sym joined) (first_left (head ++ rest_faults [] (after_first opens (numbered bytes))) last f (first_left head (rest_faults [] (after_first opens (numbered bytes))) f is))
+      subst (λ l. IsFirst l f) (sym joined) (first_left (head ++ rest_faults [] (after_first opens (numbered bytes))) last f
+      (first_left head (rest_faults [] (after_first opens (numbered bytes))) f is))
   head_first f (inr (e, none, after)) = body_first f none (subst (λ l. IsFirst (rest_faults [] l) f) (sym after) e)
 
   pub last_first : (f : GraphFault) → AreNone (map heading_fault (heading bytes)) → AreNone (rest_faults [] (after_first opens (numbered bytes)))
@@ -132,7 +133,8 @@ same_arcs (t ∷ arcs) name = by (state_names (t ∷ arcs)) refl (λ e. some_sta
     by [] e some = absurd (some e)
     by (s ∷ names) e some = ap (λ l. map (arc_of l (label_names (t ∷ arcs))) (t ∷ arcs)) (ap (λ l. or_alone l name) e ∙ sym e)
 
-pub graph_is : (lines : List Line) (d : Draft) (has : Bool) (m : Option Marking) (lts : System) → Shows lines d has m → (fin : IsFinished d m lts) → IsGraphOf (triples lines) (string_bytes fin.mark.name) lts
+pub graph_is : (lines : List Line) (d : Draft) (has : Bool) (m : Option Marking) (lts : System) → Shows lines d has m → (fin : IsFinished d m lts)
+    → IsGraphOf (triples lines) (string_bytes fin.mark.name) lts
 graph_is lines d has m lts shows fin =
     let name = string_bytes fin.mark.name in
     let arcs = triples lines in
@@ -150,7 +152,8 @@ graph_is lines d has m lts shows fin =
       in_order = fin.well_formed.arc_order;
     }
 
-pub spelled : (bytes : List ℕ) (d : Draft) (has : Bool) (m : Option Marking) (lts : System) → AreNone (map heading_fault (heading bytes)) → AreNone (rest_faults [] (after_first opens (numbered bytes)))
+pub spelled : (bytes : List ℕ) (d : Draft) (has : Bool) (m : Option Marking) (lts : System) → AreNone (map heading_fault (heading bytes))
+    → AreNone (rest_faults [] (after_first opens (numbered bytes)))
     → Shows (body bytes) d has m → IsFinished d m lts → Spells bytes lts
 spelled bytes d has m lts none rest shows fin =
     let ends = last_none (body bytes) d has m lts shows fin in
@@ -161,6 +164,7 @@ spelled bytes d has m lts none rest shows fin =
       system = graph_is (body bytes) d has m lts shows fin;
     }
 
-pub unfinished : (bytes : List ℕ) (d : Draft) (has : Bool) (m : Option Marking) (f : GraphFault) → AreNone (map heading_fault (heading bytes)) → AreNone (rest_faults [] (after_first opens (numbered bytes)))
+pub unfinished : (bytes : List ℕ) (d : Draft) (has : Bool) (m : Option Marking) (f : GraphFault) → AreNone (map heading_fault (heading bytes))
+    → AreNone (rest_faults [] (after_first opens (numbered bytes)))
     → Shows (body bytes) d has m → IsUnfinished d has m f → FirstFault bytes f
 unfinished bytes d has m f none rest shows un = last_first bytes f none rest (last_is (body bytes) d has m f shows un)

@@ -30,7 +30,8 @@ Tail {X} Is More xs = (front : List Lexeme) × (rest : List Lexeme) × ((things 
 pub tail_of_more : {X : Type 0} (Is : X → List Lexeme → Type 0) (More : List Lexeme → Type 0) (xs : List Lexeme) → More xs → Tail Is More xs
 tail_of_more Is More xs more = ([], xs, ([], refl), more, refl)
 
-pub tail_more : {X : Type 0} (Is : X → List Lexeme → Type 0) (More : List Lexeme → Type 0) (thing : X) (front xs all : List Lexeme) → Is thing front → all ≡ front ++ xs → Tail Is More xs → Tail Is More all
+pub tail_more : {X : Type 0} (Is : X → List Lexeme → Type 0) (More : List Lexeme → Type 0) (thing : X) (front xs all : List Lexeme) → Is thing front
+    → all ≡ front ++ xs → Tail Is More xs → Tail Is More all
 tail_more Is More thing front xs all is same tail = (
   front ++ tail.0,
   tail.1,
@@ -55,7 +56,8 @@ Things {X} closing Is More xs = (things : List X) × Closes X closing Is More th
 abbrev pub SomeThings : {X : Type 0} → Kind → (X → List Lexeme → Type 0) → (List Lexeme → Type 0) → List Lexeme → Type 0
 SomeThings {X} closing Is More xs = (first : X) × (others : List X) × Closes X closing Is More (first ∷ others) xs
 
-pub no_things : {X : Type 0} (closing : Kind) (Is : X → List Lexeme → Type 0) (More : List Lexeme → Type 0) (x : Lexeme) (xs : List Lexeme) → x.kind ≡ closing → More xs → Things closing Is More (x ∷ xs)
+pub no_things : {X : Type 0} (closing : Kind) (Is : X → List Lexeme → Type 0) (More : List Lexeme → Type 0) (x : Lexeme) (xs : List Lexeme)
+    → x.kind ≡ closing → More xs → Things closing Is More (x ∷ xs)
 no_things closing Is More x xs kind more = ([], record { inner = []; right = x; rest = xs; are = refl; close = kind; more = more; all = refl })
 
 pub some_things : {X : Type 0} (closing : Kind) (Is : X → List Lexeme → Type 0) (More : List Lexeme → Type 0) (xs : List Lexeme) → SomeThings closing Is More xs → Things closing Is More xs
@@ -119,7 +121,8 @@ led : (More : List Lexeme → Type 0) (to q : ListStep) (xs : List Lexeme) → S
 led More to q xs e go = let same : to ≡ q = cc in subst (λ p. StepCompletes More p xs) (sym same) go
 
 -- one token of an option list and what completes the position after it
-pub list_token : (More : List Lexeme → Type 0) (p : ListPosition) (x : Lexeme) (xs : List Lexeme) (k : Kind) (q : ListStep) → x.kind ≡ k → list_leads_by p k x ≡ Some q → StepCompletes More q xs → ListCompletes More p (x ∷ xs)
+pub list_token : (More : List Lexeme → Type 0) (p : ListPosition) (x : Lexeme) (xs : List Lexeme) (k : Kind) (q : ListStep) → x.kind ≡ k
+    → list_leads_by p k x ≡ Some q → StepCompletes More q xs → ListCompletes More p (x ∷ xs)
 list_token More first_key x xs Name q kind lead go = some_things RightBracket IsSetting More (x ∷ xs) (led More (on (after_key x)) q xs lead go kind)
 list_token More first_key x xs RightBracket q kind lead go = no_things RightBracket IsSetting More x xs kind (led More closed q xs lead go)
 list_token More next_key x xs Name q kind lead go = led More (on (after_key x)) q xs lead go kind
@@ -139,7 +142,8 @@ list_token More p x xs k q kind lead go = absurd cc
 -- the same in a grammar with such lists
 pub list_token_in : {P : Type 0} (inside : ListPosition → P) (after : P) (Completes : P → List Lexeme → Type 0) (More : List Lexeme → Type 0)
     → ((position : ListPosition) (xs : List Lexeme) → Completes (inside position) xs → ListCompletes More position xs) → ((xs : List Lexeme) → Completes after xs → More xs)
-    → (p : ListPosition) (x : Lexeme) (xs : List Lexeme) (k : Kind) (q : P) → x.kind ≡ k → option_map (list_to inside after) (list_leads_by p k x) ≡ Some q → Completes q xs → ListCompletes More p (x ∷ xs)
+    → (p : ListPosition) (x : Lexeme) (xs : List Lexeme) (k : Kind) (q : P) → x.kind ≡ k
+    → option_map (list_to inside after) (list_leads_by p k x) ≡ Some q → Completes q xs → ListCompletes More p (x ∷ xs)
 list_token_in {P} inside after Completes More within beyond p x xs k q kind lead go = by (list_leads_by p k x) refl lead
   where
     to_step : (s : ListStep) → Completes (list_to inside after s) xs → StepCompletes More s xs

@@ -45,7 +45,8 @@ value_leads : (key x : Lexeme) (kind : Kind) → (kind ≡ Text) ⊎ (kind ≡ N
 value_leads key x kind (inl is) = ap (λ k. list_leads_by (value key) k x) is
 value_leads key x kind (inr is) = ap (λ k. list_leads_by (value key) k x) is
 
-value_adds : {D : Type 0} (take : Setting → D → D) (key x : Lexeme) (kind : Kind) (d : D) → (kind ≡ Text) ⊎ (kind ≡ Name) → with_completed take (completed_by (value key) kind x) d ≡ take (valued key x) d
+value_adds : {D : Type 0} (take : Setting → D → D) (key x : Lexeme) (kind : Kind) (d : D) → (kind ≡ Text) ⊎ (kind ≡ Name)
+    → with_completed take (completed_by (value key) kind x) d ≡ take (valued key x) d
 value_adds take key x kind d (inl is) = ap (λ k. with_completed take (completed_by (value key) k x) d) is
 value_adds take key x kind d (inr is) = ap (λ k. with_completed take (completed_by (value key) k x) d) is
 

@@ -94,7 +94,8 @@ refusal_is {P} g p [] end fault is = by (g.may_end p) refl is
 refusal_is {P} g p (x ∷ xs) end fault is = by (g.leads p x) refl is (λ next h. refusal_is g next xs end fault h)
   where
     by : (o : Option P) → g.leads p x ≡ o → or_refused (g.refuses p x) (λ q. refusal g q xs end) o ≡ Some fault
-        → ((next : P) → refusal g next xs end ≡ Some fault → (front : List Lexeme) × (rest : List Lexeme) × (q : P) × (xs ≡ front ++ rest) × (leads_all g next front ≡ Some q) × IsRefused g q rest end fault)
+        → ((next : P) → refusal g next xs end ≡ Some fault
+        → (front : List Lexeme) × (rest : List Lexeme) × (q : P) × (xs ≡ front ++ rest) × (leads_all g next front ≡ Some q) × IsRefused g q rest end fault)
         → (front : List Lexeme) × (rest : List Lexeme) × (q : P) × (x ∷ xs ≡ front ++ rest) × (leads_all g p front ≡ Some q) × IsRefused g q rest end fault
     by None e is more = ([], x ∷ xs, p, refl, refl, (e, let same : g.refuses p x ≡ fault = cc in sym same))
     by (Some next) e is more =

@@ -1,6 +1,6 @@
 -- What `cmp` answers for numbers that are shifted, negated or whole.
 use Rattle.std.proofs.Common.{◌≡◌, ℕ, ◌+◌, ◌<◌, ◌⊎◌, ⊎_elim, ap, sym, ◌∙◌, Less, Equal, Greater, arith}
-use Rattle.std.specs.Prelude.{pos, neg_ℤ}
+use Rattle.std.specs.Prelude.{pos}
 use Rattle.std.specs.Ordering.{nat_cmp, int_cmp}
 use Rattle.std.specs.Cmp.{nat_cmp_is, int_cmp_is}
 use Rattle.std.proofs.lemmas.Int.{ints}
@@ -20,12 +20,4 @@ cmp-pos a b = ⊎_elim
     (λ (h : (a < b) ⊎ (b < a)). ⊎_elim
     (λ (l : a < b). sym (nat_cmp_is a b Less l) ∙ int_cmp_is (pos a) (pos b) Less (omega (arith, ints)))
     (λ (r : b < a). sym (nat_cmp_is a b Greater r) ∙ int_cmp_is (pos a) (pos b) Greater (omega (arith, ints))) h)
-    (cases_order a b)
-
-pub cmp-neg : (a b : ℕ) → nat_cmp b a ≡ int_cmp (neg_ℤ (pos a)) (neg_ℤ (pos b))
-cmp-neg a b = ⊎_elim
-    (λ (e : a ≡ b). sym (nat_cmp_is b a Equal (sym e)) ∙ int_cmp_is (neg_ℤ (pos a)) (neg_ℤ (pos b)) Equal (ap (λ (n : ℕ). neg_ℤ (pos n)) e))
-    (λ (h : (a < b) ⊎ (b < a)). ⊎_elim
-    (λ (l : a < b). sym (nat_cmp_is b a Greater l) ∙ int_cmp_is (neg_ℤ (pos a)) (neg_ℤ (pos b)) Greater (omega (arith, ints)))
-    (λ (r : b < a). sym (nat_cmp_is b a Less r) ∙ int_cmp_is (neg_ℤ (pos a)) (neg_ℤ (pos b)) Less (omega (arith, ints))) h)
     (cases_order a b)

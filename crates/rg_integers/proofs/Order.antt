@@ -110,11 +110,3 @@ mul-le a b c h k =
     let e : (b -ℤ a) *ℤ c ≡ (b *ℤ c) -ℤ (a *ℤ c) = simp (add-mul, neg-mul) (omega (arith, ints)) in
     let q = rw e at p in
     omega (arith, ints)
-
-pub mul-lt : (a b c : ℤ) → pos 0 <ℤ c → a <ℤ b → (a *ℤ c) <ℤ (b *ℤ c)
-mul-lt a b c h k =
-    let d : pos 0 <ℤ (b -ℤ a) = omega (arith, ints) in
-    let p = mul_positive (b -ℤ a) c d h in
-    let e : (b -ℤ a) *ℤ c ≡ (b *ℤ c) -ℤ (a *ℤ c) = simp (add-mul, neg-mul) (omega (arith, ints)) in
-    let q = rw e at p in
-    omega (arith, ints)

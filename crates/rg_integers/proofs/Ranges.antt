@@ -1,5 +1,5 @@
 -- Which numbers are in range with others.
-use Rattle.std.proofs.Common.{◌≡◌, ◌⊎◌, ⊎_elim, ℕ, ◌*◌, ◌<◌, ◌≤◌, ◌^◌, inl, inr, ap, subst, sym, ◌∙◌, arith}
+use Rattle.std.proofs.Common.{◌≡◌, ◌⊎◌, ⊎_elim, ◌*◌, ◌<◌, ◌^◌, inl, inr, ap, subst, sym, ◌∙◌, arith}
 use Rattle.std.specs.Prelude.{ℤ, pos, neg_ℤ, ◌-ℤ◌, ◌*ℤ◌, ◌<ℤ◌, unsigned_abs}
 use Rattle.std.specs.Int.{w128, cast_signed, cast_unsigned}
 use Rattle.std.proofs.lemmas.Bool.{cases_lt}
@@ -7,7 +7,7 @@ use Rattle.std.proofs.lemmas.Int.{ints}
 use Rattle.rg_integers.specs.Range.{InRange, Fits}
 use Rattle.rg_integers.specs.Sign.{sign}
 use Rattle.rg_integers.proofs.Casts.{back}
-use Rattle.rg_integers.proofs.Signs.{abs-times, abs-neg, abs-signed, abs-factor}
+use Rattle.rg_integers.proofs.Signs.{abs-neg, abs-signed, abs-factor}
 
 pub in_range_or_not : (z : ℤ) → InRange z ⊎ ¬ InRange z
 in_range_or_not z = ⊎_elim (λ less. inl less) (λ past. inr (λ h. omega arith)) (cases_lt (unsigned_abs z) (2 ^ 127))
@@ -33,9 +33,6 @@ in_range-signed s z h = let g = abs-signed s z (unsigned_abs z) (omega arith) in
 
 pub in_range-factor : (f x y : ℤ) → pos 0 <ℤ f → y ≡ f *ℤ x → InRange y → InRange x
 in_range-factor f x y h e g = let r = abs-factor f x y (unsigned_abs y) h e (omega arith) in omega arith
-
-pub in_range-times : (x y : ℤ) (a b : ℕ) → unsigned_abs x ≤ a → unsigned_abs y ≤ b → a * b < 2 ^ 127 → InRange (x *ℤ y)
-in_range-times x y a b h g small = let r = abs-times x y a b h g in omega (arith, r, small)
 
 -- the negative that the code forms
 pub negated : (z : ℤ) → InRange z → cast_signed w128 (cast_unsigned w128 (pos 0 -ℤ cast_signed w128 (cast_unsigned w128 z))) ≡ neg_ℤ z

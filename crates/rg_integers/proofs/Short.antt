@@ -40,11 +40,13 @@ product_bounds (negsuc m) (negsuc n) f g =
 pub short_fits : (a b c d : ℤ) → FitsSigned w64 a → FitsSigned w64 b → FitsSigned w64 c → FitsSigned w64 d → Fits a b c d
 short_fits a b c d fa fb fc fd = go (a *ℤ b) (c *ℤ d) (product_bounds a b fa fb) (product_bounds c d fc fd)
   where
-    within : (x y : ℤ) → (neg_ℤ (pos 85070591730234615865843651857942052864) <ℤ x) × (x ≤ℤ pos 85070591730234615865843651857942052864) → (neg_ℤ (pos 85070591730234615865843651857942052864) <ℤ y) × (y ≤ℤ pos 85070591730234615865843651857942052864)
+    within : (x y : ℤ) → (neg_ℤ (pos 85070591730234615865843651857942052864) <ℤ x) × (x ≤ℤ pos 85070591730234615865843651857942052864)
+        → (neg_ℤ (pos 85070591730234615865843651857942052864) <ℤ y) × (y ≤ℤ pos 85070591730234615865843651857942052864)
         → InRange x × InRange y × InRange (x -ℤ y)
     within x y (xl, xh) (yl, yh) = (omega (arith, ints), omega (arith, ints), omega (arith, ints))
 
-    go : (x y : ℤ) → (neg_ℤ (pos 85070591730234615865843651857942052864) <ℤ (a *ℤ b)) × ((a *ℤ b) ≤ℤ pos 85070591730234615865843651857942052864) → (neg_ℤ (pos 85070591730234615865843651857942052864) <ℤ (c *ℤ d)) × ((c *ℤ d) ≤ℤ pos 85070591730234615865843651857942052864) → Fits a b c d
+    go : (x y : ℤ) → (neg_ℤ (pos 85070591730234615865843651857942052864) <ℤ (a *ℤ b)) × ((a *ℤ b) ≤ℤ pos 85070591730234615865843651857942052864)
+        → (neg_ℤ (pos 85070591730234615865843651857942052864) <ℤ (c *ℤ d)) × ((c *ℤ d) ≤ℤ pos 85070591730234615865843651857942052864) → Fits a b c d
     go x y p q = let w = within (a *ℤ b) (c *ℤ d) p q in record { left = w.0; right = w.1; difference = w.2 }
 
 -- a number behind one that is written

@@ -28,10 +28,6 @@ SameValue-parts n d top bottom g p q = simp (sym p, sym q, ring)
 pub SameValue-neg : (n d top bottom : ℤ) → SameValue top bottom n d → SameValue (neg_ℤ top) (neg_ℤ bottom) n d
 SameValue-neg n d top bottom p = let e : top *ℤ d ≡ n *ℤ bottom = p in simp ring (omega (arith, ints))
 
--- over one denominator the numerators are equal
-pub SameValue-over : (n m d : ℤ) → d ≢ pos 0 → SameValue n d m d → n ≡ m
-SameValue-over n m d h p = mul-cancel n m d h p
-
 -- reduced numbers of one value are equal
 pub same_reduced : (p q r s : ℤ) → pos 0 <ℤ q → pos 0 <ℤ s → IsGcd (unsigned_abs p) (unsigned_abs q) 1
     → IsGcd (unsigned_abs r) (unsigned_abs s) 1 → SameValue p q r s → (p ≡ r) × (q ≡ s)

@@ -24,9 +24,3 @@ abbrev pub dot : List ℤ → List ℤ → ℤ
 dot [] ys = pos 0
 dot (x ∷ xs) [] = pos 0
 dot (x ∷ xs) (y ∷ ys) = (x *ℤ y) +ℤ dot xs ys
-
--- what f makes of the numbers of two lists, index by index; it ends with the shorter list
-abbrev pub combined : (ℤ → ℤ → ℤ) → List ℤ → List ℤ → List ℤ
-combined f [] ys = []
-combined f (x ∷ xs) [] = []
-combined f (x ∷ xs) (y ∷ ys) = f x y ∷ combined f xs ys

@@ -261,7 +261,8 @@ are_pair a b p k t f u s' q' c in_k name x y is =
     one_label a b p k t f (both u j s' q' name x y in_j at (inr (behind a b c p k t f in_k j in_j)))
 
 -- in either way
-pub label_done : (a b : System) (p : Pairs) (k t : ℕ) (f : IsFollowedTo a b p k t) (u s' q' : ℕ) (p' : Pairs) → AreComparable a b → k < length p.order → HaveOneName a b t u → HasArc a (pair_at p.order k).0 t s'
+pub label_done : (a b : System) (p : Pairs) (k t : ℕ) (f : IsFollowedTo a b p k t) (u s' q' : ℕ) (p' : Pairs) → AreComparable a b
+    → k < length p.order → HaveOneName a b t u → HasArc a (pair_at p.order k).0 t s'
     → HasArc b (pair_at p.order k).1 u q' → BecomePair p s' q' true p' → IsFollowedTo a b p' k (t + 1)
 label_done a b p k t f u s' q' _ c in_k name x y (already is) = are_pair a b p k t f u s' q' c in_k name x y is
 label_done a b p k t f u s' q' _ c in_k name x y (joined none free) = one_pair a b c p k t f in_k u s' q' name x y none free

@@ -59,7 +59,8 @@ few_arcs old mid arcs has order =
     (λ c x. has_from mid.arcs c ((has.members c).1 (contains_from arcs c x))) in
     omega (arith, many, firsts_short same_arc arcs)
 
-pub has_arc_room : (old mid : Draft) (all : List Arc) (k : ℕ) → k < length all → length all ≤ most_arcs → HasArcsOf old mid (take k all) → AllPairs IsArcBefore mid.arcs → most_arcs ≤ length mid.arcs → ⊥
+pub has_arc_room : (old mid : Draft) (all : List Arc) (k : ℕ) → k < length all → length all ≤ most_arcs → HasArcsOf old mid (take k all)
+    → AllPairs IsArcBefore mid.arcs → most_arcs ≤ length mid.arcs → ⊥
 has_arc_room old mid all k lt few has order full =
     let less = few_arcs old mid (take k all) has order in
     omega (arith, less, length-take-le k all (omega arith))

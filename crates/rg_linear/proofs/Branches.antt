@@ -42,20 +42,26 @@ positive_times_most k a b h g =
 pub less_of_times : (k a b : ℤ) → pos 0 <ℤ k → (k *ℤ a) <ℤ (k *ℤ b) → a <ℤ b
 less_of_times k a b h g = by_lt_z a b (λ less. less) (λ most. (let m = positive_times_most k b a h most in absurd (omega (arith, ints))))
 
-same_zero_point : (system : LinearSystem) (members : List ℕ) → IsFree system members → (s s' : ℤ) (v v' : ℕ → ℤ) → IsPoint system s v → IsAtZero members v → IsPoint system s' v' → IsAtZero members v' → (w : ℕ) → w < variables system → s' *ℤ v w ≡ s *ℤ v' w
+same_zero_point : (system : LinearSystem) (members : List ℕ) → IsFree system members → (s s' : ℤ) (v v' : ℕ → ℤ) → IsPoint system s v
+    → IsAtZero members v → IsPoint system s' v' → IsAtZero members v' → (w : ℕ) → w < variables system → s' *ℤ v w ≡ s *ℤ v' w
 same_zero_point system members free s s' v v' p z p' z' w lt =
-    free.determines (s' *ℤ s) (λ w. s' *ℤ v w) (λ w. s *ℤ v' w) (scaled_point system s s' v p'.positive p) (subst (λ x. IsPoint system x (λ w. s *ℤ v' w)) (*ℤ_comm s s') (scaled_point system s' s v' p.positive p'))
+    free.determines (s' *ℤ s) (λ w. s' *ℤ v w) (λ w. s *ℤ v' w) (scaled_point system s s' v p'.positive p)
+    (subst (λ x. IsPoint system x (λ w. s *ℤ v' w)) (*ℤ_comm s s') (scaled_point system s' s v' p.positive p'))
     (λ m has. ap (λ x. s' *ℤ x) (z m has) ∙ *ℤ-zero s' ∙ sym (ap (λ x. s *ℤ x) (z' m has) ∙ *ℤ-zero s)) w lt
 
 scaled_value-times : (system : LinearSystem) (form : Form) (k : ℤ) (v : ℕ → ℤ) → scaled_value system form (λ w. k *ℤ v w) ≡ k *ℤ scaled_value system form v
 scaled_value-times system form k v = sum_below-same system.columns _ _ (λ j lt. mul_left_comm _ k (v j)) ∙ sum_below-times system.columns k _
 
 module _ (system : LinearSystem) (forms : List Form) (above : List SplitSide) (members : List ℕ) (free : IsFree (node_system system forms above) members) where
-  same_value : (form : Form) (s s' : ℤ) (v v' : ℕ → ℤ) → IsPoint (node_system system forms above) s v → IsAtZero members v → IsPoint (node_system system forms above) s' v' → IsAtZero members v' → s' *ℤ scaled_value system form v ≡ s *ℤ scaled_value system form v'
+  same_value : (form : Form) (s s' : ℤ) (v v' : ℕ → ℤ) → IsPoint (node_system system forms above) s v → IsAtZero members v
+      → IsPoint (node_system system forms above) s' v' → IsAtZero members v' → s' *ℤ scaled_value system form v ≡ s *ℤ scaled_value system form v'
   same_value form s s' v v' p z p' z' =
-      sym (scaled_value-times system form s' v) ∙ sum_below-same system.columns _ _ (λ j lt. ap (λ x. slice_index_or form.coeffs j (pos 0) *ℤ x) (same_zero_point (node_system system forms above) members free s s' v v' p z p' z' j (omega arith))) ∙ scaled_value-times system form s v'
+      sym (scaled_value-times system form s' v) ∙ sum_below-same system.columns _ _
+      (λ j lt. ap (λ x. slice_index_or form.coeffs j (pos 0) *ℤ x)
+      (same_zero_point (node_system system forms above) members free s s' v v' p z p' z' j (omega arith))) ∙ scaled_value-times system form s v'
 
-  pub whole_moves : (form : Form) (s s' : ℤ) (v v' : ℕ → ℤ) → IsPoint (node_system system forms above) s v → IsAtZero members v → IsPoint (node_system system forms above) s' v' → IsAtZero members v' → IsWholeAt system form s v → IsWholeAt system form s' v'
+  pub whole_moves : (form : Form) (s s' : ℤ) (v v' : ℕ → ℤ) → IsPoint (node_system system forms above) s v → IsAtZero members v
+      → IsPoint (node_system system forms above) s' v' → IsAtZero members v' → IsWholeAt system form s v → IsWholeAt system form s' v'
   whole_moves form s s' v v' p z p' z' (u, e) = (u, mul-cancel_left s _ _ (positive_differs s p.positive) (sym (same_value form s s' v v' p z p' z') ∙ ap (λ x. s' *ℤ x) e ∙ turn s s' u form.scale))
     where
       turn : (s s' u f : ℤ) → s' *ℤ (u *ℤ (f *ℤ s)) ≡ s *ℤ (u *ℤ (f *ℤ s'))
@@ -85,7 +91,8 @@ module _ (system : LinearSystem) (forms : List Form) (above : List SplitSide) (m
 
   -- a number between two floors
   between : (u t x f : ℤ) → (u *ℤ x) <ℤ f → f <ℤ ((u +ℤ pos 1) *ℤ x) → (t *ℤ x) ≤ℤ f → f <ℤ ((t +ℤ pos 1) *ℤ x) → t ≡ u
-  between u t x f a b c d = by_lt_z t u (λ less. absurd (apart t u x f less d (weaken a) positive)) (λ most. by_lt_z u t (λ less. absurd (apart u t x f less b c positive)) (λ least. omega (arith, ints)))
+  between u t x f a b c d = by_lt_z t u (λ less. absurd (apart t u x f less d (weaken a) positive))
+      (λ most. by_lt_z u t (λ less. absurd (apart u t x f less b c positive)) (λ least. omega (arith, ints)))
     where
       expand : (u x : ℤ) → (u +ℤ pos 1) *ℤ x ≡ (u *ℤ x) +ℤ x
       expand u x = simp ring (omega (arith, ints))
@@ -107,7 +114,8 @@ module _ (system : LinearSystem) (forms : List Form) (above : List SplitSide) (m
           let e' = *ℤ_comm x t in
           omega (arith, ints)
 
-  fraction_or_whole : (form : Form) (s : ℤ) (v : ℕ → ℤ) (u : ℤ) → (u *ℤ (form.scale *ℤ s)) <ℤ scaled_value system form v → scaled_value system form v <ℤ ((u +ℤ pos 1) *ℤ (form.scale *ℤ s)) → IsWholeAt system form s v → ⊥
+  fraction_or_whole : (form : Form) (s : ℤ) (v : ℕ → ℤ) (u : ℤ) → (u *ℤ (form.scale *ℤ s)) <ℤ scaled_value system form v
+      → scaled_value system form v <ℤ ((u +ℤ pos 1) *ℤ (form.scale *ℤ s)) → IsWholeAt system form s v → ⊥
   fraction_or_whole form s v u low high (t, e) = contradiction t u (form.scale *ℤ s) (scaled_value system form v) low high e
     where
       contradiction : (t u x f : ℤ) → (u *ℤ x) <ℤ f → f <ℤ ((u +ℤ pos 1) *ℤ x) → f ≡ t *ℤ x → ⊥
@@ -120,7 +128,8 @@ module _ (system : LinearSystem) (forms : List Form) (above : List SplitSide) (m
           omega (arith, ints)
 
   whole_or_fraction : (f : ℕ) (u : ℤ) → AllWhole system forms above members → FirstFraction system forms above members f u → ⊥
-  whole_or_fraction f u a b = fraction_or_whole (form_at forms f) b.scale b.v u b.low b.high (whole_moves (form_at forms f) a.scale b.scale a.v b.v a.point a.zeros b.point b.zeros (a.whole f b.within))
+  whole_or_fraction f u a b = fraction_or_whole (form_at forms f) b.scale b.v u b.low b.high
+      (whole_moves (form_at forms f) a.scale b.scale a.v b.v a.point a.zeros b.point b.zeros (a.whole f b.within))
 
   not_earlier : (f f' : ℕ) (u u' : ℤ) → FirstFraction system forms above members f u → FirstFraction system forms above members f' u' → f < f' → ⊥
   not_earlier f f' u u' a b lt = fraction_or_whole (form_at forms f) a.scale a.v u a.low a.high (whole_moves (form_at forms f) b.scale a.scale b.v a.v b.point b.zeros a.point a.zeros (b.before f lt))
@@ -151,7 +160,9 @@ pub data Node : Type 0 where
 
 abbrev pub IsNode : LinearSystem → List Form → List SplitSide → Node → Type 0
 IsNode system forms above (is_wide w) = DescentFromStart (node_system system forms above) (wide w)
-IsNode system forms above (is_refuted members fixed i k) = DescentFromStart (node_system system forms above) (refuted members i fixed) × DictionaryRow (node_system system forms above) members (row_variable (node_system system forms above) i) k
+IsNode system forms above (is_refuted members fixed i k) =
+    DescentFromStart (node_system system forms above) (refuted members i fixed)
+    × DictionaryRow (node_system system forms above) members (row_variable (node_system system forms above) i) k
 IsNode system forms above (is_whole members) = DescentFromStart (node_system system forms above) (point members) × AllWhole system forms above members
 IsNode system forms above (is_split members f u) = DescentFromStart (node_system system forms above) (point members) × FirstFraction system forms above members f u
 
@@ -226,14 +237,18 @@ Unfolded system forms above o (is_refuted members fixed i k) = o ≡ tree (leaf 
 Unfolded system forms above o (is_whole members) = o ≡ found members above
 Unfolded system forms above o (is_split members f u) = LowEnds system forms above f u o ⊎ (HighEnds system forms above f u o ⊎ BothRefuted system forms above f u o)
 
-unfolded : (system : LinearSystem) (forms : List Form) (above : List SplitSide) (o : BranchOutcome) (node : Node) → IsNode system forms above node → BranchFrom system forms above o → Unfolded system forms above o node
+unfolded : (system : LinearSystem) (forms : List Form) (above : List SplitSide) (o : BranchOutcome) (node : Node) → IsNode system forms above node
+    → BranchFrom system forms above o → Unfolded system forms above o node
 unfolded system forms above o node is (passes w d) = subst (Unfolded system forms above (stopped above w)) (same_node system forms above (is_wide w) node d is) refl
 unfolded system forms above o node is (refutes members fixed i k d row) = subst
     (Unfolded system forms above (tree (leaf (weights_from (multiplier_of (node_system system forms above) k i) 0 (length (node_system system forms above).rows)))))
     (same_node system forms above (is_refuted members fixed i k) node (d, row) is) refl
 unfolded system forms above o node is (whole members d all) = subst (Unfolded system forms above (found members above)) (same_node system forms above (is_whole members) node (d, all) is) refl
-unfolded system forms above o node is (low_ends members f u d first low end) = subst (Unfolded system forms above o) (same_node system forms above (is_split members f u) node (d, first) is) (inl (record { low = low; end = end }))
-unfolded system forms above o node is (high_ends members f u t d first low high end) = subst (Unfolded system forms above o) (same_node system forms above (is_split members f u) node (d, first) is) (inr (inl (record { refuted_low = t; low = low; high = high; end = end })))
+unfolded system forms above o node is (low_ends members f u d first low end) =
+    subst (Unfolded system forms above o) (same_node system forms above (is_split members f u) node (d, first) is) (inl (record { low = low; end = end }))
+unfolded system forms above o node is (high_ends members f u t d first low high end) =
+    subst (Unfolded system forms above o) (same_node system forms above (is_split members f u) node (d, first) is)
+    (inr (inl (record { refuted_low = t; low = low; high = high; end = end })))
 unfolded system forms above o node is (both_refuted members f u t t' d first low high) = subst (Unfolded system forms above (tree (split f u t t')))
     (same_node system forms above (is_split members f u) node (d, first) is)
     (inr (inr (record { refuted_low = t; refuted_high = t'; low = low; high = high; is = refl })))
@@ -247,9 +262,11 @@ pub same_branch : (system : LinearSystem) (forms : List Form) (above : List Spli
 same_branch system forms above o o' (passes w d) b = sym (unfolded system forms above o' (is_wide w) d b)
 same_branch system forms above o o' (refutes members fixed i k d row) b = sym (unfolded system forms above o' (is_refuted members fixed i k) (d, row) b)
 same_branch system forms above o o' (whole members d all) b = sym (unfolded system forms above o' (is_whole members) (d, all) b)
-same_branch system forms above o o' (low_ends members f u d first low end) b = go (unfolded system forms above o' (is_split members f u) (d, first) b) (λ x e. same_branch system forms (above ++ low_side f u ∷ []) o x low e)
+same_branch system forms above o o' (low_ends members f u d first low end) b =
+    go (unfolded system forms above o' (is_split members f u) (d, first) b) (λ x e. same_branch system forms (above ++ low_side f u ∷ []) o x low e)
   where
-    go : LowEnds system forms above f u o' ⊎ (HighEnds system forms above f u o' ⊎ BothRefuted system forms above f u o') → ((x : BranchOutcome) → BranchFrom system forms (above ++ low_side f u ∷ []) x → o ≡ x) → o ≡ o'
+    go : LowEnds system forms above f u o' ⊎ (HighEnds system forms above f u o' ⊎ BothRefuted system forms above f u o')
+        → ((x : BranchOutcome) → BranchFrom system forms (above ++ low_side f u ∷ []) x → o ≡ x) → o ≡ o'
     go (inl l) ih = ih o' l.low
     go (inr (inl h)) ih = absurd (no_tree h.refuted_low o (ih (tree h.refuted_low) h.low) end)
     go (inr (inr r)) ih = absurd (no_tree r.refuted_low o (ih (tree r.refuted_low) r.low) end)

@@ -42,7 +42,9 @@ pub values_of-point : (system : LinearSystem) (scale : ℤ) (x : ℕ → ℤ) �
 unfolding row_value
 values_of-point system scale x h = record {
   positive = h;
-  rows = λ i lt. values_of-row system scale x i ∙ ap (λ z. z +ℤ ((row_at system i).constant *ℤ scale)) (sum_below-same system.columns _ _ (λ j below. ap (λ z. entry system i j *ℤ z) (sym (values_of-column system scale x j below))));
+  rows = λ i lt. values_of-row system scale x i
+      ∙ ap (λ z. z +ℤ ((row_at system i).constant *ℤ scale))
+      (sum_below-same system.columns _ _ (λ j below. ap (λ z. entry system i j *ℤ z) (sym (values_of-column system scale x j below))));
 }
 
 -- the columns that a variable names are below their number
@@ -50,7 +52,8 @@ column_or_row : (system : LinearSystem) (w : ℕ) → w < variables system → (
 column_or_row system w lt = ⊎_elim (λ below. inl below) (λ past. inr (w - system.columns, omega arith, omega arith)) (cases_lt w system.columns)
 
 -- points that agree on the columns agree
-pub columns_determine : (system : LinearSystem) (scale : ℤ) (v u : ℕ → ℤ) → IsPoint system scale v → IsPoint system scale u → ((j : ℕ) → j < system.columns → v j ≡ u j) → (w : ℕ) → w < variables system → v w ≡ u w
+pub columns_determine : (system : LinearSystem) (scale : ℤ) (v u : ℕ → ℤ) → IsPoint system scale v → IsPoint system scale u
+    → ((j : ℕ) → j < system.columns → v j ≡ u j) → (w : ℕ) → w < variables system → v w ≡ u w
 columns_determine system scale v u p q agree w lt = ⊎_elim (λ below. agree w below) (λ (i, li, e). subst (λ n. v n ≡ u n) e (row i li)) (column_or_row system w lt)
   where
     row : (i : ℕ) → i < length system.rows → v (system.columns + i) ≡ u (system.columns + i)
@@ -87,7 +90,9 @@ row_relation-holds system i lt scale v p =
     last : sum_below (length system.rows) (λ m. (row_relation system i).coefficient (system.columns + m) *ℤ v (system.columns + m)) ≡ pos 0
     last = sum_below-zero (length system.rows) _ (λ m below. rw (past_test (system.columns + m) system.columns (omega arith)) (simp ring))
 
-    sums : sum_below system.columns (λ j. entry system i j *ℤ v j) ≡ sum_below system.columns (λ m. (row_relation system i).coefficient m *ℤ v m) +ℤ sum_below (length system.rows) (λ m. (row_relation system i).coefficient (system.columns + m) *ℤ v (system.columns + m))
+    sums : sum_below system.columns (λ j. entry system i j *ℤ v j)
+        ≡ sum_below system.columns (λ m. (row_relation system i).coefficient m *ℤ v m)
+        +ℤ sum_below (length system.rows) (λ m. (row_relation system i).coefficient (system.columns + m) *ℤ v (system.columns + m))
     sums = sum_below-same system.columns _ _ first ∙ join _ _ last
       where
         join : (a b : ℤ) → b ≡ pos 0 → a ≡ a +ℤ b

@@ -43,7 +43,8 @@ same_pick system members i j j' p p' = go (cases_lt j j') (cases_lt j' j)
     go (inr ge) (inr le) = omega arith
 
 -- what a walk is where row i is skipped
-after_skip : (system : LinearSystem) (members : List ℕ) (i : ℕ) (o : CycleOutcome) → i < length system.rows → IsSkipped system members i → CycleWalkFrom system members i o → CycleWalkFrom system members (suc i) o
+after_skip : (system : LinearSystem) (members : List ℕ) (i : ℕ) (o : CycleOutcome) → i < length system.rows → IsSkipped system members i
+    → CycleWalkFrom system members i o → CycleWalkFrom system members (suc i) o
 after_skip system members i o lt s (no_row_left le) = absurd (omega arith)
 after_skip system members i o lt s (skipped lt' s' d) = d
 after_skip system members i o lt s (passes j w n t lt' p f) = absurd (skipped_or_picked system members i j s p)
@@ -60,14 +61,16 @@ record GoesOn (system : LinearSystem) (members : List ℕ) (i j : ℕ) (o : Cycl
   pub fit : AllFit system members (row_variable system i) j
   pub rest : CycleWalkFrom system (exchanged members (row_variable system i) j) (suc i) o
 
-after_pick : (system : LinearSystem) (members : List ℕ) (i j : ℕ) (o : CycleOutcome) → i < length system.rows → Picks system members i j → CycleWalkFrom system members i o → Stopped system members i j o ⊎ GoesOn system members i j o
+after_pick : (system : LinearSystem) (members : List ℕ) (i j : ℕ) (o : CycleOutcome) → i < length system.rows → Picks system members i j
+    → CycleWalkFrom system members i o → Stopped system members i j o ⊎ GoesOn system members i j o
 after_pick system members i j o lt p (no_row_left le) = absurd (omega arith)
 after_pick system members i j o lt p (skipped lt' s d) = absurd (skipped_or_picked system members i j s p)
 after_pick system members i j o lt p (passes j' w n t lt' p' f) = subst
     (λ x. Stopped system members i x (too_wide (record { members = members; pivot = row_variable system i; leaves = j'; target = w; entry = n; term = t }))
     ⊎ GoesOn system members i x (too_wide (record { members = members; pivot = row_variable system i; leaves = j'; target = w; entry = n; term = t })))
     (same_pick system members i j' j p' p) (inl (record { w = w; n = n; t = t; first = f; is = refl }))
-after_pick system members i j o lt p (exchanges j' lt' p' fit d) = subst (λ x. Stopped system members i x o ⊎ GoesOn system members i x o) (same_pick system members i j' j p' p) (inr (record { fit = fit; rest = d }))
+after_pick system members i j o lt p (exchanges j' lt' p' fit d) =
+    subst (λ x. Stopped system members i x o ⊎ GoesOn system members i x o) (same_pick system members i j' j p' p) (inr (record { fit = fit; rest = d }))
 
 after_last : (system : LinearSystem) (members : List ℕ) (i : ℕ) (o : CycleOutcome) → length system.rows ≤ i → CycleWalkFrom system members i o → free_set members ≡ o
 after_last system members i o le (no_row_left le') = refl
@@ -83,7 +86,8 @@ same_cycle system members i o o' (passes j w n t lt p f) d' = go (after_pick sys
     go : Stopped system members i j o' ⊎ GoesOn system members i j o' → too_wide (record { members = members; pivot = row_variable system i; leaves = j; target = w; entry = n; term = t }) ≡ o'
     go (inl s) = let e = same_wide system members (row_variable system i) j w n s.w s.n t s.t f s.first in let ew = e.0 in let en = e.1 in let et = e.2 in let is = s.is in cc
     go (inr g) = absurd (wide_or_fit system members (row_variable system i) j w n t f g.fit)
-same_cycle system members i o o' (exchanges j lt p fit d) d' = go (after_pick system members i j o' lt p d') (λ rest. same_cycle system (exchanged members (row_variable system i) j) (suc i) o o' d rest)
+same_cycle system members i o o' (exchanges j lt p fit d) d' =
+    go (after_pick system members i j o' lt p d') (λ rest. same_cycle system (exchanged members (row_variable system i) j) (suc i) o o' d rest)
   where
     go : Stopped system members i j o' ⊎ GoesOn system members i j o' → (CycleWalkFrom system (exchanged members (row_variable system i) j) (suc i) o' → o ≡ o') → o ≡ o'
     go (inl s) next = absurd (wide_or_fit system members (row_variable system i) j s.w s.n s.t s.first fit)
@@ -113,9 +117,12 @@ RowsAhead system members i = (m : ℕ) → Contains members m → m < row_variab
 ahead_next : (system : LinearSystem) (members : List ℕ) (i j : ℕ) → RowsAhead system members i → RowsAhead system (exchanged members (row_variable system i) j) (suc i)
 ahead_next system members i j ahead m has = ⊎_elim (λ e. omega arith) (λ old. (let lt = ahead m old.0 in omega arith)) (exchanged-Contains (row_variable system i) j m members has)
 
-walk : (system : LinearSystem) (n i : ℕ) (members : List ℕ) → i + n ≡ length system.rows → HasDictionary system members → RowsAhead system members i → (o : CycleOutcome) × CycleWalkFrom system members i o
+walk : (system : LinearSystem) (n i : ℕ) (members : List ℕ) → i + n ≡ length system.rows → HasDictionary system members → RowsAhead system members i
+    → (o : CycleOutcome) × CycleWalkFrom system members i o
 walk system zero i members e has ahead = (free_set members, no_row_left (omega arith))
-walk system (suc n) i members e has ahead = go (has.rows (row_variable system i) (omega arith) (λ member. (let lt = ahead _ member in absurd (omega arith)))) (λ members' has' ahead'. walk system n (suc i) members' (omega arith) has' ahead')
+walk system (suc n) i members e has ahead = go
+    (has.rows (row_variable system i) (omega arith) (λ member. (let lt = ahead _ member in absurd (omega arith))))
+    (λ members' has' ahead'. walk system n (suc i) members' (omega arith) has' ahead')
   where
     lt : i < length system.rows
     lt = omega arith
@@ -125,7 +132,8 @@ walk system (suc n) i members e has ahead = go (has.rows (row_variable system i)
         → (o : CycleOutcome) × CycleWalkFrom system members i o
     picks j p (inr w) next = (_, passes j w.w w.n w.t lt p w.first)
     picks j p (inl fit) next =
-        let (o, d) = next (exchanged members (row_variable system i) j) (exchanged_has system members (row_variable system i) j p.k has p.row (picked_member system members i j p) p.named) (ahead_next system members i j ahead) in
+        let (o, d) = next (exchanged members (row_variable system i) j)
+        (exchanged_has system members (row_variable system i) j p.k has p.row (picked_member system members i j p) p.named) (ahead_next system members i j ahead) in
         (o, exchanges j lt p fit d)
 
     at : (k : Relation) → DictionaryRow system members (row_variable system i) k → ((t : ℕ) → t < system.columns → k.coefficient t ≡ pos 0)
@@ -136,7 +144,9 @@ walk system (suc n) i members e has ahead = go (has.rows (row_variable system i)
         (o, skipped lt (record { k = k; row = row; none = none }) d)
     at k row (inr l) next = picks l.j (record { k = k; row = row; column = l.below; named = l.named; least = l.least }) (fit_or_wide system members (row_variable system i) l.j k has row) next
 
-    go : (k : Relation) × DictionaryRow system members (row_variable system i) k → ((members' : List ℕ) → HasDictionary system members' → RowsAhead system members' (suc i) → (o : CycleOutcome) × CycleWalkFrom system members' (suc i) o) → (o : CycleOutcome) × CycleWalkFrom system members i o
+    go : (k : Relation) × DictionaryRow system members (row_variable system i) k
+        → ((members' : List ℕ) → HasDictionary system members' → RowsAhead system members' (suc i)
+        → (o : CycleOutcome) × CycleWalkFrom system members' (suc i) o) → (o : CycleOutcome) × CycleWalkFrom system members i o
     go (k, row) next = at k row (least_column k system.columns) next
 
 pub cycle_ends : (system : LinearSystem) → (o : CycleOutcome) × CycleWalk system o
@@ -157,17 +167,29 @@ EndKnows system (free_set members) = CycleKnows system members
 EndKnows system (too_wide w) = Unit {0}
 
 done_next : (system : LinearSystem) (members : List ℕ) (i j : ℕ) → Picks system members i j → RowsDone system members i → RowsDone system (exchanged members (row_variable system i) j) (suc i)
-done_next system members i j p done m lt = ⊎_elim (λ e. inl (subst (λ x. Contains (exchanged members (row_variable system i) j) (row_variable system x)) (sym e) (Contains-exchanged_new (row_variable system i) j members))) (λ ne. at ne (done m (omega arith))) (equal_or_not m i)
+done_next system members i j p done m lt = ⊎_elim
+    (λ e. inl (subst (λ x. Contains (exchanged members (row_variable system i) j) (row_variable system x)) (sym e)
+    (Contains-exchanged_new (row_variable system i) j members))) (λ ne. at ne (done m (omega arith))) (equal_or_not m i)
   where
-    at : m ≢ i → Contains members (row_variable system m) ⊎ IsSkipped system members m → Contains (exchanged members (row_variable system i) j) (row_variable system m) ⊎ IsSkipped system (exchanged members (row_variable system i) j) m
+    at : m ≢ i → Contains members (row_variable system m) ⊎ IsSkipped system members m
+        → Contains (exchanged members (row_variable system i) j) (row_variable system m) ⊎ IsSkipped system (exchanged members (row_variable system i) j) m
     at ne (inl has) = inl (Contains-exchanged_old (row_variable system i) j (row_variable system m) members has (λ e. (let lt' = p.column in omega arith)))
-    at ne (inr s) = inr (record { k = s.k; row = kept_row system members (row_variable system i) j p.k p.row (picked_member system members i j p) p.named (row_variable system m) s.k s.row (λ e. ne (omega arith)) (s.none j p.column); none = s.none })
+    at ne (inr s) = inr (record {
+      k = s.k;
+      row =
+          kept_row system members (row_variable system i) j p.k p.row (picked_member system members i j p) p.named (row_variable system m) s.k s.row
+          (λ e. ne (omega arith)) (s.none j p.column);
+      none = s.none;
+    })
 
 cycle_knows : (system : LinearSystem) (members : List ℕ) (i : ℕ) (o : CycleOutcome) → CycleWalkFrom system members i o → HasDictionary system members → RowsDone system members i → EndKnows system o
 cycle_knows system members i o (no_row_left le) has done = record { has = has; done = λ m lt. done m (omega arith) }
-cycle_knows system members i o (skipped lt s d) has done = cycle_knows system members (suc i) o d has (λ m lt. ⊎_elim (λ e. inr (subst (IsSkipped system members) (sym e) s)) (λ ne. done m (omega arith)) (equal_or_not m i))
+cycle_knows system members i o (skipped lt s d) has done =
+    cycle_knows system members (suc i) o d has (λ m lt. ⊎_elim (λ e. inr (subst (IsSkipped system members) (sym e) s)) (λ ne. done m (omega arith)) (equal_or_not m i))
 cycle_knows system members i o (passes j w n t lt p f) has done = tt
-cycle_knows system members i o (exchanges j lt p fit d) has done = cycle_knows system (exchanged members (row_variable system i) j) (suc i) o d (exchanged_has system members (row_variable system i) j p.k has p.row (picked_member system members i j p) p.named) (done_next system members i j p done)
+cycle_knows system members i o (exchanges j lt p fit d) has done =
+    cycle_knows system (exchanged members (row_variable system i) j) (suc i) o d
+    (exchanged_has system members (row_variable system i) j p.k has p.row (picked_member system members i j p) p.named) (done_next system members i j p done)
 
 pub cycle_set_knows : (system : LinearSystem) (members : List ℕ) → CycleWalk system (free_set members) → CycleKnows system members
 cycle_set_knows system members d = cycle_knows system (column_set system) 0 (free_set members) d (columns_have system) (λ m lt. absurd (omega arith))
@@ -187,7 +209,9 @@ no_constant system members w k plain row = finish _ (constant_left system member
     finish c e = omega (arith, ints)
 
 -- a relation without its rows, where these are 0
-columns_alone : (system : LinearSystem) (k : Relation) (v : ℕ → ℤ) → ((m : ℕ) → m < length system.rows → k.coefficient (row_variable system m) *ℤ v (row_variable system m) ≡ pos 0) → sum_below (variables system) (λ m. k.coefficient m *ℤ v m) ≡ sum_below system.columns (λ j. k.coefficient j *ℤ v j)
+columns_alone : (system : LinearSystem) (k : Relation) (v : ℕ → ℤ)
+    → ((m : ℕ) → m < length system.rows → k.coefficient (row_variable system m) *ℤ v (row_variable system m) ≡ pos 0)
+    → sum_below (variables system) (λ m. k.coefficient m *ℤ v m) ≡ sum_below system.columns (λ j. k.coefficient j *ℤ v j)
 columns_alone system k v none = sum_below-split system.columns (length system.rows) (λ m. k.coefficient m *ℤ v m) ∙ drop _ _ (sum_below-zero (length system.rows) _ none)
   where
     drop : (a b : ℤ) → b ≡ pos 0 → a +ℤ b ≡ a
@@ -200,7 +224,8 @@ rows_zero-follow system members plain scale v p zeros t k lt row = row.holds sca
     drop : (c s a : ℤ) → c ≡ pos 0 → (c *ℤ s) +ℤ a ≡ a
     drop c s a e = rw e (simp ring (omega (arith, ints)))
 
-module _ (system : LinearSystem) (members : List ℕ) (plain : IsHomogeneous system) (knows : CycleKnows system members) (scale : ℤ) (v : ℕ → ℤ) (p : IsPoint system scale v) (follows : FollowsRelations system members v) where
+module _ (system : LinearSystem) (members : List ℕ) (plain : IsHomogeneous system) (knows : CycleKnows system members) (scale : ℤ) (v : ℕ → ℤ)
+    (p : IsPoint system scale v) (follows : FollowsRelations system members v) where
   -- the columns of the set as they are, and its rows at 0
   wanted : ℕ → ℤ
   wanted m = if nat_lt m system.columns then v m else pos 0
@@ -244,18 +269,25 @@ module _ (system : LinearSystem) (members : List ℕ) (plain : IsHomogeneous sys
       outside lacks =
           let (k, row) = knows.has.rows j (omega arith) lacks in
           mul-cancel_left k.d _ _ (positive_differs k.d row.positive)
-          (by_columns j k row ∙ sum_below-same system.columns _ _ (λ i below. piece k j row i below) ∙ sum_below-times system.columns taken.times (λ i. k.coefficient i *ℤ v i) ∙ ap (λ z. taken.times *ℤ z) (sym (follows j k lt row)) ∙ mul_left_comm taken.times k.d (v j))
+          (by_columns j k row ∙ sum_below-same system.columns _ _ (λ i below. piece k j row i below)
+          ∙ sum_below-times system.columns taken.times (λ i. k.coefficient i *ℤ v i) ∙ ap (λ z. taken.times *ℤ z) (sym (follows j k lt row))
+          ∙ mul_left_comm taken.times k.d (v j))
 
   row_same : (m : ℕ) → m < length system.rows → taken.v (row_variable system m) ≡ taken.times *ℤ v (row_variable system m)
-  row_same m lt = columns_determine system (taken.times *ℤ scale) taken.v (λ w. taken.times *ℤ v w) taken.point (scaled_point system scale taken.times v taken.positive p) column_same (row_variable system m) (omega arith)
+  row_same m lt = columns_determine system (taken.times *ℤ scale) taken.v (λ w. taken.times *ℤ v w) taken.point
+      (scaled_point system scale taken.times v taken.positive p) column_same (row_variable system m) (omega arith)
 
   taken_zero : (m : ℕ) → Contains members (row_variable system m) ⊎ IsSkipped system members m → taken.v (row_variable system m) ≡ pos 0
   taken_zero m (inl has) = row_member_zero m has
-  taken_zero m (inr s) = mul_is_zero _ s.k.d (positive_differs s.k.d s.row.positive) (*ℤ_comm _ s.k.d ∙ by_columns (row_variable system m) s.k s.row ∙ sum_below-zero system.columns _ (λ j lt. ap (λ z. z *ℤ taken.v j) (s.none j lt) ∙ zero-*ℤ (taken.v j)))
+  taken_zero m (inr s) = mul_is_zero _ s.k.d (positive_differs s.k.d s.row.positive)
+      (*ℤ_comm _ s.k.d ∙ by_columns (row_variable system m) s.k s.row
+      ∙ sum_below-zero system.columns _ (λ j lt. ap (λ z. z *ℤ taken.v j) (s.none j lt) ∙ zero-*ℤ (taken.v j)))
 
   pub follow-rows_zero : RowsAreZero system v
-  follow-rows_zero m lt = mul_is_zero _ taken.times (positive_differs taken.times taken.positive) (*ℤ_comm (v (row_variable system m)) taken.times ∙ sym (row_same m lt) ∙ taken_zero m (knows.done m lt))
+  follow-rows_zero m lt = mul_is_zero _ taken.times (positive_differs taken.times taken.positive)
+      (*ℤ_comm (v (row_variable system m)) taken.times ∙ sym (row_same m lt) ∙ taken_zero m (knows.done m lt))
 
 -- with the set of a walk, all rows are 0 exactly where the columns outside it follow their relations
-pub cycle_is_exact : (system : LinearSystem) (members : List ℕ) → IsHomogeneous system → CycleWalk system (free_set members) → (scale : ℤ) (v : ℕ → ℤ) → IsPoint system scale v → RowsAreZero system v ↔ FollowsRelations system members v
+pub cycle_is_exact : (system : LinearSystem) (members : List ℕ) → IsHomogeneous system → CycleWalk system (free_set members)
+    → (scale : ℤ) (v : ℕ → ℤ) → IsPoint system scale v → RowsAreZero system v ↔ FollowsRelations system members v
 cycle_is_exact system members plain d scale v p = (rows_zero-follow system members plain scale v p, follow-rows_zero system members plain (cycle_set_knows system members d) scale v p)

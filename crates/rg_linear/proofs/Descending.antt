@@ -5,7 +5,7 @@ use Rattle.rg_linear.specs.System.{LinearSystem, row_variable}
 use Rattle.rg_linear.specs.Exchange.{exchanged, AllFit}
 use Rattle.rg_linear.specs.Descent.{Outcome, Outcome.point, Outcome.refuted, DescentFromStart, IsSatisfied, IsStuck, Chooses}
 use Rattle.rg_linear.specs.Stack.{fixed_of, limit, Resumes, work_left, IsFalling, IsStackOf}
-use Rattle.rg_linear.proofs.Stacks.{step_satisfied, step_stuck, step_exchange, step_return, step_end, work-satisfied, work-exchange, work-return, stack_pushed, stack_popped, room_on_stack}
+use Rattle.rg_linear.proofs.Stacks.{step_satisfied, step_stuck, step_exchange, step_return, step_end, work-satisfied, work-exchange, stack_pushed, stack_popped, room_on_stack}
 
 -- what is left at row i of the rows below, with these rows fixed, leads to the outcome of the whole
 pub record LeadsOn (system : LinearSystem) (members stack : List ℕ) (below i : ℕ) : Type 0 where
@@ -63,7 +63,9 @@ module _ (system : LinearSystem) (members stack : List ℕ) (below i : ℕ) (is 
 
   -- behind the last row with nothing fixed
   pub leads_point : (0 < length stack → ⊥) → below ≤ i → DescentFromStart system (point members)
-  leads_point none le = is.leads (point members) (subst (λ xs. Resumes system (reverse xs) members i (point members)) (sym empty) (step_end system members i (let e = is.limit ∙ ap (λ xs. limit system (reverse xs)) empty in omega arith)))
+  leads_point none le = is.leads (point members)
+      (subst (λ xs. Resumes system (reverse xs) members i (point members)) (sym empty)
+      (step_end system members i (let e = is.limit ∙ ap (λ xs. limit system (reverse xs)) empty in omega arith)))
     where
       empty : stack ≡ []
       empty = none_left stack none
@@ -73,13 +75,15 @@ module _ (system : LinearSystem) (members stack : List ℕ) (below i : ℕ) (is 
     before_limit = subst (λ n. i < n) is.limit lt
 
     pub leads_refuted : (new : List ℕ) → IsStuck system members (fixed_of system (reverse stack)) i × (new ≡ members) → DescentFromStart system (refuted new i (fixed_of system (reverse stack)))
-    leads_refuted new told = subst (λ ms. DescentFromStart system (refuted ms i (fixed_of system (reverse stack)))) (sym told.1) (is.leads _ (step_stuck system (reverse stack) members i before_limit told.0))
+    leads_refuted new told = subst (λ ms. DescentFromStart system (refuted ms i (fixed_of system (reverse stack)))) (sym told.1)
+        (is.leads _ (step_stuck system (reverse stack) members i before_limit told.0))
 
     pub leads_satisfied : (new : List ℕ) → IsSatisfied system members i × (new ≡ members) → LeadsOn system new stack below (i + 1)
     leads_satisfied new told = record {
       limit = is.limit;
       stacked = subst (IsStackOf system (reverse stack)) (sym told.1) is.stacked;
-      leads = λ o rest. is.leads o (step_satisfied system (reverse stack) members i o before_limit told.0 (subst (λ k. Resumes system (reverse stack) members k o) (add-one i) (subst (λ ms. Resumes system (reverse stack) ms (i + 1) o) told.1 rest)));
+      leads = λ o rest. is.leads o (step_satisfied system (reverse stack) members i o before_limit told.0
+          (subst (λ k. Resumes system (reverse stack) members k o) (add-one i) (subst (λ ms. Resumes system (reverse stack) ms (i + 1) o) told.1 rest)));
     }
 
     -- the stack has room for one more
@@ -89,18 +93,22 @@ module _ (system : LinearSystem) (members stack : List ℕ) (below i : ℕ) (is 
     pub leads_exchanged : (new pushed : List ℕ) → IsExchange system members (reverse stack) i new → pushed ≡ stack ++ i ∷ [] → LeadsOn system new pushed i 0
     leads_exchanged new pushed (j, chooses, fit, e) was = record {
       limit = sym (ap (limit system) turned);
-      stacked = subst (λ xs. IsStackOf system xs new) (sym turned) (subst (IsStackOf system (i ∷ reverse stack)) (sym e) (stack_pushed system (reverse stack) members i j before_limit is.stacked chooses));
-      leads = λ o rest. is.leads o (step_exchange system (reverse stack) members i j o before_limit chooses fit (subst (λ ms. Resumes system (i ∷ reverse stack) ms 0 o) e (subst (λ xs. Resumes system xs new 0 o) turned rest)));
+      stacked = subst (λ xs. IsStackOf system xs new) (sym turned)
+          (subst (IsStackOf system (i ∷ reverse stack)) (sym e) (stack_pushed system (reverse stack) members i j before_limit is.stacked chooses));
+      leads = λ o rest. is.leads o (step_exchange system (reverse stack) members i j o before_limit chooses fit
+          (subst (λ ms. Resumes system (i ∷ reverse stack) ms 0 o) e (subst (λ xs. Resumes system xs new 0 o) turned rest)));
     }
       where
         turned : reverse pushed ≡ i ∷ reverse stack
         turned = ap reverse was ∙ reverse-push stack i
 
     pub work_satisfied : work_left (length system.rows) (reverse stack) (i + 1) < work_left (length system.rows) (reverse stack) i
-    work_satisfied = subst (λ k. work_left (length system.rows) (reverse stack) k < work_left (length system.rows) (reverse stack) i) (sym (add-one i)) (work-satisfied system (reverse stack) i before_limit)
+    work_satisfied = subst (λ k. work_left (length system.rows) (reverse stack) k < work_left (length system.rows) (reverse stack) i)
+        (sym (add-one i)) (work-satisfied system (reverse stack) i before_limit)
 
     pub work_pushed : (pushed : List ℕ) → pushed ≡ stack ++ i ∷ [] → work_left (length system.rows) (reverse pushed) 0 < work_left (length system.rows) (reverse stack) i
-    work_pushed pushed was = subst (λ xs. work_left (length system.rows) xs 0 < work_left (length system.rows) (reverse stack) i) (sym (ap reverse was ∙ reverse-push stack i)) (work-exchange system (reverse stack) i before_limit)
+    work_pushed pushed was = subst (λ xs. work_left (length system.rows) xs 0 < work_left (length system.rows) (reverse stack) i)
+        (sym (ap reverse was ∙ reverse-push stack i)) (work-exchange system (reverse stack) i before_limit)
 
   -- the last fixed row is taken up behind itself
   module _ (popped : List ℕ) (s : ℕ) (was : stack ≡ popped ++ s ∷ []) where
@@ -117,9 +125,7 @@ module _ (system : LinearSystem) (members stack : List ℕ) (below i : ℕ) (is 
     leads_popped le next e = record {
       limit = e;
       stacked = stack_popped system s (reverse popped) members at_top;
-      leads = λ o rest. is.leads o (subst (λ xs. Resumes system xs members i o) (sym turned) (step_return system s (reverse popped) members i o (subst (λ n. n ≤ i) (is.limit ∙ ap (limit system) turned) le) (subst (λ k. Resumes system (reverse popped) members k o) (add-one s) rest)));
+      leads = λ o rest. is.leads o (subst (λ xs. Resumes system xs members i o) (sym turned)
+          (step_return system s (reverse popped) members i o (subst (λ n. n ≤ i) (is.limit ∙ ap (limit system) turned) le)
+          (subst (λ k. Resumes system (reverse popped) members k o) (add-one s) rest)));
     }
-
-    pub work_popped : work_left (length system.rows) (reverse popped) (s + 1) < work_left (length system.rows) (reverse stack) i
-    work_popped = subst (λ xs. work_left (length system.rows) (reverse popped) (s + 1) < work_left (length system.rows) xs i) (sym turned)
-        (subst (λ k. work_left (length system.rows) (reverse popped) k < work_left (length system.rows) (s ∷ reverse popped) i) (sym (add-one s)) (work-return system s (reverse popped) i))

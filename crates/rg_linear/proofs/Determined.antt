@@ -83,15 +83,19 @@ Unfolded system members fixed r i o is_satisfied = DescentFrom system members fi
 Unfolded system members fixed r i o is_stuck = o ≡ refuted members i fixed
 Unfolded system members fixed r i o (is_chosen j) = Stopped system members i j o ⊎ (StopsBelow system members fixed i j o ⊎ GoesOn system members fixed r i j o)
 
-pub unfolded : (system : LinearSystem) (members fixed : List ℕ) (r i : ℕ) (o : Outcome) (kind : Kind) → i < r → IsKind system members fixed i kind → DescentFrom system members fixed r i o → Unfolded system members fixed r i o kind
+pub unfolded : (system : LinearSystem) (members fixed : List ℕ) (r i : ℕ) (o : Outcome) (kind : Kind) → i < r → IsKind system members fixed i kind
+    → DescentFrom system members fixed r i o → Unfolded system members fixed r i o kind
 unfolded system members fixed r i o kind lt is (after_last le) = absurd (omega arith)
 unfolded system members fixed r i o kind lt is (satisfied lt' p d) = subst (Unfolded system members fixed r i o) (same_kind system members fixed i is_satisfied kind p is) d
 unfolded system members fixed r i o kind lt is (stuck lt' s) = subst (Unfolded system members fixed r i (refuted members i fixed)) (same_kind system members fixed i is_stuck kind s is) refl
 unfolded system members fixed r i o kind lt is (passes j w n t lt' c f) = subst
     (Unfolded system members fixed r i (wide (record { members = members; pivot = row_variable system i; leaves = j; target = w; entry = n; term = t })))
     (same_kind system members fixed i (is_chosen j) kind c is) (inl (record { w = w; n = n; t = t; first = f; is = refl }))
-unfolded system members fixed r i o kind lt is (stops_below j lt' c fit d stop) = subst (Unfolded system members fixed r i o) (same_kind system members fixed i (is_chosen j) kind c is) (inr (inl (record { fit = fit; below = d; stop = stop })))
-unfolded system members fixed r i o kind lt is (goes_on j after lt' c fit d rest) = subst (Unfolded system members fixed r i o) (same_kind system members fixed i (is_chosen j) kind c is) (inr (inr (record { after = after; fit = fit; below = d; rest = rest })))
+unfolded system members fixed r i o kind lt is (stops_below j lt' c fit d stop) =
+    subst (Unfolded system members fixed r i o) (same_kind system members fixed i (is_chosen j) kind c is) (inr (inl (record { fit = fit; below = d; stop = stop })))
+unfolded system members fixed r i o kind lt is (goes_on j after lt' c fit d rest) =
+    subst (Unfolded system members fixed r i o) (same_kind system members fixed i (is_chosen j) kind c is)
+    (inr (inr (record { after = after; fit = fit; below = d; rest = rest })))
 
 ended : (system : LinearSystem) (members fixed : List ℕ) (r i : ℕ) (o : Outcome) → r ≤ i → DescentFrom system members fixed r i o → point members ≡ o
 ended system members fixed r i o le (after_last le') = refl
@@ -118,19 +122,23 @@ same_outcome system members fixed r i o o' (satisfied lt p d) d' = same_outcome 
 same_outcome system members fixed r i o o' (stuck lt s) d' = sym (unfolded system members fixed r i o' is_stuck lt s d')
 same_outcome system members fixed r i o o' (passes j w n t lt c f) d' = go (unfolded system members fixed r i o' (is_chosen j) lt c d')
   where
-    go : Stopped system members i j o' ⊎ (StopsBelow system members fixed i j o' ⊎ GoesOn system members fixed r i j o') → wide (record { members = members; pivot = row_variable system i; leaves = j; target = w; entry = n; term = t }) ≡ o'
+    go : Stopped system members i j o' ⊎ (StopsBelow system members fixed i j o' ⊎ GoesOn system members fixed r i j o')
+        → wide (record { members = members; pivot = row_variable system i; leaves = j; target = w; entry = n; term = t }) ≡ o'
     go (inl s) = let e = same_wide system members (row_variable system i) j w n s.w s.n t s.t f s.first in let ew = e.0 in let en = e.1 in let et = e.2 in let is = s.is in cc
     go (inr (inl b)) = absurd (wide_or_fit system members (row_variable system i) j w n t f b.fit)
     go (inr (inr g)) = absurd (wide_or_fit system members (row_variable system i) j w n t f g.fit)
 same_outcome system members fixed r i o o' (stops_below j lt c fit d stop) d' =
     go (unfolded system members fixed r i o' (is_chosen j) lt c d') (λ x e. same_outcome system (exchanged members (row_variable system i) j) (row_variable system i ∷ fixed) i 0 o x d e)
   where
-    go : Stopped system members i j o' ⊎ (StopsBelow system members fixed i j o' ⊎ GoesOn system members fixed r i j o') → ((x : Outcome) → DescentFrom system (exchanged members (row_variable system i) j) (row_variable system i ∷ fixed) i 0 x → o ≡ x) → o ≡ o'
+    go : Stopped system members i j o' ⊎ (StopsBelow system members fixed i j o' ⊎ GoesOn system members fixed r i j o')
+        → ((x : Outcome) → DescentFrom system (exchanged members (row_variable system i) j) (row_variable system i ∷ fixed) i 0 x → o ≡ x) → o ≡ o'
     go (inl s) ih = absurd (wide_or_fit system members (row_variable system i) j s.w s.n s.t s.first fit)
     go (inr (inl b)) ih = ih o' b.below
     go (inr (inr g)) ih = absurd (not_both g.after o (sym (ih (point g.after) g.below)) stop)
 same_outcome system members fixed r i o o' (goes_on j after lt c fit d rest) d' =
-    go (unfolded system members fixed r i o' (is_chosen j) lt c d') (λ x e. same_outcome system (exchanged members (row_variable system i) j) (row_variable system i ∷ fixed) i 0 (point after) x d e) (λ e. same_outcome system after fixed r (suc i) o o' rest e)
+    go (unfolded system members fixed r i o' (is_chosen j) lt c d')
+    (λ x e. same_outcome system (exchanged members (row_variable system i) j) (row_variable system i ∷ fixed) i 0 (point after) x d e)
+    (λ e. same_outcome system after fixed r (suc i) o o' rest e)
   where
     go : Stopped system members i j o' ⊎ (StopsBelow system members fixed i j o' ⊎ GoesOn system members fixed r i j o')
         → ((x : Outcome) → DescentFrom system (exchanged members (row_variable system i) j) (row_variable system i ∷ fixed) i 0 x → point after ≡ x)

@@ -58,13 +58,15 @@ floor_by z (negsuc x) h = absurd (omega (arith, ints))
 
 -- ---- the first form that is not whole
 
-module _ (system : LinearSystem) (forms : List Form) (positive : ArePositive forms) (above : List SplitSide) (members : List ℕ) (scale : ℤ) (v : ℕ → ℤ) (p : IsPoint (node_system system forms above) scale v) (zeros : IsAtZero members v) where
+module _ (system : LinearSystem) (forms : List Form) (positive : ArePositive forms) (above : List SplitSide) (members : List ℕ) (scale : ℤ)
+    (v : ℕ → ℤ) (p : IsPoint (node_system system forms above) scale v) (zeros : IsAtZero members v) where
   record Fraction (b : ℕ) : Type 0 where
     pub f : ℕ
     pub u : ℤ
     pub first : FirstFraction system forms above members f u
 
-  at_form : (f : ℕ) → f < length forms → ((g : ℕ) → g < f → IsWholeAt system (form_at forms g) scale v) → IsWholeAt system (form_at forms f) scale v ⊎ ((u : ℤ) × FirstFraction system forms above members f u)
+  at_form : (f : ℕ) → f < length forms → ((g : ℕ) → g < f → IsWholeAt system (form_at forms g) scale v)
+      → IsWholeAt system (form_at forms f) scale v ⊎ ((u : ℤ) × FirstFraction system forms above members f u)
   at_form f lt before = go (floor_by (scaled_value system (form_at forms f) v) ((form_at forms f).scale *ℤ scale) (mul_positive _ _ (positive f lt) p.positive))
     where
       go : Floor (scaled_value system (form_at forms f) v) ((form_at forms f).scale *ℤ scale) → IsWholeAt system (form_at forms f) scale v ⊎ ((u : ℤ) × FirstFraction system forms above members f u)
@@ -120,7 +122,10 @@ Within system forms above = (f : ℕ) (scale : ℤ) (v : ℕ → ℤ) → f < le
 
 -- a point with one row more is a point, which meets that row too
 less_point : (system : LinearSystem) (row : LinearRow) (scale : ℤ) (v : ℕ → ℤ) → IsPoint (with_row system row) scale v → IsPoint system scale v
-less_point system row scale v p = record { positive = p.positive; rows = λ i lt. subst (λ r. v (row_variable system i) ≡ worth system.columns r scale v) (index-front system.rows (row ∷ []) _ i lt) (p.rows i (further i lt)) }
+less_point system row scale v p = record {
+  positive = p.positive;
+  rows = λ i lt. subst (λ r. v (row_variable system i) ≡ worth system.columns r scale v) (index-front system.rows (row ∷ []) _ i lt) (p.rows i (further i lt));
+}
   where
     further : (i : ℕ) → i < length system.rows → i < length (system.rows ++ row ∷ [])
     further i lt = let e = length-append system.rows (row ∷ []) in omega arith
@@ -129,7 +134,8 @@ less_meets : (system : LinearSystem) (row : LinearRow) (v : ℕ → ℤ) → Mee
 less_meets system row v meets i lt = meets i (let e = length-append system.rows (row ∷ []) in omega arith)
 
 last_meets : (system : LinearSystem) (row : LinearRow) (scale : ℤ) (v : ℕ → ℤ) → IsPoint (with_row system row) scale v → MeetsRows (with_row system row) v → pos 0 ≤ℤ worth system.columns row scale v
-last_meets system row scale v p meets = subst (λ r. pos 0 ≤ℤ worth system.columns r scale v) (index-last system.rows row _) (subst (λ z. pos 0 ≤ℤ z) (p.rows (length system.rows) last) (meets (length system.rows) last))
+last_meets system row scale v p meets = subst (λ r. pos 0 ≤ℤ worth system.columns r scale v) (index-last system.rows row _)
+    (subst (λ z. pos 0 ≤ℤ z) (p.rows (length system.rows) last) (meets (length system.rows) last))
   where
     last : length system.rows < length (system.rows ++ row ∷ [])
     last = let e = length-append system.rows (row ∷ []) in omega arith
@@ -150,7 +156,8 @@ module _ (system : LinearSystem) (forms : List Form) (above : List SplitSide) (w
       meets' : MeetsRows (with_row (node_system system forms above) (side_row forms (low_side g u))) v
       meets' = subst (λ s. MeetsRows s v) (node_system-side system forms above (low_side g u)) meets
 
-      old : ((low_at forms above f *ℤ ((form_at forms f).scale *ℤ scale)) ≤ℤ scaled_value system (form_at forms f) v) × (scaled_value system (form_at forms f) v ≤ℤ (high_at forms above f *ℤ ((form_at forms f).scale *ℤ scale)))
+      old : ((low_at forms above f *ℤ ((form_at forms f).scale *ℤ scale)) ≤ℤ scaled_value system (form_at forms f) v)
+          × (scaled_value system (form_at forms f) v ≤ℤ (high_at forms above f *ℤ ((form_at forms f).scale *ℤ scale)))
       old = within f scale v lt (less_point (node_system system forms above) _ scale v p') (less_meets (node_system system forms above) _ v meets')
 
       row : pos 0 ≤ℤ ((u *ℤ ((form_at forms g).scale *ℤ scale)) -ℤ scaled_value system (form_at forms g) v)
@@ -177,7 +184,8 @@ module _ (system : LinearSystem) (forms : List Form) (above : List SplitSide) (w
       meets' : MeetsRows (with_row (node_system system forms above) (side_row forms (high_side g u))) v
       meets' = subst (λ s. MeetsRows s v) (node_system-side system forms above (high_side g u)) meets
 
-      old : ((low_at forms above f *ℤ ((form_at forms f).scale *ℤ scale)) ≤ℤ scaled_value system (form_at forms f) v) × (scaled_value system (form_at forms f) v ≤ℤ (high_at forms above f *ℤ ((form_at forms f).scale *ℤ scale)))
+      old : ((low_at forms above f *ℤ ((form_at forms f).scale *ℤ scale)) ≤ℤ scaled_value system (form_at forms f) v)
+          × (scaled_value system (form_at forms f) v ≤ℤ (high_at forms above f *ℤ ((form_at forms f).scale *ℤ scale)))
       old = within f scale v lt (less_point (node_system system forms above) _ scale v p') (less_meets (node_system system forms above) _ v meets')
 
       row : pos 0 ≤ℤ (scaled_value system (form_at forms g) v -ℤ ((u +ℤ pos 1) *ℤ ((form_at forms g).scale *ℤ scale)))
@@ -213,7 +221,8 @@ total-less (suc n) i f g lt less others = split (equal_or_not i n) (λ below. to
         let here : g n ≡ f n = others n (λ e. ne (sym e)) in
         omega arith
 
-pub gap-low : (forms : List Form) (above : List SplitSide) (g : ℕ) (u : ℤ) → g < length forms → low_at forms above g ≤ℤ u → u <ℤ high_at forms above g → total (length forms) (gap forms (above ++ low_side g u ∷ [])) < total (length forms) (gap forms above)
+pub gap-low : (forms : List Form) (above : List SplitSide) (g : ℕ) (u : ℤ) → g < length forms → low_at forms above g ≤ℤ u
+    → u <ℤ high_at forms above g → total (length forms) (gap forms (above ++ low_side g u ∷ [])) < total (length forms) (gap forms above)
 gap-low forms above g u lt lo hi = total-less (length forms) g (gap forms above) (gap forms (above ++ low_side g u ∷ [])) lt here others
   where
     less : (h l u : ℤ) → l ≤ℤ u → u <ℤ h → gap_of (u -ℤ l) < gap_of (h -ℤ l)
@@ -230,7 +239,8 @@ gap-low forms above g u lt lo hi = total-less (length forms) g (gap forms above)
     others : (m : ℕ) → m ≢ g → gap forms (above ++ low_side g u ∷ []) m ≡ gap forms above m
     others m ne = rw (low_end-low (form_at forms m).low m g u above, high_end-low (form_at forms m).high m g u above, differs g m (λ e. ne (sym e))) refl
 
-pub gap-high : (forms : List Form) (above : List SplitSide) (g : ℕ) (u : ℤ) → g < length forms → low_at forms above g ≤ℤ u → u <ℤ high_at forms above g → total (length forms) (gap forms (above ++ high_side g u ∷ [])) < total (length forms) (gap forms above)
+pub gap-high : (forms : List Form) (above : List SplitSide) (g : ℕ) (u : ℤ) → g < length forms → low_at forms above g ≤ℤ u
+    → u <ℤ high_at forms above g → total (length forms) (gap forms (above ++ high_side g u ∷ [])) < total (length forms) (gap forms above)
 gap-high forms above g u lt lo hi = total-less (length forms) g (gap forms above) (gap forms (above ++ high_side g u ∷ [])) lt here others
   where
     less : (h l u : ℤ) → l ≤ℤ u → u <ℤ h → gap_of (h -ℤ (u +ℤ pos 1)) < gap_of (h -ℤ l)
@@ -255,7 +265,8 @@ pub split_within : (system : LinearSystem) (forms : List Form) (above : List Spl
 unfolding Within
 split_within system forms above members f u positive within d first =
     let in_interval = within f first.scale first.v first.within first.point (point_is_sound (node_system system forms above) members d first.scale first.v first.point first.zeros) in
-    finish (low_at forms above f) (high_at forms above f) u ((form_at forms f).scale *ℤ first.scale) (scaled_value system (form_at forms f) first.v) (mul_positive _ _ (positive f first.within) first.point.positive) in_interval.0 in_interval.1 first.low first.high
+    finish (low_at forms above f) (high_at forms above f) u ((form_at forms f).scale *ℤ first.scale) (scaled_value system (form_at forms f) first.v)
+    (mul_positive _ _ (positive f first.within) first.point.positive) in_interval.0 in_interval.1 first.low first.high
   where
     finish : (l h u k v : ℤ) → pos 0 <ℤ k → (l *ℤ k) ≤ℤ v → v ≤ℤ (h *ℤ k) → (u *ℤ k) <ℤ v → v <ℤ ((u +ℤ pos 1) *ℤ k) → (l ≤ℤ u) × (u <ℤ h)
     finish l h u k v hk a b c d =
@@ -269,7 +280,8 @@ split_within system forms above members f u positive within d first =
 
 -- ---- the end
 
-ends_by : (system : LinearSystem) (forms : List Form) → ArePositive forms → (fuel : ℕ) (above : List SplitSide) → total (length forms) (gap forms above) < fuel → Within system forms above → (o : BranchOutcome) × BranchFrom system forms above o
+ends_by : (system : LinearSystem) (forms : List Form) → ArePositive forms → (fuel : ℕ) (above : List SplitSide)
+    → total (length forms) (gap forms above) < fuel → Within system forms above → (o : BranchOutcome) × BranchFrom system forms above o
 ends_by system forms positive zero above lt within = absurd (omega arith)
 ends_by system forms positive (suc fuel) above lt within = at_descent (start_ends (node_system system forms above)) (λ above' less within'. ends_by system forms positive fuel above' less within')
   where
@@ -284,7 +296,8 @@ ends_by system forms positive (suc fuel) above lt within = at_descent (start_end
         interval : (low_at forms above f ≤ℤ u) × (u <ℤ high_at forms above f)
         interval = split_within system forms above members f u positive within d first
 
-        high : (t : SplitTree) → BranchFrom system forms (above ++ low_side f u ∷ []) (tree t) → (o : BranchOutcome) × BranchFrom system forms (above ++ high_side f u ∷ []) o → (o : BranchOutcome) × BranchFrom system forms above o
+        high : (t : SplitTree) → BranchFrom system forms (above ++ low_side f u ∷ []) (tree t)
+            → (o : BranchOutcome) × BranchFrom system forms (above ++ high_side f u ∷ []) o → (o : BranchOutcome) × BranchFrom system forms above o
         high t bl (found m a, b) = (found m a, high_ends members f u t d first bl b tt)
         high t bl (stopped a w, b) = (stopped a w, high_ends members f u t d first bl b tt)
         high t bl (tree t', b) = (tree (split f u t t'), both_refuted members f u t t' d first bl b)
@@ -325,7 +338,8 @@ record SidesFrom (forms : List Form) (start above : List SplitSide) : Type 0 whe
 no_sides : (forms : List Form) (start : List SplitSide) → SidesFrom forms start start
 no_sides forms start = record { sides = []; is = sym (append-nil start); within = tt }
 
-one_side_more : (forms : List Form) (start above : List SplitSide) (side : SplitSide) → IsInInterval forms start side.form side.at → SidesFrom forms (start ++ side ∷ []) above → SidesFrom forms start above
+one_side_more : (forms : List Form) (start above : List SplitSide) (side : SplitSide) → IsInInterval forms start side.form side.at
+    → SidesFrom forms (start ++ side ∷ []) above → SidesFrom forms start above
 one_side_more forms start above side here s = record { sides = side ∷ s.sides; is = s.is ∙ append_assoc start (side ∷ []) s.sides; within = (here, s.within) }
 
 abbrev OutcomeFrom : List Form → List SplitSide → BranchOutcome → Type 0
@@ -333,12 +347,14 @@ OutcomeFrom forms start (found members above) = SidesFrom forms start above
 OutcomeFrom forms start (tree t) = TreeWithin forms start t
 OutcomeFrom forms start (stopped above w) = SidesFrom forms start above
 
-end_more : (forms : List Form) (start : List SplitSide) (side : SplitSide) (o : BranchOutcome) → IsInInterval forms start side.form side.at → IsEnd o → OutcomeFrom forms (start ++ side ∷ []) o → OutcomeFrom forms start o
+end_more : (forms : List Form) (start : List SplitSide) (side : SplitSide) (o : BranchOutcome) → IsInInterval forms start side.form side.at → IsEnd o
+    → OutcomeFrom forms (start ++ side ∷ []) o → OutcomeFrom forms start o
 end_more forms start side (found members above) here end s = one_side_more forms start above side here s
 end_more forms start side (tree t) here end s = absurd end
 end_more forms start side (stopped above w) here end s = one_side_more forms start above side here s
 
-outcome_from : (system : LinearSystem) (forms : List Form) (above : List SplitSide) (o : BranchOutcome) → ArePositive forms → BranchFrom system forms above o → Within system forms above → OutcomeFrom forms above o
+outcome_from : (system : LinearSystem) (forms : List Form) (above : List SplitSide) (o : BranchOutcome) → ArePositive forms
+    → BranchFrom system forms above o → Within system forms above → OutcomeFrom forms above o
 outcome_from system forms above o positive (passes w d) within = no_sides forms above
 outcome_from system forms above o positive (refutes members fixed i k d row) within = tt
 outcome_from system forms above o positive (whole members d all) within = no_sides forms above
@@ -347,10 +363,16 @@ outcome_from system forms above o positive (low_ends members f u d first low end
     end_more forms above (low_side f u) o (first.within, interval.0, interval.1) end (outcome_from system forms (above ++ low_side f u ∷ []) o positive low (within_low system forms above within f u))
 outcome_from system forms above o positive (high_ends members f u t d first low high end) within =
     let interval = split_within system forms above members f u positive within d first in
-    end_more forms above (high_side f u) o (first.within, interval.0, interval.1) end (outcome_from system forms (above ++ high_side f u ∷ []) o positive high (within_high system forms above within f u))
+    end_more forms above (high_side f u) o (first.within, interval.0, interval.1) end
+    (outcome_from system forms (above ++ high_side f u ∷ []) o positive high (within_high system forms above within f u))
 outcome_from system forms above o positive (both_refuted members f u t t' d first low high) within =
-    let interval = split_within system forms above members f u positive within d first in
-    ((first.within, interval.0, interval.1), outcome_from system forms (above ++ low_side f u ∷ []) (tree t) positive low (within_low system forms above within f u), outcome_from system forms (above ++ high_side f u ∷ []) (tree t') positive high (within_high system forms above within f u))
+    let interval = split_within system forms above members f u positive within d first in (
+      (first.within, interval.0, interval.1),
+      outcome_from system forms (above ++ low_side f u ∷ []) (tree t) positive low
+          (within_low system forms above within f u),
+      outcome_from system forms (above ++ high_side f u ∷ []) (tree t') positive high
+          (within_high system forms above within f u),
+    )
 
 pub within_start : (system : LinearSystem) (forms : List Form) → AreBounded system forms → Within system forms []
 unfolding Within

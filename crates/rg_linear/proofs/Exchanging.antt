@@ -18,7 +18,8 @@ use Rattle.rg_linear.proofs.Reducing.{reduced_row}
 use Rattle.rg_linear.proofs.Renewed.{sum_only, renewed_holds, renewed_over}
 
 -- points that agree on a free set's members agree at a variable whose relation names those alone
-pub agree_by : (system : LinearSystem) (members : List ℕ) (w : ℕ) (k : Relation) → Holds system w k → IsOver members k → k.d ≢ pos 0 → (scale : ℤ) (v u : ℕ → ℤ) → IsPoint system scale v → IsPoint system scale u → AgreeOn members v u → v w ≡ u w
+pub agree_by : (system : LinearSystem) (members : List ℕ) (w : ℕ) (k : Relation) → Holds system w k → IsOver members k → k.d ≢ pos 0
+    → (scale : ℤ) (v u : ℕ → ℤ) → IsPoint system scale v → IsPoint system scale u → AgreeOn members v u → v w ≡ u w
 agree_by system members w k holds over differ scale v u p q agree =
     mul-cancel_left k.d _ _ differ (holds scale v p ∙ ap (λ z. (k.constant *ℤ scale) +ℤ z) (sum_below-same (variables system) _ _ (λ m lt. at m (is_member members m))) ∙ sym (holds scale u q))
   where
@@ -42,7 +43,9 @@ module _ (system : LinearSystem) (members : List ℕ) (i j : ℕ) (k : Relation)
 
   -- ---- the relation of j
 
-  turned_at : (v : ℕ → ℤ) (m : ℕ) → (turned k i j).coefficient m *ℤ v m ≡ (only j (size (k.coefficient j) *ℤ v j) m) +ℤ ((only i ((sign (k.coefficient j) *ℤ k.d) *ℤ v i) m) +ℤ (neg_ℤ (sign (k.coefficient j)) *ℤ (k.coefficient m *ℤ v m)))
+  turned_at : (v : ℕ → ℤ) (m : ℕ) → (turned k i j).coefficient m *ℤ v m
+      ≡ (only j (size (k.coefficient j) *ℤ v j) m)
+      +ℤ ((only i ((sign (k.coefficient j) *ℤ k.d) *ℤ v i) m) +ℤ (neg_ℤ (sign (k.coefficient j)) *ℤ (k.coefficient m *ℤ v m)))
   turned_at v m = go (equal_or_not m j) (equal_or_not m i)
     where
       none : (q s z y : ℤ) → s *ℤ z ≡ q → pos 0 *ℤ y ≡ (q *ℤ y) +ℤ (pos 0 +ℤ (neg_ℤ s *ℤ (z *ℤ y)))
@@ -54,7 +57,9 @@ module _ (system : LinearSystem) (members : List ℕ) (i j : ℕ) (k : Relation)
       other : (s z y : ℤ) → neg_ℤ (s *ℤ z) *ℤ y ≡ pos 0 +ℤ (pos 0 +ℤ (neg_ℤ s *ℤ (z *ℤ y)))
       other s z y = simp ring (omega (arith, ints))
 
-      go : (m ≡ j) ⊎ (m ≢ j) → (m ≡ i) ⊎ (m ≢ i) → (turned k i j).coefficient m *ℤ v m ≡ (only j (size (k.coefficient j) *ℤ v j) m) +ℤ ((only i ((sign (k.coefficient j) *ℤ k.d) *ℤ v i) m) +ℤ (neg_ℤ (sign (k.coefficient j)) *ℤ (k.coefficient m *ℤ v m)))
+      go : (m ≡ j) ⊎ (m ≢ j) → (m ≡ i) ⊎ (m ≢ i)
+          → (turned k i j).coefficient m *ℤ v m ≡ (only j (size (k.coefficient j) *ℤ v j) m)
+          +ℤ ((only i ((sign (k.coefficient j) *ℤ k.d) *ℤ v i) m) +ℤ (neg_ℤ (sign (k.coefficient j)) *ℤ (k.coefficient m *ℤ v m)))
       go (inl e) _ = rw (e, same j, differs j i (λ f. apart (sym f))) (none (size (k.coefficient j)) (sign (k.coefficient j)) (k.coefficient j) (v j) (sign-times (k.coefficient j)))
       go (inr ne) (inl e) = rw (e, differs i j apart, same i) (first (sign (k.coefficient j) *ℤ k.d) (k.coefficient i) (v i) (sign (k.coefficient j)) lacks_i)
       go (inr ne) (inr ni) = rw (differs m j ne, differs m i ni) (other (sign (k.coefficient j)) (k.coefficient m) (v m))
@@ -65,8 +70,11 @@ module _ (system : LinearSystem) (members : List ℕ) (i j : ℕ) (k : Relation)
       n : ℕ
       n = variables system
 
-      sum : sum_below (variables system) (λ m. (turned k i j).coefficient m *ℤ v m) ≡ (size (k.coefficient j) *ℤ v j) +ℤ (((sign (k.coefficient j) *ℤ k.d) *ℤ v i) +ℤ (neg_ℤ (sign (k.coefficient j)) *ℤ sum_below (variables system) (λ m. k.coefficient m *ℤ v m)))
-      sum = sum_below-same (variables system) _ _ (λ m lt. turned_at v m) ∙ sum_below-plus (variables system) _ _ ∙ ap₂ ◌+ℤ◌ (sum_only (variables system) j _ j_below) (sum_with (variables system) i _ _ _ row.variable)
+      sum : sum_below (variables system) (λ m. (turned k i j).coefficient m *ℤ v m)
+          ≡ (size (k.coefficient j) *ℤ v j) +ℤ (((sign (k.coefficient j) *ℤ k.d) *ℤ v i)
+          +ℤ (neg_ℤ (sign (k.coefficient j)) *ℤ sum_below (variables system) (λ m. k.coefficient m *ℤ v m)))
+      sum = sum_below-same (variables system) _ _ (λ m lt. turned_at v m) ∙ sum_below-plus (variables system) _ _
+          ∙ ap₂ ◌+ℤ◌ (sum_only (variables system) j _ j_below) (sum_with (variables system) i _ _ _ row.variable)
 
       finish : (q h d x y c s sk total : ℤ) → d *ℤ x ≡ (c *ℤ s) +ℤ sk → total ≡ (q *ℤ y) +ℤ (((h *ℤ d) *ℤ x) +ℤ (neg_ℤ h *ℤ sk)) → q *ℤ y ≡ (neg_ℤ (h *ℤ c) *ℤ s) +ℤ total
       finish q h d x y c s sk total e t =
@@ -92,7 +100,8 @@ module _ (system : LinearSystem) (members : List ℕ) (i j : ℕ) (k : Relation)
   -- ---- the new set is free
 
   determined : (scale : ℤ) (v u : ℕ → ℤ) → IsPoint system scale v → IsPoint system scale u → AgreeOn (exchanged members i j) v u → (w : ℕ) → w < variables system → v w ≡ u w
-  determined scale v u p q agree = row.free.determines scale v u p q (λ m has. ⊎_elim (λ e. subst (λ x. v x ≡ u x) (sym e) leaves) (λ ne. agree m (Contains-exchanged_old i j m members has ne)) (equal_or_not m j))
+  determined scale v u p q agree = row.free.determines scale v u p q
+      (λ m has. ⊎_elim (λ e. subst (λ x. v x ≡ u x) (sym e) leaves) (λ ne. agree m (Contains-exchanged_old i j m members has ne)) (equal_or_not m j))
     where
       leaves : v j ≡ u j
       leaves = agree_by system (exchanged members i j) j (turned k i j) turned-holds turned-over (positive_differs _ turned-positive) scale v u p q agree
@@ -125,7 +134,8 @@ module _ (system : LinearSystem) (members : List ℕ) (i j : ℕ) (k : Relation)
         go (inl e) = rw (e, same j) (at_j (k.coefficient j *ℤ (sign (k.coefficient j) *ℤ leaving)) (size (k.coefficient j)) (k.coefficient j))
         go (inr ne) = rw (differs m j ne) (other (k.coefficient m) (size (k.coefficient j)) (wanted m))
 
-    sum_before : sum_below (variables system) (λ m. k.coefficient m *ℤ wanted_before m) ≡ (k.coefficient j *ℤ (sign (k.coefficient j) *ℤ leaving)) +ℤ (size (k.coefficient j) *ℤ sum_below (variables system) (λ m. k.coefficient m *ℤ others m))
+    sum_before : sum_below (variables system) (λ m. k.coefficient m *ℤ wanted_before m)
+        ≡ (k.coefficient j *ℤ (sign (k.coefficient j) *ℤ leaving)) +ℤ (size (k.coefficient j) *ℤ sum_below (variables system) (λ m. k.coefficient m *ℤ others m))
     sum_before = sum_below-same (variables system) _ _ (λ m lt. wanted_at m) ∙ sum_with (variables system) j _ (size (k.coefficient j)) (λ m. k.coefficient m *ℤ others m) j_below
 
     comes : before.v i ≡ (before.times *ℤ size (k.coefficient j)) *ℤ wanted i
@@ -134,7 +144,8 @@ module _ (system : LinearSystem) (members : List ℕ) (i j : ℕ) (k : Relation)
         (finish before.times (size (k.coefficient j)) (sign (k.coefficient j)) (k.coefficient j) k.d (wanted i) (before.v i) k.constant scale _ _ _
         (row.holds _ before.v before.point) (sum_at system members k wanted_before _ before row.over (variables system)) sum_before (times-sign (k.coefficient j)))
       where
-        finish : (t q h kj d x y c s sk total rest : ℤ) → d *ℤ y ≡ (c *ℤ (t *ℤ (q *ℤ s))) +ℤ sk → sk ≡ t *ℤ total → total ≡ (kj *ℤ (h *ℤ (((d *ℤ x) -ℤ (c *ℤ s)) -ℤ rest))) +ℤ (q *ℤ rest) → kj *ℤ h ≡ q → d *ℤ y ≡ d *ℤ ((t *ℤ q) *ℤ x)
+        finish : (t q h kj d x y c s sk total rest : ℤ) → d *ℤ y ≡ (c *ℤ (t *ℤ (q *ℤ s))) +ℤ sk → sk ≡ t *ℤ total
+            → total ≡ (kj *ℤ (h *ℤ (((d *ℤ x) -ℤ (c *ℤ s)) -ℤ rest))) +ℤ (q *ℤ rest) → kj *ℤ h ≡ q → d *ℤ y ≡ d *ℤ ((t *ℤ q) *ℤ x)
         finish t q h kj d x y c s sk total rest e f g u = e ∙ rw (f, g, ← mul_assoc kj h (((d *ℤ x) -ℤ (c *ℤ s)) -ℤ rest), u) (simp ring (omega (arith, ints)))
 
     taken : Takes system (exchanged members i j) wanted scale
@@ -189,4 +200,5 @@ module _ (system : LinearSystem) (members : List ℕ) (i j : ℕ) (k : Relation)
     }
 
   pub turned_row : (l : Relation) → IsReduced (turned k i j) l → DictionaryRow system (exchanged members i j) j l
-  turned_row l r = reduced_row system (exchanged members i j) j (turned k i j) l exchanged_free j_below (λ has. ⊎_elim apart (λ old. old.1 refl) (exchanged-Contains i j j members has)) turned-positive turned-over turned-holds r
+  turned_row l r = reduced_row system (exchanged members i j) j (turned k i j) l exchanged_free j_below
+      (λ has. ⊎_elim apart (λ old. old.1 refl) (exchanged-Contains i j j members has)) turned-positive turned-over turned-holds r

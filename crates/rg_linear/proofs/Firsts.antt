@@ -19,7 +19,8 @@ kept_count key Drops seen (x ∷ xs) kept (inl (gone, k)) = let h = kept_count k
 kept_count key Drops seen (x ∷ xs) kept (inr (stays, fresh, (rest, is, k))) = let h = kept_count key Drops (key x ∷ seen) xs rest k in let e = ap length is in omega arith
 
 -- an item is dropped, or its key is among those seen or those kept
-pub item_stays : {X K : Type 0} (key : X → K) (Drops : X → Type 0) (seen : List K) (xs kept : List X) (x : X) → KeepsEqualRows key Drops seen xs kept → Contains xs x → Drops x ⊎ (Contains seen (key x) ⊎ ((y : X) × Contains kept y × (key y ≡ key x)))
+pub item_stays : {X K : Type 0} (key : X → K) (Drops : X → Type 0) (seen : List K) (xs kept : List X) (x : X) → KeepsEqualRows key Drops seen xs kept
+    → Contains xs x → Drops x ⊎ (Contains seen (key x) ⊎ ((y : X) × Contains kept y × (key y ≡ key x)))
 item_stays key Drops seen [] kept x is (k, lt, e) = absurd (omega arith)
 item_stays {X} {K} key Drops seen (y ∷ xs) kept x (inl (gone, k)) has =
     ⊎_elim
@@ -44,7 +45,8 @@ item_stays {X} {K} key Drops seen (y ∷ xs) kept x (inr (_, _, (rest, is, k))) 
     later (inr (inr (w, h, e))) = inr (inr (w, more w h, e))
 
 -- the items kept are one list
-pub same_kept : {X K : Type 0} (key : X → K) (Drops : X → Type 0) (seen : List K) (xs kept kept' : List X) → KeepsEqualRows key Drops seen xs kept → KeepsEqualRows key Drops seen xs kept' → kept ≡ kept'
+pub same_kept : {X K : Type 0} (key : X → K) (Drops : X → Type 0) (seen : List K) (xs kept kept' : List X) → KeepsEqualRows key Drops seen xs kept
+    → KeepsEqualRows key Drops seen xs kept' → kept ≡ kept'
 same_kept key Drops seen [] kept kept' k k' = k ∙ sym k'
 same_kept key Drops seen (x ∷ xs) kept kept' (inl (g, k)) (inl (g', k')) = same_kept key Drops seen xs kept kept' k k'
 same_kept key Drops seen (x ∷ xs) kept kept' (inl (g, k)) (inr (n, n', (rest, is, k'))) = absurd (⊎_elim n n' g)

@@ -25,7 +25,8 @@ fixed-row : (system : LinearSystem) (rows : List ℕ) (m : ℕ) → Contains (fi
 fixed-row system [] m has = absurd (Contains-nil m has)
 fixed-row system (r ∷ rows) m has = go (Contains-cons_cases (row_variable system r) m (fixed_of system rows) has) (fixed-row system rows m)
   where
-    go : (row_variable system r ≡ m) ⊎ Contains (fixed_of system rows) m → (Contains (fixed_of system rows) m → (s : ℕ) × Contains rows s × (m ≡ row_variable system s)) → (s : ℕ) × Contains (r ∷ rows) s × (m ≡ row_variable system s)
+    go : (row_variable system r ≡ m) ⊎ Contains (fixed_of system rows) m
+        → (Contains (fixed_of system rows) m → (s : ℕ) × Contains rows s × (m ≡ row_variable system s)) → (s : ℕ) × Contains (r ∷ rows) s × (m ≡ row_variable system s)
     go (inl e) more = (r, Contains-here r rows, sym e)
     go (inr rest) more = (let (s, has_s, is) = more rest in (s, Contains-there r s rows has_s, is))
 

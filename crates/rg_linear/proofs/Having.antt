@@ -26,7 +26,8 @@ columns_have system = record { free = columns_free system; rows = λ w lt outsid
 pub none_past : (system : LinearSystem) (members : List ℕ) (raw : Relation) → IsFree system members → IsOver members raw → (m : ℕ) → variables system ≤ m → raw.coefficient m ≡ pos 0
 none_past system members raw free over m past = over m (λ has. (let lt = free.within m has in absurd (omega arith)))
 
-pub exchanged_has : (system : LinearSystem) (members : List ℕ) (i j : ℕ) (k : Relation) → HasDictionary system members → DictionaryRow system members i k → Contains members j → k.coefficient j ≢ pos 0 → HasDictionary system (exchanged members i j)
+pub exchanged_has : (system : LinearSystem) (members : List ℕ) (i j : ℕ) (k : Relation) → HasDictionary system members
+    → DictionaryRow system members i k → Contains members j → k.coefficient j ≢ pos 0 → HasDictionary system (exchanged members i j)
 exchanged_has system members i j k has row member named = record { free = free; rows = λ w lt outside. at w lt outside (equal_or_not w j) (equal_or_not w i) (is_member members w) }
   where
     free : IsFree system (exchanged members i j)
@@ -34,16 +35,20 @@ exchanged_has system members i j k has row member named = record { free = free; 
 
     leaving : (l : Relation) × DictionaryRow system (exchanged members i j) j l
     leaving =
-        let (l, r) = reduce (turned k i j) (variables system) (turned-positive system members i j k row member named) (none_past system (exchanged members i j) (turned k i j) free (turned-over system members i j k row member named)) in
+        let (l, r) = reduce (turned k i j) (variables system) (turned-positive system members i j k row member named)
+        (none_past system (exchanged members i j) (turned k i j) free (turned-over system members i j k row member named)) in
         (l, turned_row system members i j k row member named l r)
 
-    old : (w : ℕ) (l : Relation) → DictionaryRow system members w l → w ≢ i → (l.coefficient j ≡ pos 0) ⊎ (l.coefficient j ≢ pos 0) → (l' : Relation) × DictionaryRow system (exchanged members i j) w l'
+    old : (w : ℕ) (l : Relation) → DictionaryRow system members w l → w ≢ i → (l.coefficient j ≡ pos 0) ⊎ (l.coefficient j ≢ pos 0)
+        → (l' : Relation) × DictionaryRow system (exchanged members i j) w l'
     old w l target other (inl e) = (l, kept_row system members i j k row member named w l target other e)
     old w l target other (inr ne) =
-        let (l', r) = reduce (renewed k i j l) (variables system) (renewed-positive system members i j k row member named w l target other) (none_past system (exchanged members i j) (renewed k i j l) free (renewed-over system members i j k row member named w l target other)) in
+        let (l', r) = reduce (renewed k i j l) (variables system) (renewed-positive system members i j k row member named w l target other)
+        (none_past system (exchanged members i j) (renewed k i j l) free (renewed-over system members i j k row member named w l target other)) in
         (l', renewed_row system members i j k row member named w l target other l' r)
 
-    at : (w : ℕ) → w < variables system → ¬ Contains (exchanged members i j) w → (w ≡ j) ⊎ (w ≢ j) → (w ≡ i) ⊎ (w ≢ i) → Contains members w ⊎ ¬ Contains members w → (l : Relation) × DictionaryRow system (exchanged members i j) w l
+    at : (w : ℕ) → w < variables system → ¬ Contains (exchanged members i j) w → (w ≡ j) ⊎ (w ≢ j) → (w ≡ i) ⊎ (w ≢ i)
+        → Contains members w ⊎ ¬ Contains members w → (l : Relation) × DictionaryRow system (exchanged members i j) w l
     at w lt outside (inl e) _ _ = subst (λ x. (l : Relation) × DictionaryRow system (exchanged members i j) x l) (sym e) leaving
     at w lt outside (inr nj) (inl e) _ = absurd (outside (subst (λ x. Contains (exchanged members i j) x) (sym e) (Contains-exchanged_new i j members)))
     at w lt outside (inr nj) (inr ni) (inl member) = absurd (outside (Contains-exchanged_old i j w members member nj))

@@ -15,8 +15,11 @@ use Rattle.rg_integers.proofs.Signs.{abs-negated}
 use Rattle.rg_linear.proofs.Members.{equal_or_not, differs, same, Contains-here, Contains-there, without-Contains}
 
 -- the values of the terms are the numbers of the renewed relation, in order
-pub terms-values : (members : List ℕ) (k : Relation) (i j : ℕ) (l : Relation) → ¬ Contains members i → map term_value (terms members k j l) ≡ (renewed k i j l).d ∷ (renewed k i j l).constant ∷ map (renewed k i j l).coefficient (without j members) ++ (renewed k i j l).coefficient i ∷ []
-terms-values members k i j l outside = ap₂ (λ a bs. a ∷ (renewed k i j l).constant ∷ bs) (first l.d (size (k.coefficient j))) (rest (without j members) (λ has. outside (without-Contains j i members has).0))
+pub terms-values : (members : List ℕ) (k : Relation) (i j : ℕ) (l : Relation) → ¬ Contains members i
+    → map term_value (terms members k j l) ≡ (renewed k i j l).d ∷ (renewed k i j l).constant ∷ map (renewed k i j l).coefficient (without j members)
+    ++ (renewed k i j l).coefficient i ∷ []
+terms-values members k i j l outside = ap₂ (λ a bs. a ∷ (renewed k i j l).constant ∷ bs) (first l.d (size (k.coefficient j)))
+    (rest (without j members) (λ has. outside (without-Contains j i members has).0))
   where
     first : (e q : ℤ) → (e *ℤ q) -ℤ (pos 0 *ℤ pos 0) ≡ e *ℤ q
     first e q = omega (arith, ints)
@@ -33,9 +36,6 @@ terms-values members k i j l outside = ap₂ (λ a bs. a ∷ (renewed k i j l).c
     rest : (ms : List ℕ) → ¬ Contains ms i → map term_value (map at ms ++ final ∷ []) ≡ map (renewed k i j l).coefficient ms ++ (renewed k i j l).coefficient i ∷ []
     rest [] outside = ap (λ z. z ∷ []) (last (size (k.coefficient j)) (sign (k.coefficient j) *ℤ k.d) (l.coefficient j) ∙ rw (same i) refl)
     rest (m ∷ ms) outside = ap₂ ◌∷◌ (rw (differs m i (λ e. outside (subst (Contains (m ∷ ms)) e (Contains-here m ms)))) refl) (rest ms (λ has. outside (Contains-there m i ms has)))
-
-size-size : (z : ℤ) → unsigned_abs (size z) ≡ unsigned_abs z
-size-size z = refl
 
 size-signed : (s z : ℤ) → unsigned_abs (sign s *ℤ z) ≡ unsigned_abs z
 size-signed (pos n) z = ap unsigned_abs (one-mul z)

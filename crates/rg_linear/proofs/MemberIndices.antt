@@ -93,7 +93,9 @@ past_other xs b i h a differs = record {
 pub index_for-is : (i : ℕ) (ns : List ℕ) (b : ℕ) → b ≤ length ns → ((k : ℕ) → k < b → get_or ns k 0 ≤ i) → ((k : ℕ) → b ≤ k → k < length ns → i < get_or ns k 0) → index_for i ns ≡ b
 index_for-is i [] b le below above = omega arith
 index_for-is i (n ∷ ns) zero le below above = rw (below_test i n (above 0 (omega arith) (omega arith))) refl
-index_for-is i (n ∷ ns) (suc b) le below above = rw (past_test i n (below 0 (omega arith))) (one (index_for i ns) (index_for-is i ns b (omega arith) (λ k lt. below (suc k) (omega arith)) (λ k ge lt. above (suc k) (omega arith) (omega arith))))
+index_for-is i (n ∷ ns) (suc b) le below above =
+    rw (past_test i n (below 0 (omega arith)))
+    (one (index_for i ns) (index_for-is i ns b (omega arith) (λ k lt. below (suc k) (omega arith)) (λ k ge lt. above (suc k) (omega arith) (omega arith))))
   where
     one : (m : ℕ) → m ≡ b → 1 + m ≡ suc b
     one m e = omega arith
@@ -102,7 +104,8 @@ pub gone : (xs : List ℕ) (p : ℕ) → IsStrictlyIncreasing xs → p < length 
 gone xs p h lt = without-split xs p (order_from_increasing xs h) lt
 
 -- the index of a number that is no member, where the member at p leaves
-pub index_behind : (xs : List ℕ) (p b i : ℕ) → IsStrictlyIncreasing xs → p < length xs → b ≤ length xs → ¬ Contains xs i → ((k : ℕ) → k < b → get_or xs k 0 < i) → ((k : ℕ) → b ≤ k → k < length xs → i ≤ get_or xs k 0)
+pub index_behind : (xs : List ℕ) (p b i : ℕ) → IsStrictlyIncreasing xs → p < length xs → b ≤ length xs → ¬ Contains xs i
+    → ((k : ℕ) → k < b → get_or xs k 0 < i) → ((k : ℕ) → b ≤ k → k < length xs → i ≤ get_or xs k 0)
     → p < b → b - 1 ≡ index_for i (without (get_or xs p 0) xs)
 index_behind xs p b i h lt le lacks below others less = sym (ap (index_for i) (gone xs p h lt) ∙ index_for-is i (remove xs p) (b - 1) (omega (arith, length-remove xs p lt)) under over)
   where
@@ -122,7 +125,8 @@ index_behind xs p b i h lt le lacks below others less = sym (ap (index_for i) (g
         equal : get_or (remove xs p) k 0 ≡ get_or xs (k + 1) 0 → i ≤ get_or xs (k + 1) 0 → get_or (remove xs p) k 0 ≤ i → get_or xs (k + 1) 0 ≡ i
         equal e f most = omega arith
 
-pub index_before : (xs : List ℕ) (p b i : ℕ) → IsStrictlyIncreasing xs → p < length xs → b ≤ length xs → ¬ Contains xs i → ((k : ℕ) → k < b → get_or xs k 0 < i) → ((k : ℕ) → b ≤ k → k < length xs → i ≤ get_or xs k 0)
+pub index_before : (xs : List ℕ) (p b i : ℕ) → IsStrictlyIncreasing xs → p < length xs → b ≤ length xs → ¬ Contains xs i
+    → ((k : ℕ) → k < b → get_or xs k 0 < i) → ((k : ℕ) → b ≤ k → k < length xs → i ≤ get_or xs k 0)
     → b ≤ p → b ≡ index_for i (without (get_or xs p 0) xs)
 index_before xs p b i h lt le lacks below others most = sym (ap (index_for i) (gone xs p h lt) ∙ index_for-is i (remove xs p) b (omega (arith, length-remove xs p lt)) under over)
   where

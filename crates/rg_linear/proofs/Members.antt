@@ -187,7 +187,8 @@ length-without j (x ∷ xs) h has = go (x == j) refl (Contains-cons_cases x j xs
         at true e ih = absurd (lacks (subst (λ z. Contains (y ∷ ys) z) (eqb-true y j e) (Contains-here y ys)))
         at false e ih = ap (λ zs. y ∷ zs) ih
 
-    go : (b : Bool) → (x == j) ≡ b → (x ≡ j) ⊎ Contains xs j → (Contains xs j → suc (length (without j xs)) ≡ length xs) → suc (length (if b then without j xs else (x ∷ without j xs))) ≡ suc (length xs)
+    go : (b : Bool) → (x == j) ≡ b → (x ≡ j) ⊎ Contains xs j → (Contains xs j → suc (length (without j xs)) ≡ length xs)
+        → suc (length (if b then without j xs else (x ∷ without j xs))) ≡ suc (length xs)
     go true e is ih = ap (λ ys. suc (length ys)) (none xs (λ has. let lt : x < j = h.0 j has in let is' : x ≡ j = eqb-true x j e in omega arith))
     go false e (inl is) ih = absurd (false≢true (sym e ∙ eq-eqb x j is))
     go false e (inr there) ih = ap suc (ih there)

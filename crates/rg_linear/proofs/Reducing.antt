@@ -27,7 +27,8 @@ reduce raw n positive none = (
     d = sym (out raw.d d_divided);
     constant = sym (out raw.constant c_divided);
     coefficients = λ m. sym (out (raw.coefficient m) (m_divided m));
-    primitive = λ e de ce me. one e (all.2 (e * g) (first_is.2 (e * g) (scaled e raw.d d_divided de) (scaled e raw.constant c_divided ce)) (named_is.greatest (e * g) (λ m lt. scaled e (raw.coefficient m) (m_divided m) (me m))));
+    primitive = λ e de ce me. one e (all.2 (e * g) (first_is.2 (e * g) (scaled e raw.d d_divided de) (scaled e raw.constant c_divided ce))
+        (named_is.greatest (e * g) (λ m lt. scaled e (raw.coefficient m) (m_divided m) (me m))));
   },
 )
   where
@@ -109,7 +110,8 @@ reduced-positive raw l r h = let weak : pos 0 ≤ℤ r.factor = not_negative r.f
     not_negative z p = omega (arith, ints)
 
 -- a relation that holds over a free set is the one over it, once its common factor is out
-pub reduced_row : (system : LinearSystem) (members : List ℕ) (w : ℕ) (raw l : Relation) → IsFree system members → w < variables system → ¬ Contains members w → pos 0 <ℤ raw.d → IsOver members raw → Holds system w raw → IsReduced raw l → DictionaryRow system members w l
+pub reduced_row : (system : LinearSystem) (members : List ℕ) (w : ℕ) (raw l : Relation) → IsFree system members → w < variables system
+    → ¬ Contains members w → pos 0 <ℤ raw.d → IsOver members raw → Holds system w raw → IsReduced raw l → DictionaryRow system members w l
 reduced_row system members w raw l free lt outside positive over holds r = record {
   free = free;
   variable = lt;

@@ -123,7 +123,8 @@ signs system (z ∷ fixed) k b (w, witnessed) over above positive y has = ⊎_el
         omega (arith, ints)
 
     still_positive : (scale : ℤ) (v : ℕ → ℤ) → IsPoint system scale v → RowsMet system (suc w.i) v → pos 0 <ℤ sum_below (variables system) (λ m. (if m == z then pos 0 else k m) *ℤ v m)
-    still_positive scale v p met = more _ (k z) (v z) _ (sum_less (variables system) z k v z_within) (positive scale v p (λ m lt. met m (lowered b (suc w.i) m (up b w.i bounded) lt))) first (subst (λ x. pos 0 ≤ℤ v x) w.is (met w.i (here w.i)))
+    still_positive scale v p met = more _ (k z) (v z) _ (sum_less (variables system) z k v z_within)
+        (positive scale v p (λ m lt. met m (lowered b (suc w.i) m (up b w.i bounded) lt))) first (subst (λ x. pos 0 ≤ℤ v x) w.is (met w.i (here w.i)))
       where
         up : (a i : ℕ) → a ≤ i → a ≤ suc i
         up a i h = omega arith
@@ -161,7 +162,8 @@ witness_of system members fixed i k lt row negative met all above =
       v = t.v;
       point = t.point;
       zeros = λ y has. zeros y (all y has);
-      fails = below k.d (t.v (row_variable system i)) k.constant (t.times *ℤ pos 1) row.positive t.point.positive negative (constant_left system members (row_variable system i) k row (t.times *ℤ pos 1) t.v t.point zeros);
+      fails = below k.d (t.v (row_variable system i)) k.constant (t.times *ℤ pos 1) row.positive t.point.positive negative
+          (constant_left system members (row_variable system i) k row (t.times *ℤ pos 1) t.v t.point zeros);
       met = λ m less. met_at_zero system members i met (t.times *ℤ pos 1) t.v t.point zeros m less;
     }
   where
@@ -180,15 +182,19 @@ pub refuted_well : (system : LinearSystem) (members fixed : List ℕ) (r i : ℕ
     → MetBelow system members i → AllIn fixed members → Witnessed system fixed → ((y : ℕ) → Contains fixed y → row_variable system r ≤ y) → RefutedWell system o
 refuted_well system members fixed r i o (after_last le) within met all witnessed above = tt
 refuted_well system members fixed r i o (satisfied lt p d) within met all witnessed above = refuted_well system members fixed r (suc i) o d within (one_more system members i met p) all witnessed above
-refuted_well system members fixed r i o (stuck lt s) within met all witnessed above = record { within = omega arith; stuck = s; all = all; witnessed = witnessed; above = λ y has. (let h = above y has in omega arith) }
+refuted_well system members fixed r i o (stuck lt s) within met all witnessed above =
+    record { within = omega arith; stuck = s; all = all; witnessed = witnessed; above = λ y has. (let h = above y has in omega arith) }
 refuted_well system members fixed r i o (passes j w n t lt c f) within met all witnessed above = tt
 refuted_well system members fixed r i o (stops_below j lt c fit d stop) within met all witnessed above =
     refuted_well system (exchanged members (row_variable system i) j) (row_variable system i ∷ fixed) i 0 o d (omega arith) (λ m less. absurd (omega arith)) (fixed_stay system members fixed i j c all)
     (witness_of system members fixed i c.k (omega arith) c.row c.negative met all (λ y has. (let h = above y has in omega arith)), witnessed)
     (λ y has. ⊎_elim (λ e. omega arith) (λ there. (let h = above y there in omega arith)) (Contains-cons_cases (row_variable system i) y fixed has))
 refuted_well system members fixed r i o (goes_on j after lt c fit d rest) within met all witnessed above =
-    let b = point_meets system (exchanged members (row_variable system i) j) (row_variable system i ∷ fixed) i 0 (point after) d (λ m less. absurd (omega arith)) (fixed_stay system members fixed i j c all) in
-    refuted_well system after fixed r (suc i) o rest within (one_more system after i b.0 (inl (b.1 (row_variable system i) (Contains-here (row_variable system i) fixed)))) (λ m has. b.1 m (Contains-there (row_variable system i) m fixed has)) witnessed above
+    let b = point_meets system (exchanged members (row_variable system i) j) (row_variable system i ∷ fixed) i 0 (point after) d
+    (λ m less. absurd (omega arith)) (fixed_stay system members fixed i j c all) in
+    refuted_well system after fixed r (suc i) o rest within
+    (one_more system after i b.0 (inl (b.1 (row_variable system i) (Contains-here (row_variable system i) fixed))))
+    (λ m has. b.1 m (Contains-there (row_variable system i) m fixed has)) witnessed above
 
 -- ---- the multipliers
 
@@ -213,8 +219,11 @@ fixed_negative system members fixed i k at row negative over = signs system fixe
     positive scale v p met = more k.d (v (row_variable system i)) k.constant scale _ (row.holds scale v p) row.positive (met i (here i)) p.positive negative
 
 -- the relation of a refuted row names fixed variables alone
-over_fixed : (system : LinearSystem) (members fixed : List ℕ) (i : ℕ) (k : Relation) → IsStuck system members fixed i → DictionaryRow system members (row_variable system i) k → (m : ℕ) → ¬ Contains fixed m → k.coefficient m ≡ pos 0
-over_fixed system members fixed i k s row m free = ⊎_elim (λ has. subst (λ x. x.coefficient m ≡ pos 0) (same_relation system members (row_variable system i) s.k k s.row row) (s.none m has free)) (λ lacks. row.over m lacks) (is_member members m)
+over_fixed : (system : LinearSystem) (members fixed : List ℕ) (i : ℕ) (k : Relation) → IsStuck system members fixed i
+    → DictionaryRow system members (row_variable system i) k → (m : ℕ) → ¬ Contains fixed m → k.coefficient m ≡ pos 0
+over_fixed system members fixed i k s row m free =
+    ⊎_elim (λ has. subst (λ x. x.coefficient m ≡ pos 0) (same_relation system members (row_variable system i) s.k k s.row row) (s.none m has free))
+    (λ lacks. row.over m lacks) (is_member members m)
 
 stuck_negative : (system : LinearSystem) (members fixed : List ℕ) (i : ℕ) (k : Relation) → IsStuck system members fixed i → DictionaryRow system members (row_variable system i) k → k.constant <ℤ pos 0
 stuck_negative system members fixed i k s row = subst (λ x. x.constant <ℤ pos 0) (same_relation system members (row_variable system i) s.k k s.row row) s.negative
@@ -223,7 +232,8 @@ module _ (system : LinearSystem) (members fixed : List ℕ) (i : ℕ) (k : Relat
   -- at every point the multiplied rows add up to the negative constant
   summed : (scale : ℤ) (v : ℕ → ℤ) → IsPoint system scale v → sum_below (length system.rows) (λ m. multiplier_of system k i m *ℤ v (row_variable system m)) ≡ k.constant *ℤ scale
   summed scale v p =
-      sum_below-same (length system.rows) _ (λ m. only i (k.d *ℤ v (row_variable system i)) m +ℤ (negsuc 0 *ℤ (k.coefficient (row_variable system m) *ℤ v (row_variable system m)))) (λ m lt. piece m (equal_or_not m i))
+      sum_below-same (length system.rows) _ (λ m. only i (k.d *ℤ v (row_variable system i)) m
+      +ℤ (negsuc 0 *ℤ (k.coefficient (row_variable system m) *ℤ v (row_variable system m)))) (λ m lt. piece m (equal_or_not m i))
       ∙ sum_with (length system.rows) i _ (negsuc 0) (λ m. k.coefficient (row_variable system m) *ℤ v (row_variable system m)) at.within
       ∙ finish _ _ _ _ _ (row.holds scale v p) (sum_below-split system.columns (length system.rows) (λ m. k.coefficient m *ℤ v m)) columns_none
     where
@@ -236,7 +246,8 @@ module _ (system : LinearSystem) (members fixed : List ℕ) (i : ℕ) (k : Relat
           minus : (x : ℤ) → negsuc 0 *ℤ x ≡ neg_ℤ x
           minus x = omega (arith, ints)
 
-      piece : (m : ℕ) → (m ≡ i) ⊎ (m ≢ i) → multiplier_of system k i m *ℤ v (row_variable system m) ≡ only i (k.d *ℤ v (row_variable system i)) m +ℤ (negsuc 0 *ℤ (k.coefficient (row_variable system m) *ℤ v (row_variable system m)))
+      piece : (m : ℕ) → (m ≡ i) ⊎ (m ≢ i) → multiplier_of system k i m *ℤ v (row_variable system m)
+          ≡ only i (k.d *ℤ v (row_variable system i)) m +ℤ (negsuc 0 *ℤ (k.coefficient (row_variable system m) *ℤ v (row_variable system m)))
       piece m (inl e) = rw (e, same i) (first (k.d *ℤ v (row_variable system i)) (k.coefficient (row_variable system i)) (v (row_variable system i)) (row.over (row_variable system i) row.outside))
       piece m (inr ne) = rw (differs m i ne) (other (k.coefficient (row_variable system m)) (v (row_variable system m)))
 
@@ -254,7 +265,8 @@ module _ (system : LinearSystem) (members fixed : List ℕ) (i : ℕ) (k : Relat
 
   -- the same where the columns have the values x
   summed_at : (x : ℕ → ℤ) → sum_below (length system.rows) (λ m. multiplier_of system k i m *ℤ row_value system (pos 1) x m) ≡ k.constant
-  summed_at x = sum_below-same (length system.rows) _ _ (λ m lt. ap (λ z. multiplier_of system k i m *ℤ z) (sym (values_of-row system (pos 1) x m))) ∙ summed (pos 1) (values_of system (pos 1) x) (values_of-point system (pos 1) x (omega (arith, ints))) ∙ mul-one k.constant
+  summed_at x = sum_below-same (length system.rows) _ _ (λ m lt. ap (λ z. multiplier_of system k i m *ℤ z) (sym (values_of-row system (pos 1) x m)))
+      ∙ summed (pos 1) (values_of system (pos 1) x) (values_of-point system (pos 1) x (omega (arith, ints))) ∙ mul-one k.constant
 
   constants : sum_below (length system.rows) (λ m. multiplier_of system k i m *ℤ (row_at system m).constant) ≡ k.constant
   unfolding row_value
@@ -297,7 +309,9 @@ module _ (system : LinearSystem) (members fixed : List ℕ) (i : ℕ) (k : Relat
 
       sign_of : (m : ℕ) → (m ≡ i) ⊎ (m ≢ i) → Contains fixed (row_variable system m) ⊎ ¬ Contains fixed (row_variable system m) → pos 0 ≤ℤ multiplier_of system k i m
       sign_of m (inl e) _ = rw (e, same i) (weak k.d row.positive)
-      sign_of m (inr ne) (inl has) = rw (differs m i ne) (turned _ (fixed_negative system members fixed i k at row (stuck_negative system members fixed i k at.stuck row) (over_fixed system members fixed i k at.stuck row) _ has))
+      sign_of m (inr ne) (inl has) = rw (differs m i ne)
+          (turned _ (fixed_negative system members fixed i k at row (stuck_negative system members fixed i k at.stuck row)
+          (over_fixed system members fixed i k at.stuck row) _ has))
       sign_of m (inr ne) (inr free) = rw (differs m i ne) (zero_turned _ (over_fixed system members fixed i k at.stuck row _ free))
 
 -- multipliers that refute leave no point
@@ -317,16 +331,21 @@ refutes_is_sound system multiplier r scale v p meets =
         regroup : (a b c : ℤ) → a *ℤ (b *ℤ c) ≡ c *ℤ (a *ℤ b)
         regroup a b c = simp ring
 
-    constants_part : sum_below (length system.rows) (λ i. multiplier i *ℤ ((row_at system i).constant *ℤ scale)) ≡ scale *ℤ sum_below (length system.rows) (λ i. multiplier i *ℤ (row_at system i).constant)
-    constants_part = sum_below-same (length system.rows) _ (λ i. scale *ℤ (multiplier i *ℤ (row_at system i).constant)) (λ i lt. regroup (multiplier i) (row_at system i).constant scale) ∙ sum_below-times (length system.rows) scale (λ i. multiplier i *ℤ (row_at system i).constant)
+    constants_part : sum_below (length system.rows) (λ i. multiplier i *ℤ ((row_at system i).constant *ℤ scale))
+        ≡ scale *ℤ sum_below (length system.rows) (λ i. multiplier i *ℤ (row_at system i).constant)
+    constants_part = sum_below-same (length system.rows) _ (λ i. scale *ℤ (multiplier i *ℤ (row_at system i).constant))
+        (λ i lt. regroup (multiplier i) (row_at system i).constant scale) ∙ sum_below-times (length system.rows) scale (λ i. multiplier i *ℤ (row_at system i).constant)
       where
         regroup : (a b c : ℤ) → a *ℤ (b *ℤ c) ≡ c *ℤ (a *ℤ b)
         regroup a b c = simp ring
 
-    parts : sum_below (length system.rows) (λ i. multiplier i *ℤ v (row_variable system i)) ≡ sum_below (length system.rows) (λ i. multiplier i *ℤ sum_below system.columns (λ j. entry system i j *ℤ v j)) +ℤ sum_below (length system.rows) (λ i. multiplier i *ℤ ((row_at system i).constant *ℤ scale))
+    parts : sum_below (length system.rows) (λ i. multiplier i *ℤ v (row_variable system i))
+        ≡ sum_below (length system.rows) (λ i. multiplier i *ℤ sum_below system.columns (λ j. entry system i j *ℤ v j))
+        +ℤ sum_below (length system.rows) (λ i. multiplier i *ℤ ((row_at system i).constant *ℤ scale))
     parts = sum_below-same (length system.rows) _ _ (λ i lt. ap (λ z. multiplier i *ℤ z) (p.rows i lt) ∙ mul-add (multiplier i) _ _) ∙ sum_below-plus (length system.rows) _ _
 
-    whole : pos 0 ≤ℤ sum_below (length system.rows) (λ i. multiplier i *ℤ v (row_variable system i)) → pos 0 ≤ℤ (scale *ℤ sum_below (length system.rows) (λ i. multiplier i *ℤ (row_at system i).constant))
+    whole : pos 0 ≤ℤ sum_below (length system.rows) (λ i. multiplier i *ℤ v (row_variable system i))
+        → pos 0 ≤ℤ (scale *ℤ sum_below (length system.rows) (λ i. multiplier i *ℤ (row_at system i).constant))
     whole h = join _ _ _ _ h parts columns_part constants_part
       where
         join : (a b c d : ℤ) → pos 0 ≤ℤ a → a ≡ b +ℤ c → b ≡ pos 0 → c ≡ d → pos 0 ≤ℤ d
@@ -341,9 +360,11 @@ refutes_is_sound system multiplier r scale v p meets =
 
 -- from the start
 pub start_refuted : (system : LinearSystem) (members fixed : List ℕ) (i : ℕ) → DescentFromStart system (refuted members i fixed) → IsRefutedAt system members i fixed
-start_refuted system members fixed i d = refuted_well system (column_set system) [] (length system.rows) 0 (refuted members i fixed) d (omega arith) (λ m lt. absurd (omega arith)) (λ m has. absurd (Contains-nil m has)) tt (λ y has. absurd (Contains-nil y has))
+start_refuted system members fixed i d = refuted_well system (column_set system) [] (length system.rows) 0 (refuted members i fixed) d (omega arith)
+    (λ m lt. absurd (omega arith)) (λ m has. absurd (Contains-nil m has)) tt (λ y has. absurd (Contains-nil y has))
 
-pub refuted_is_sound : (system : LinearSystem) (members fixed : List ℕ) (i : ℕ) (k : Relation) → DescentFromStart system (refuted members i fixed) → DictionaryRow system members (row_variable system i) k → AreFarkasMultipliers system (multiplier_of system k i)
+pub refuted_is_sound : (system : LinearSystem) (members fixed : List ℕ) (i : ℕ) (k : Relation) → DescentFromStart system (refuted members i fixed)
+    → DictionaryRow system members (row_variable system i) k → AreFarkasMultipliers system (multiplier_of system k i)
 refuted_is_sound system members fixed i k d row = multipliers_refute system members fixed i k (start_refuted system members fixed i d) row
 
 pub multiplier_positive : (system : LinearSystem) (members fixed : List ℕ) (i : ℕ) (k : Relation) → DescentFromStart system (refuted members i fixed)
@@ -359,8 +380,11 @@ multiplier_positive system members fixed i k d row m which = go which (equal_or_
     go : (m ≡ i) ⊎ Contains fixed (row_variable system m) → (m ≡ i) ⊎ (m ≢ i) → pos 0 <ℤ multiplier_of system k i m
     go _ (inl e) = rw (e, same i) row.positive
     go (inl e) (inr ne) = absurd (ne e)
-    go (inr has) (inr ne) = rw (differs m i ne) (turned _ (fixed_negative system members fixed i k at row (stuck_negative system members fixed i k at.stuck row) (over_fixed system members fixed i k at.stuck row) _ has))
+    go (inr has) (inr ne) = rw (differs m i ne)
+        (turned _ (fixed_negative system members fixed i k at row (stuck_negative system members fixed i k at.stuck row)
+        (over_fixed system members fixed i k at.stuck row) _ has))
 
 pub multiplier_other : (system : LinearSystem) (members fixed : List ℕ) (i : ℕ) (k : Relation) → DescentFromStart system (refuted members i fixed)
     → DictionaryRow system members (row_variable system i) k → (m : ℕ) → m ≢ i → ¬ Contains fixed (row_variable system m) → multiplier_of system k i m ≡ pos 0
-multiplier_other system members fixed i k d row m ne free = rw (differs m i ne, over_fixed system members fixed i k (start_refuted system members fixed i d).stuck row (row_variable system m) free) refl
+multiplier_other system members fixed i k d row m ne free =
+    rw (differs m i ne, over_fixed system members fixed i k (start_refuted system members fixed i d).stuck row (row_variable system m) free) refl

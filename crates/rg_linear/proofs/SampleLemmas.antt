@@ -33,7 +33,15 @@ named_first : first.coefficient 0 ≢ pos 0
 named_first e = cc
 
 chooses_first : Chooses passing (0 ∷ []) [] 0 0
-chooses_first = record { k = first; row = first_row; negative = omega (arith, ints); member = Contains-here 0 []; not_fixed = Contains-nil 0; named = named_first; least = λ m has free lt. absurd (omega arith) }
+chooses_first = record {
+  k = first;
+  row = first_row;
+  negative = omega (arith, ints);
+  member = Contains-here 0 [];
+  not_fixed = Contains-nil 0;
+  named = named_first;
+  least = λ m has free lt. absurd (omega arith);
+}
 
 -- the terms of the first exchange
 terms_fit : (n : ℕ) (t : Wide) → slice_get (terms (0 ∷ []) first 0 second) n ≡ Some t → FitsTerm t
@@ -75,7 +83,15 @@ column_row : DictionaryRow passing (1 ∷ []) 0 column
 column_row = turned_row passing (0 ∷ []) 1 0 first first_row (Contains-here 0 []) named_first column (turned_reduced passing (0 ∷ []) 1 0 first first_row (Contains-here 0 []))
 
 chooses_third : Chooses passing (1 ∷ []) [] 1 1
-chooses_third = record { k = third; row = third_row; negative = omega (arith, ints); member = Contains-here 1 []; not_fixed = Contains-nil 1; named = λ e. cc; least = λ m has free lt. ⊎_elim (λ e. absurd (omega arith)) (λ there. absurd (Contains-nil m there)) (Contains-cons_cases 1 m [] has) }
+chooses_third = record {
+  k = third;
+  row = third_row;
+  negative = omega (arith, ints);
+  member = Contains-here 1 [];
+  not_fixed = Contains-nil 1;
+  named = λ e. cc;
+  least = λ m has free lt. ⊎_elim (λ e. absurd (omega arith)) (λ there. absurd (Contains-nil m there)) (Contains-cons_cases 1 m [] has);
+}
 
 too_wide : FirstWide passing (1 ∷ []) 2 1 0 0 passing_term
 too_wide = record {

@@ -31,8 +31,11 @@ map-append f [] ys = refl
 map-append f (x ∷ xs) ys = ap (λ zs. f x ∷ zs) (map-append f xs ys)
 
 -- the system of a side is that of its node with the row of the side
-pub node_system-side : (system : LinearSystem) (forms : List Form) (above : List SplitSide) (side : SplitSide) → node_system system forms (above ++ side ∷ []) ≡ with_row (node_system system forms above) (side_row forms side)
-node_system-side system forms above side = ap (λ rows. record { columns = system.columns; rows = rows }) (ap (λ zs. system.rows ++ zs) (map-append (side_row forms) above (side ∷ [])) ∙ sym (append_assoc system.rows (map (side_row forms) above) (side_row forms side ∷ [])))
+pub node_system-side : (system : LinearSystem) (forms : List Form) (above : List SplitSide) (side : SplitSide)
+    → node_system system forms (above ++ side ∷ []) ≡ with_row (node_system system forms above) (side_row forms side)
+node_system-side system forms above side = ap (λ rows. record { columns = system.columns; rows = rows })
+    (ap (λ zs. system.rows ++ zs) (map-append (side_row forms) above (side ∷ []))
+    ∙ sym (append_assoc system.rows (map (side_row forms) above) (side_row forms side ∷ [])))
 
 pub index-front : {A : Type 0} (xs ys : List A) (d : A) (i : ℕ) → i < length xs → slice_index_or (xs ++ ys) i d ≡ slice_index_or xs i d
 index-front [] ys d i lt = absurd (omega arith)
@@ -70,7 +73,8 @@ meets_with system row scale x meets here i lt = ⊎_elim
 
 -- ---- the rows of the sides
 
-pub low_worth : (system : LinearSystem) (forms : List Form) (f : ℕ) (u scale : ℤ) (x : ℕ → ℤ) → worth system.columns (side_row forms (low_side f u)) scale x ≡ (u *ℤ ((form_at forms f).scale *ℤ scale)) -ℤ scaled_value system (form_at forms f) x
+pub low_worth : (system : LinearSystem) (forms : List Form) (f : ℕ) (u scale : ℤ) (x : ℕ → ℤ)
+    → worth system.columns (side_row forms (low_side f u)) scale x ≡ (u *ℤ ((form_at forms f).scale *ℤ scale)) -ℤ scaled_value system (form_at forms f) x
 low_worth system forms f u scale x = finish _ (scaled_value system (form_at forms f) x) (form_at forms f).scale u scale
     (sum_below-same system.columns _ (λ j. negsuc 0 *ℤ (slice_index_or (form_at forms f).coeffs j (pos 0) *ℤ x j))
     (λ j lt. ap (λ z. z *ℤ x j) (index-neg (form_at forms f).coeffs j) ∙ turn (slice_index_or (form_at forms f).coeffs j (pos 0)) (x j))
@@ -85,7 +89,8 @@ low_worth system forms f u scale x = finish _ (scaled_value system (form_at form
     finish : (a v f u s : ℤ) → a ≡ negsuc 0 *ℤ v → a +ℤ ((f *ℤ u) *ℤ s) ≡ (u *ℤ (f *ℤ s)) -ℤ v
     finish a v f u s e = let m = minus v in let g : (f *ℤ u) *ℤ s ≡ u *ℤ (f *ℤ s) = simp ring in omega (arith, ints)
 
-pub high_worth : (system : LinearSystem) (forms : List Form) (f : ℕ) (u scale : ℤ) (x : ℕ → ℤ) → worth system.columns (side_row forms (high_side f u)) scale x ≡ scaled_value system (form_at forms f) x -ℤ ((u +ℤ pos 1) *ℤ ((form_at forms f).scale *ℤ scale))
+pub high_worth : (system : LinearSystem) (forms : List Form) (f : ℕ) (u scale : ℤ) (x : ℕ → ℤ)
+    → worth system.columns (side_row forms (high_side f u)) scale x ≡ scaled_value system (form_at forms f) x -ℤ ((u +ℤ pos 1) *ℤ ((form_at forms f).scale *ℤ scale))
 high_worth system forms f u scale x = finish (scaled_value system (form_at forms f) x) (form_at forms f).scale u scale
   where
     finish : (v f u s : ℤ) → v +ℤ ((neg_ℤ (f *ℤ u) -ℤ f) *ℤ s) ≡ v -ℤ ((u +ℤ pos 1) *ℤ (f *ℤ s))
@@ -96,12 +101,15 @@ high_worth system forms f u scale x = finish (scaled_value system (form_at forms
 -- multipliers that refute leave no values of the columns
 none_meets : (system : LinearSystem) (multiplier : ℕ → ℤ) → AreFarkasMultipliers system multiplier → (scale : ℤ) (x : ℕ → ℤ) → pos 0 <ℤ scale → MeetsAt system scale x → ⊥
 unfolding row_value
-none_meets system multiplier r scale x h meets = refutes_is_sound system multiplier r scale (values_of system scale x) (values_of-point system scale x h) (λ i lt. subst (λ z. pos 0 ≤ℤ z) (sym (values_of-row system scale x i)) (meets i lt))
+none_meets system multiplier r scale x h meets =
+    refutes_is_sound system multiplier r scale (values_of system scale x) (values_of-point system scale x h)
+    (λ i lt. subst (λ z. pos 0 ≤ℤ z) (sym (values_of-row system scale x i)) (meets i lt))
 
 one_side : (system : LinearSystem) (forms : List Form) (above : List SplitSide) (side : SplitSide) (scale : ℤ) (x : ℕ → ℤ)
     → MeetsAt (node_system system forms above) scale x → pos 0 ≤ℤ worth system.columns (side_row forms side) scale x
     → MeetsAt (node_system system forms (above ++ side ∷ [])) scale x
-one_side system forms above side scale x meets here = subst (λ s. MeetsAt s scale x) (sym (node_system-side system forms above side)) (meets_with (node_system system forms above) (side_row forms side) scale x meets here)
+one_side system forms above side scale x meets here =
+    subst (λ s. MeetsAt s scale x) (sym (node_system-side system forms above side)) (meets_with (node_system system forms above) (side_row forms side) scale x meets here)
 
 pub tree_leaves_none : (system : LinearSystem) (forms : List Form) (above : List SplitSide) (t : SplitTree) → ArePositive forms → SplitsForms forms t
     → SplitTreeRefutes system forms above t → (scale : ℤ) (x : ℕ → ℤ) → pos 0 <ℤ scale → MeetsAt (node_system system forms above) scale x
@@ -109,8 +117,10 @@ pub tree_leaves_none : (system : LinearSystem) (forms : List Form) (above : List
 tree_leaves_none system forms above (leaf weights) positive within shown scale x h meets wholes = none_meets (node_system system forms above) (multiplier_in weights) shown scale x h meets
 tree_leaves_none system forms above (split f u low high) positive (lt, in_low, in_high) (refutes_low, refutes_high) scale x h meets wholes =
     by_lt_z u (wholes f lt).0
-    (λ more. tree_leaves_none system forms (above ++ high_side f u ∷ []) high positive in_high refutes_high scale x h (one_side system forms above (high_side f u) scale x meets (subst (λ z. pos 0 ≤ℤ z) (sym (high_worth system forms f u scale x)) (above_it more))) wholes)
-    (λ most. tree_leaves_none system forms (above ++ low_side f u ∷ []) low positive in_low refutes_low scale x h (one_side system forms above (low_side f u) scale x meets (subst (λ z. pos 0 ≤ℤ z) (sym (low_worth system forms f u scale x)) (below_it most))) wholes)
+    (λ more. tree_leaves_none system forms (above ++ high_side f u ∷ []) high positive in_high refutes_high scale x h
+    (one_side system forms above (high_side f u) scale x meets (subst (λ z. pos 0 ≤ℤ z) (sym (high_worth system forms f u scale x)) (above_it more))) wholes)
+    (λ most. tree_leaves_none system forms (above ++ low_side f u ∷ []) low positive in_low refutes_low scale x h
+    (one_side system forms above (low_side f u) scale x meets (subst (λ z. pos 0 ≤ℤ z) (sym (low_worth system forms f u scale x)) (below_it most))) wholes)
   where
     unit : pos 0 <ℤ ((form_at forms f).scale *ℤ scale)
     unit = mul_positive _ _ (positive f lt) h
@@ -137,7 +147,9 @@ multiplier_in-past : (multiplier : ℕ → ℤ) (first n row : ℕ) → row < fi
 multiplier_in-past multiplier first zero row lt = refl
 multiplier_in-past multiplier first (suc n) row lt = go (int_lt (multiplier first) (pos 0) || int_lt (pos 0) (multiplier first)) (multiplier_in-past multiplier (suc first) n row (omega arith))
   where
-    go : (b : Bool) → multiplier_in (weights_from multiplier (suc first) n) row ≡ pos 0 → multiplier_in (if b then (record { row = first; multiplier = multiplier first } ∷ weights_from multiplier (suc first) n) else weights_from multiplier (suc first) n) row ≡ pos 0
+    go : (b : Bool) → multiplier_in (weights_from multiplier (suc first) n) row ≡ pos 0
+        → multiplier_in (if b then (record { row = first; multiplier = multiplier first } ∷ weights_from multiplier (suc first) n) else weights_from
+        multiplier (suc first) n) row ≡ pos 0
     go true ih = rw (differs first row (λ e. omega arith)) ih
     go false ih = ih
 
@@ -201,7 +213,11 @@ front_length system forms above i lt = let e = length-append system.rows (map (s
 
 -- a point of a node's system is one of the system
 pub node_point : (system : LinearSystem) (forms : List Form) (above : List SplitSide) (scale : ℤ) (v : ℕ → ℤ) → IsPoint (node_system system forms above) scale v → IsPoint system scale v
-node_point system forms above scale v p = record { positive = p.positive; rows = λ i lt. subst (λ r. v (row_variable system i) ≡ worth system.columns r scale v) (front_row system forms above i lt) (p.rows i (front_length system forms above i lt)) }
+node_point system forms above scale v p = record {
+  positive = p.positive;
+  rows = λ i lt. subst (λ r. v (row_variable system i) ≡ worth system.columns r scale v) (front_row system forms above i lt)
+      (p.rows i (front_length system forms above i lt));
+}
 
 -- the point has whole forms, and meets the rows of its node, so those of the system
 pub record IsWholePoint (system : LinearSystem) (forms : List Form) (members : List ℕ) (above : List SplitSide) : Type 0 where
@@ -229,14 +245,18 @@ found_is_sound system forms start above members b scale v p zeros =
     let w = found_well system forms start (found members above) b in (
       node_point system forms above scale v p,
       (λ i lt. point_is_sound (node_system system forms above) members w.descent scale v p zeros i (front_length system forms above i lt)),
-      (λ f lt. whole_moves system forms above members (point_free (node_system system forms above) members w.descent) (form_at forms f) w.all.scale scale w.all.v v w.all.point w.all.zeros p zeros (w.all.whole f lt)),
+      (λ f lt. whole_moves system forms above members (point_free (node_system system forms above) members w.descent)
+          (form_at forms f) w.all.scale scale w.all.v v w.all.point w.all.zeros p zeros (w.all.whole f lt)),
     )
 
 -- a tree leaves no point with whole forms
-pub tree_is_sound : (system : LinearSystem) (forms : List Form) (t : SplitTree) → ArePositive forms → BranchFrom system forms [] (tree t) → (scale : ℤ) (v : ℕ → ℤ) → IsPoint system scale v → MeetsRows system v → FormsWhole system forms scale v → ⊥
+pub tree_is_sound : (system : LinearSystem) (forms : List Form) (t : SplitTree) → ArePositive forms → BranchFrom system forms [] (tree t)
+    → (scale : ℤ) (v : ℕ → ℤ) → IsPoint system scale v → MeetsRows system v → FormsWhole system forms scale v → ⊥
 tree_is_sound system forms t positive b scale v p meets wholes =
     let w = tree_well system forms [] (tree t) b in
-    tree_leaves_none system forms [] t positive w.1 w.0 scale v p.positive (λ i lt. subst (λ r. pos 0 ≤ℤ worth system.columns r scale v) (sym (front_row system forms [] i (back i lt))) (subst (λ z. pos 0 ≤ℤ z) (p.rows i (back i lt)) (meets i (back i lt)))) wholes
+    tree_leaves_none system forms [] t positive w.1 w.0 scale v p.positive
+    (λ i lt. subst (λ r. pos 0 ≤ℤ worth system.columns r scale v) (sym (front_row system forms [] i (back i lt)))
+    (subst (λ z. pos 0 ≤ℤ z) (p.rows i (back i lt)) (meets i (back i lt)))) wholes
   where
     back : (i : ℕ) → i < length (node_system system forms []).rows → i < length system.rows
     back i lt = let e = length-append system.rows [] in omega arith

@@ -17,16 +17,19 @@ before system (s ∷ stack) members members' i i' o step (returns after d rest) 
 before system (s ∷ stack) members members' i i' o step (ends d stop) = ends (step o d) stop
 
 -- an outcome that stops is that of the whole
-pub stop_here : (system : LinearSystem) (stack members : List ℕ) (i : ℕ) (o : Outcome) → DescentFrom system members (fixed_of system stack) (limit system stack) i o → IsStop o → Resumes system stack members i o
+pub stop_here : (system : LinearSystem) (stack members : List ℕ) (i : ℕ) (o : Outcome)
+    → DescentFrom system members (fixed_of system stack) (limit system stack) i o → IsStop o → Resumes system stack members i o
 stop_here system [] members i o d stop = last d
 stop_here system (s ∷ stack) members i o d stop = ends d stop
 
 -- a row that is satisfied
-pub step_satisfied : (system : LinearSystem) (stack members : List ℕ) (i : ℕ) (o : Outcome) → i < limit system stack → IsSatisfied system members i → Resumes system stack members (suc i) o → Resumes system stack members i o
+pub step_satisfied : (system : LinearSystem) (stack members : List ℕ) (i : ℕ) (o : Outcome) → i < limit system stack → IsSatisfied system members i
+    → Resumes system stack members (suc i) o → Resumes system stack members i o
 step_satisfied system stack members i o lt p rest = before system stack members members i (suc i) o (λ o' d. satisfied lt p d) rest
 
 -- a row that refutes
-pub step_stuck : (system : LinearSystem) (stack members : List ℕ) (i : ℕ) → i < limit system stack → IsStuck system members (fixed_of system stack) i → Resumes system stack members i (refuted members i (fixed_of system stack))
+pub step_stuck : (system : LinearSystem) (stack members : List ℕ) (i : ℕ) → i < limit system stack → IsStuck system members (fixed_of system stack) i
+    → Resumes system stack members i (refuted members i (fixed_of system stack))
 step_stuck system stack members i lt s = stop_here system stack members i (refuted members i (fixed_of system stack)) (stuck lt s) tt
 
 -- a term out of range
@@ -105,8 +108,10 @@ no_more (x ∷ xs) ys h d all =
     omega arith
 
 -- where a member is not fixed, there are fewer fixed rows than members
-pub room_for_one : (fixed members : List ℕ) (j : ℕ) → IsInOrder members → IsDistinct fixed → ((m : ℕ) → Contains fixed m → Contains members m) → Contains members j → ¬ Contains fixed j → length fixed < length members
-room_for_one fixed members j h d all has free = no_more (j ∷ fixed) members h (free, d) (λ m there. ⊎_elim (λ e. subst (Contains members) e has) (λ old. all m old) (Contains-cons_cases j m fixed there))
+pub room_for_one : (fixed members : List ℕ) (j : ℕ) → IsInOrder members → IsDistinct fixed → ((m : ℕ) → Contains fixed m → Contains members m)
+    → Contains members j → ¬ Contains fixed j → length fixed < length members
+room_for_one fixed members j h d all has free =
+    no_more (j ∷ fixed) members h (free, d) (λ m there. ⊎_elim (λ e. subst (Contains members) e has) (λ old. all m old) (Contains-cons_cases j m fixed there))
 
 -- the fixed rows lie above every row that may be fixed next
 above_limit : (system : LinearSystem) (stack : List ℕ) (i : ℕ) → IsFalling system stack → i < limit system stack → (m : ℕ) → Contains (fixed_of system stack) m → row_variable system i < m
@@ -133,7 +138,8 @@ room_on_stack system stack members i j is c =
     let same = length-fixed system stack in
     omega arith
 
-pub stack_pushed : (system : LinearSystem) (stack members : List ℕ) (i j : ℕ) → i < limit system stack → IsStackOf system stack members → Chooses system members (fixed_of system stack) i j → IsStackOf system (i ∷ stack) (exchanged members (row_variable system i) j)
+pub stack_pushed : (system : LinearSystem) (stack members : List ℕ) (i j : ℕ) → i < limit system stack → IsStackOf system stack members
+    → Chooses system members (fixed_of system stack) i j → IsStackOf system (i ∷ stack) (exchanged members (row_variable system i) j)
 stack_pushed system stack members i j lt is c = record { falls = (lt, is.falls); all = fixed_stay system members (fixed_of system stack) i j c is.all }
 
 pub stack_popped : (system : LinearSystem) (s : ℕ) (stack members : List ℕ) → IsStackOf system (s ∷ stack) members → IsStackOf system stack members

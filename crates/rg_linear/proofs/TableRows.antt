@@ -37,7 +37,8 @@ length-row width table n w size lt = length-between table (w * width) ((w + 1) *
 pub part_is : (width : ℕ) (old new : List ℤ) (w : ℕ) → row_at width new w ≡ row_at width old w → take ((w * width + width) - w * width) (drop (w * width) new) ≡ row_at width old w
 part_is width old new w e = sym (row_is width new w (w * width + width) refl) ∙ e
 
-pub length-part : (width : ℕ) (table row : List ℤ) (n w : ℕ) → length table ≡ n * width → w < n → length row ≡ length (take ((w * width + width) - w * width) (drop (w * width) table)) → length row ≡ width
+pub length-part : (width : ℕ) (table row : List ℤ) (n w : ℕ) → length table ≡ n * width → w < n
+    → length row ≡ length (take ((w * width + width) - w * width) (drop (w * width) table)) → length row ≡ width
 length-part width table row n w size lt e = e ∙ ap length (part_is width table table w refl) ∙ length-row width table n w size lt
 
 -- ---- the row that is written, and the others
@@ -48,9 +49,18 @@ row_put width table row n w k size lt same = between-put_mid (w * width) k table
 pub length-put-mid : (width : ℕ) (table row : List ℤ) (n w k : ℕ) → length table ≡ n * width → w < n → length row ≡ width → k ≡ width → length (put_mid (w * width) k table row) ≡ length table
 length-put-mid width table row n w k size lt same is =
     length-append (take (w * width) table) (row ++ drop k (drop (w * width) table))
-    ∙ omega (arith, length-take (w * width) table, length-append row (drop k (drop (w * width) table)), length-drop k (drop (w * width) table), length-drop (w * width) table, row_inside table width n w size lt)
+    ∙ omega (
+      arith,
+      length-take (w * width) table,
+      length-append row (drop k (drop (w * width) table)),
+      length-drop k
+          (drop (w * width) table),
+      length-drop (w * width) table,
+      row_inside table width n w size lt,
+    )
 
-pub row_other : (width : ℕ) (table row : List ℤ) (n w k v : ℕ) → length table ≡ n * width → w < n → length row ≡ width → k ≡ width → v ≢ w → row_at width (put_mid (w * width) k table row) v ≡ row_at width table v
+pub row_other : (width : ℕ) (table row : List ℤ) (n w k v : ℕ) → length table ≡ n * width → w < n → length row ≡ width → k ≡ width → v ≢ w
+    → row_at width (put_mid (w * width) k table row) v ≡ row_at width table v
 row_other width table row n w k v size lt same is ne = ⊎_elim before behind (cases_lt v w)
   where
     inside : w * width ≤ length table

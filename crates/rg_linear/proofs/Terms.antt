@@ -39,7 +39,8 @@ first_in (x ∷ ts) = go (fits_or_not x.a x.b x.c x.d) (first_in ts)
     go (inl f) (inr r) = inr (record { n = suc r.n; t = r.t; here = r.here; passes = r.passes; before = shifted f r })
 
 -- a term that has these relations is in the list of these relations
-term_in : (system : LinearSystem) (members : List ℕ) (i j w n : ℕ) (t : Wide) (k l : Relation) → DictionaryRow system members i k → DictionaryRow system members w l → IsTerm system members i j w n t → slice_get (terms members k j l) n ≡ Some t
+term_in : (system : LinearSystem) (members : List ℕ) (i j w n : ℕ) (t : Wide) (k l : Relation) → DictionaryRow system members i k
+    → DictionaryRow system members w l → IsTerm system members i j w n t → slice_get (terms members k j l) n ≡ Some t
 term_in system members i j w n t k l row target is =
     subst (λ x. slice_get (terms members x j l) n ≡ Some t) (same_relation system members i is.k k is.pivot row)
     (subst (λ x. slice_get (terms members is.k j x) n ≡ Some t) (same_relation system members w is.l l is.target target) is.here)
@@ -52,7 +53,8 @@ pub record FirstAt (system : LinearSystem) (members : List ℕ) (i j w : ℕ) : 
   pub passes : ¬ FitsTerm t
   pub before : (n' : ℕ) (t' : Wide) → n' < n → IsTerm system members i j w n' t' → FitsTerm t'
 
-search_at : (system : LinearSystem) (members : List ℕ) (i j w : ℕ) (k : Relation) → HasDictionary system members → DictionaryRow system members i k → ((n : ℕ) (t : Wide) → IsTerm system members i j w n t → FitsTerm t) ⊎ FirstAt system members i j w
+search_at : (system : LinearSystem) (members : List ℕ) (i j w : ℕ) (k : Relation) → HasDictionary system members → DictionaryRow system members i k
+    → ((n : ℕ) (t : Wide) → IsTerm system members i j w n t → FitsTerm t) ⊎ FirstAt system members i j w
 search_at system members i j w k has row = go (cases_lt w (variables system)) (is_member members w) (equal_or_not w i)
   where
     listed : (l : Relation) → DictionaryRow system members w l → l.coefficient j ≢ pos 0 → w ≢ i
@@ -67,11 +69,13 @@ search_at system members i j w k has row = go (cases_lt w (variables system)) (i
       before = λ n' t' lt is. r.before n' t' lt (term_in system members i j w n' t' k l row target is);
     })
 
-    at : (l : Relation) → DictionaryRow system members w l → w ≢ i → (l.coefficient j ≡ pos 0) ⊎ (l.coefficient j ≢ pos 0) → ((n : ℕ) (t : Wide) → IsTerm system members i j w n t → FitsTerm t) ⊎ FirstAt system members i j w
+    at : (l : Relation) → DictionaryRow system members w l → w ≢ i → (l.coefficient j ≡ pos 0) ⊎ (l.coefficient j ≢ pos 0)
+        → ((n : ℕ) (t : Wide) → IsTerm system members i j w n t → FitsTerm t) ⊎ FirstAt system members i j w
     at l target other (inl e) = inl (λ n t is. absurd (is.named (subst (λ x. x.coefficient j ≡ pos 0) (same_relation system members w l is.l target is.target) e)))
     at l target other (inr ne) = listed l target ne other (first_in (terms members k j l))
 
-    go : (w < variables system) ⊎ (variables system ≤ w) → Contains members w ⊎ ¬ Contains members w → (w ≡ i) ⊎ (w ≢ i) → ((n : ℕ) (t : Wide) → IsTerm system members i j w n t → FitsTerm t) ⊎ FirstAt system members i j w
+    go : (w < variables system) ⊎ (variables system ≤ w) → Contains members w ⊎ ¬ Contains members w → (w ≡ i) ⊎ (w ≢ i)
+        → ((n : ℕ) (t : Wide) → IsTerm system members i j w n t → FitsTerm t) ⊎ FirstAt system members i j w
     go (inr past) _ _ = inl (λ n t is. (let lt = is.target.variable in absurd (omega arith)))
     go (inl lt) (inl member) _ = inl (λ n t is. absurd (is.target.outside member))
     go (inl lt) (inr absent) (inl e) = inl (λ n t is. absurd (is.other e))
@@ -83,11 +87,13 @@ pub record HasWide (system : LinearSystem) (members : List ℕ) (i j : ℕ) : Ty
   pub t : Wide
   pub first : FirstWide system members i j w n t
 
-search_below : (system : LinearSystem) (members : List ℕ) (i j : ℕ) (k : Relation) → HasDictionary system members → DictionaryRow system members i k → (b : ℕ) → ((w n : ℕ) (t : Wide) → w < b → IsTerm system members i j w n t → FitsTerm t) ⊎ HasWide system members i j
+search_below : (system : LinearSystem) (members : List ℕ) (i j : ℕ) (k : Relation) → HasDictionary system members → DictionaryRow system members i k
+    → (b : ℕ) → ((w n : ℕ) (t : Wide) → w < b → IsTerm system members i j w n t → FitsTerm t) ⊎ HasWide system members i j
 search_below system members i j k has row zero = inl (λ w n t lt is. absurd (omega arith))
 search_below system members i j k has row (suc b) = go (search_below system members i j k has row b) (search_at system members i j b k has row)
   where
-    before : ((w n : ℕ) (t : Wide) → w < b → IsTerm system members i j w n t → FitsTerm t) → (r : FirstAt system members i j b) → (w' n' : ℕ) (t' : Wide) → IsBefore w' n' b r.n → IsTerm system members i j w' n' t' → FitsTerm t'
+    before : ((w n : ℕ) (t : Wide) → w < b → IsTerm system members i j w n t → FitsTerm t) → (r : FirstAt system members i j b)
+        → (w' n' : ℕ) (t' : Wide) → IsBefore w' n' b r.n → IsTerm system members i j w' n' t' → FitsTerm t'
     before all r w' n' t' (inl lt) is = all w' n' t' lt is
     before all r w' n' t' (inr (e, lt)) is = r.before n' t' lt (subst (λ x. IsTerm system members i j x n' t') e is)
 
@@ -99,7 +105,8 @@ search_below system members i j k has row (suc b) = go (search_below system memb
     go (inl all) (inl here) = inl (λ w n t lt is. ⊎_elim (λ e. here n t (subst (λ x. IsTerm system members i j x n t) e is)) (λ ne. all w n t (omega arith) is) (equal_or_not w b))
 
 -- all terms of an exchange fit, or there is a first that doesn't
-pub fit_or_wide : (system : LinearSystem) (members : List ℕ) (i j : ℕ) (k : Relation) → HasDictionary system members → DictionaryRow system members i k → AllFit system members i j ⊎ HasWide system members i j
+pub fit_or_wide : (system : LinearSystem) (members : List ℕ) (i j : ℕ) (k : Relation) → HasDictionary system members
+    → DictionaryRow system members i k → AllFit system members i j ⊎ HasWide system members i j
 fit_or_wide system members i j k has row = ⊎_elim (λ all. inl (λ w n t is. all w n t is.target.variable is)) (λ wide. inr wide) (search_below system members i j k has row (variables system))
 
 -- ---- the first is one
@@ -115,10 +122,16 @@ compare w n w' n' = go (cases_lt w w') (cases_lt w' w) (cases_lt n n') (cases_lt
     go (inr ge) (inr le) (inr ge') (inr le') = inr (inr (omega arith, omega arith))
 
 -- where it stands, and its numbers
-pub same_wide : (system : LinearSystem) (members : List ℕ) (i j w n w' n' : ℕ) (t t' : Wide) → FirstWide system members i j w n t → FirstWide system members i j w' n' t' → (w ≡ w') × (n ≡ n') × (t ≡ t')
+pub same_wide : (system : LinearSystem) (members : List ℕ) (i j w n w' n' : ℕ) (t t' : Wide) → FirstWide system members i j w n t
+    → FirstWide system members i j w' n' t' → (w ≡ w') × (n ≡ n') × (t ≡ t')
 same_wide system members i j w n w' n' t t' a b = go (compare w n w' n')
   where
     go : IsBefore w n w' n' ⊎ (IsBefore w' n' w n ⊎ ((w ≡ w') × (n ≡ n'))) → (w ≡ w') × (n ≡ n') × (t ≡ t')
     go (inl before) = absurd (a.passes (b.first w n t before a.term))
     go (inr (inl before)) = absurd (b.passes (a.first w' n' t' before b.term))
-    go (inr (inr (ew, en))) = (ew, en, same_Some t t' (sym a.term.here ∙ ap (λ x. slice_get (terms members a.term.k j a.term.l) x) en ∙ term_in system members i j w n' t' a.term.k a.term.l a.term.pivot a.term.target (subst (λ x. IsTerm system members i j x n' t') (sym ew) b.term)))
+    go (inr (inr (ew, en))) = (
+      ew,
+      en,
+      same_Some t t' (sym a.term.here ∙ ap (λ x. slice_get (terms members a.term.k j a.term.l) x) en
+          ∙ term_in system members i j w n' t' a.term.k a.term.l a.term.pivot a.term.target (subst (λ x. IsTerm system members i j x n' t') (sym ew) b.term)),
+    )

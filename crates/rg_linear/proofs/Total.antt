@@ -28,8 +28,10 @@ pub least_below : (members fixed : List ℕ) (k : Relation) (b : ℕ) → ((m : 
 least_below members fixed k zero = inl (λ m lt has free. absurd (omega arith))
 least_below members fixed k (suc b) = go (least_below members fixed k b) (is_member members b) (is_member fixed b) (is_zero_or_not (k.coefficient b))
   where
-    more : ((m : ℕ) → m < b → Contains members m → ¬ Contains fixed m → k.coefficient m ≡ pos 0) → (Contains members b → ¬ Contains fixed b → k.coefficient b ≡ pos 0) → (m : ℕ) → m < suc b → Contains members m → ¬ Contains fixed m → k.coefficient m ≡ pos 0
-    more all here m lt has free = ⊎_elim (λ e. subst (λ x. k.coefficient x ≡ pos 0) (sym e) (here (subst (Contains members) e has) (λ z. free (subst (Contains fixed) (sym e) z)))) (λ ne. all m (omega arith) has free) (equal_or_not m b)
+    more : ((m : ℕ) → m < b → Contains members m → ¬ Contains fixed m → k.coefficient m ≡ pos 0)
+        → (Contains members b → ¬ Contains fixed b → k.coefficient b ≡ pos 0) → (m : ℕ) → m < suc b → Contains members m → ¬ Contains fixed m → k.coefficient m ≡ pos 0
+    more all here m lt has free = ⊎_elim (λ e. subst (λ x. k.coefficient x ≡ pos 0) (sym e)
+        (here (subst (Contains members) e has) (λ z. free (subst (Contains fixed) (sym e) z)))) (λ ne. all m (omega arith) has free) (equal_or_not m b)
 
     go : ((m : ℕ) → m < b → Contains members m → ¬ Contains fixed m → k.coefficient m ≡ pos 0) ⊎ LeastBelow members fixed k b → Contains members b ⊎ ¬ Contains members b
         → Contains fixed b ⊎ ¬ Contains fixed b → (k.coefficient b ≡ pos 0) ⊎ (k.coefficient b ≢ pos 0)
@@ -51,7 +53,8 @@ pub record Ends (system : LinearSystem) (members fixed : List ℕ) (r i : ℕ) :
   pub descent : DescentFrom system members fixed r i o
   pub has : PointHas system o
 
-module _ (system : LinearSystem) (fuel : ℕ) (below : (members fixed : List ℕ) (r : ℕ) → r < fuel → r ≤ length system.rows → HasDictionary system members → Ends system members fixed r 0) (r : ℕ) (enough : r ≤ fuel) (within : r ≤ length system.rows) where
+module _ (system : LinearSystem) (fuel : ℕ) (below : (members fixed : List ℕ) (r : ℕ) → r < fuel → r ≤ length system.rows
+    → HasDictionary system members → Ends system members fixed r 0) (r : ℕ) (enough : r ≤ fuel) (within : r ≤ length system.rows) where
   next_row : (n : ℕ) (members fixed : List ℕ) (i : ℕ) → i + n ≡ r → HasDictionary system members → Ends system members fixed r i
   next_row zero members fixed i e has = record { o = point members; descent = after_last (omega arith); has = has }
   next_row (suc n) members fixed i e has = at (is_member members (row_variable system i)) (λ after has'. next_row n after fixed (suc i) (omega arith) has')
@@ -69,21 +72,38 @@ module _ (system : LinearSystem) (fuel : ℕ) (below : (members fixed : List ℕ
       joined j c fit (refuted after k z) d has' next = record { o = refuted after k z; descent = stops_below j lt c fit d tt; has = tt }
       joined j c fit (wide w) d has' next = record { o = wide w; descent = stops_below j lt c fit d tt; has = tt }
 
-      exchange : (j : ℕ) → Chooses system members fixed i j → AllFit system members (row_variable system i) j ⊎ HasWide system members (row_variable system i) j → ((after : List ℕ) → HasDictionary system after → Ends system after fixed r (suc i)) → Ends system members fixed r i
+      exchange : (j : ℕ) → Chooses system members fixed i j
+          → AllFit system members (row_variable system i) j ⊎ HasWide system members (row_variable system i) j
+          → ((after : List ℕ) → HasDictionary system after → Ends system after fixed r (suc i)) → Ends system members fixed r i
       exchange j c (inr w) next = record { o = _; descent = passes j w.w w.n w.t lt c w.first; has = tt }
       exchange j c (inl fit) next =
-          let d = below (exchanged members (row_variable system i) j) (row_variable system i ∷ fixed) i (omega arith) (omega arith) (exchanged_has system members (row_variable system i) j c.k has c.row c.member c.named) in
+          let d = below (exchanged members (row_variable system i) j) (row_variable system i ∷ fixed) i (omega arith) (omega arith)
+          (exchanged_has system members (row_variable system i) j c.k has c.row c.member c.named) in
           joined j c fit d.o d.descent d.has next
 
       fails : (k : Relation) → DictionaryRow system members (row_variable system i) k → k.constant <ℤ pos 0
           → ((m : ℕ) → m < variables system → Contains members m → ¬ Contains fixed m → k.coefficient m ≡ pos 0) ⊎ LeastBelow members fixed k (variables system)
           → ((after : List ℕ) → HasDictionary system after → Ends system after fixed r (suc i)) → Ends system members fixed r i
-      fails k row negative (inl none) next = record { o = _; descent = stuck lt (record { k = k; row = row; negative = negative; none = λ m has' free. none m (has.free.within m has') has' free }); has = tt }
+      fails k row negative (inl none) next = record {
+        o = _;
+        descent = stuck lt (record { k = k; row = row; negative = negative; none = λ m has' free. none m (has.free.within m has') has' free });
+        has = tt;
+      }
       fails k row negative (inr l) next =
-          let c : Chooses system members fixed i l.j = record { k = k; row = row; negative = negative; member = l.is.member; not_fixed = l.is.not_fixed; named = l.is.named; least = λ m has' free less. l.least m less has' free } in
+          let c : Chooses system members fixed i l.j =
+          record {
+            k = k;
+            row = row;
+            negative = negative;
+            member = l.is.member;
+            not_fixed = l.is.not_fixed;
+            named = l.is.named;
+            least = λ m has' free less. l.least m less has' free;
+          } in
           exchange l.j c (fit_or_wide system members (row_variable system i) l.j k has row) next
 
-      at : Contains members (row_variable system i) ⊎ ¬ Contains members (row_variable system i) → ((after : List ℕ) → HasDictionary system after → Ends system after fixed r (suc i)) → Ends system members fixed r i
+      at : Contains members (row_variable system i) ⊎ ¬ Contains members (row_variable system i)
+          → ((after : List ℕ) → HasDictionary system after → Ends system after fixed r (suc i)) → Ends system members fixed r i
       at (inl member) next = pass (inl member) next
       at (inr lacks) next =
           let (k, row) = has.rows (row_variable system i) (omega arith) lacks in
@@ -91,7 +111,9 @@ module _ (system : LinearSystem) (fuel : ℕ) (below : (members fixed : List ℕ
 
 ends_within : (system : LinearSystem) (fuel : ℕ) (members fixed : List ℕ) (r : ℕ) → r < fuel → r ≤ length system.rows → HasDictionary system members → Ends system members fixed r 0
 ends_within system zero members fixed r lt within has = absurd (omega arith)
-ends_within system (suc fuel) members fixed r lt within has = next_row system fuel (λ members' fixed' r' lt' within' has'. ends_within system fuel members' fixed' r' lt' within' has') r (omega arith) within r members fixed 0 (omega arith) has
+ends_within system (suc fuel) members fixed r lt within has =
+    next_row system fuel (λ members' fixed' r' lt' within' has'. ends_within system fuel members' fixed' r' lt' within' has') r
+    (omega arith) within r members fixed 0 (omega arith) has
 
 pub descent_ends : (system : LinearSystem) (members fixed : List ℕ) (r : ℕ) → r ≤ length system.rows → HasDictionary system members → Ends system members fixed r 0
 descent_ends system members fixed r within has = ends_within system (suc r) members fixed r (omega arith) within has

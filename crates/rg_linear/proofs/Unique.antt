@@ -17,8 +17,10 @@ use Rattle.rg_integers.proofs.Sums.{sum_below-same, sum_below-times, sum_below-z
 use Rattle.rg_linear.proofs.Members.{is_member, differs, same}
 
 -- a sum over members, where each has its wanted value
-pub sum_at : (system : LinearSystem) (members : List ℕ) (k : Relation) (wanted : ℕ → ℤ) (scale : ℤ) (t : Takes system members wanted scale) → IsOver members k → (n : ℕ) → sum_below n (λ m. k.coefficient m *ℤ t.v m) ≡ t.times *ℤ sum_below n (λ m. k.coefficient m *ℤ wanted m)
-sum_at system members k wanted scale t over n = sum_below-same n _ (λ m. t.times *ℤ (k.coefficient m *ℤ wanted m)) (λ m lt. at m (is_member members m)) ∙ sum_below-times n t.times (λ m. k.coefficient m *ℤ wanted m)
+pub sum_at : (system : LinearSystem) (members : List ℕ) (k : Relation) (wanted : ℕ → ℤ) (scale : ℤ) (t : Takes system members wanted scale)
+    → IsOver members k → (n : ℕ) → sum_below n (λ m. k.coefficient m *ℤ t.v m) ≡ t.times *ℤ sum_below n (λ m. k.coefficient m *ℤ wanted m)
+sum_at system members k wanted scale t over n =
+    sum_below-same n _ (λ m. t.times *ℤ (k.coefficient m *ℤ wanted m)) (λ m lt. at m (is_member members m)) ∙ sum_below-times n t.times (λ m. k.coefficient m *ℤ wanted m)
   where
     at : (m : ℕ) → Contains members m ⊎ ¬ Contains members m → k.coefficient m *ℤ t.v m ≡ t.times *ℤ (k.coefficient m *ℤ wanted m)
     at m (inl has) = rw (t.values m has) (mul_left_comm (k.coefficient m) t.times (wanted m))
@@ -38,7 +40,8 @@ proportional_at system members w k l free over_k over_l holds_k holds_l wanted =
     mul-cancel_left t.times _ _ (positive_differs t.times t.positive)
     (finish t.times k.d l.d k.constant l.constant (t.v w) _ _ _ _ hk hl sk sl)
   where
-    finish : (t dk dl ck cl v sk sl uk ul : ℤ) → dk *ℤ v ≡ (ck *ℤ (t *ℤ pos 1)) +ℤ sk → dl *ℤ v ≡ (cl *ℤ (t *ℤ pos 1)) +ℤ sl → sk ≡ t *ℤ uk → sl ≡ t *ℤ ul → t *ℤ (dl *ℤ (ck +ℤ uk)) ≡ t *ℤ (dk *ℤ (cl +ℤ ul))
+    finish : (t dk dl ck cl v sk sl uk ul : ℤ) → dk *ℤ v ≡ (ck *ℤ (t *ℤ pos 1)) +ℤ sk → dl *ℤ v ≡ (cl *ℤ (t *ℤ pos 1)) +ℤ sl → sk ≡ t *ℤ uk
+        → sl ≡ t *ℤ ul → t *ℤ (dl *ℤ (ck +ℤ uk)) ≡ t *ℤ (dk *ℤ (cl +ℤ ul))
     finish t dk dl ck cl v sk sl uk ul hk hl ek el =
         let a : dl *ℤ (dk *ℤ v) ≡ dl *ℤ ((ck *ℤ (t *ℤ pos 1)) +ℤ (t *ℤ uk)) = ap (λ z. dl *ℤ z) (hk ∙ ap (λ z. (ck *ℤ (t *ℤ pos 1)) +ℤ z) ek) in
         let b : dk *ℤ (dl *ℤ v) ≡ dk *ℤ ((cl *ℤ (t *ℤ pos 1)) +ℤ (t *ℤ ul)) = ap (λ z. dk *ℤ z) (hl ∙ ap (λ z. (cl *ℤ (t *ℤ pos 1)) +ℤ z) el) in
@@ -76,7 +79,8 @@ cross_sizes : (a b p q : ℤ) → b *ℤ p ≡ a *ℤ q → unsigned_abs b * uns
 cross_sizes a b p q e = sym (unsigned_abs-mul b p) ∙ ap unsigned_abs e ∙ unsigned_abs-mul a q
 
 -- proportional relations without common factors are one
-pub proportional_same : (k l : Relation) → pos 0 <ℤ k.d → pos 0 <ℤ l.d → IsPrimitive k → IsPrimitive l → l.d *ℤ k.constant ≡ k.d *ℤ l.constant → ((m : ℕ) → l.d *ℤ k.coefficient m ≡ k.d *ℤ l.coefficient m) → k ≡ l
+pub proportional_same : (k l : Relation) → pos 0 <ℤ k.d → pos 0 <ℤ l.d → IsPrimitive k → IsPrimitive l → l.d *ℤ k.constant ≡ k.d *ℤ l.constant
+    → ((m : ℕ) → l.d *ℤ k.coefficient m ≡ k.d *ℤ l.coefficient m) → k ≡ l
 proportional_same k l pk pl prime_k prime_l constants coefficients =
     let sizes : unsigned_abs k.d ≡ unsigned_abs l.d = same_first _ _ (omega (arith, ints)) (omega (arith, ints)) (λ x y h g pg ea eb. (
       prime_k x (divides_by _ x g (sym ea)) (crossed x y g h pg ea eb k.constant l.constant constants) (λ m. crossed x y g h pg ea eb _ _ (coefficients m)),
@@ -101,7 +105,8 @@ proportional_same k l pk pl prime_k prime_l constants coefficients =
 pub same_relation : (system : LinearSystem) (members : List ℕ) (w : ℕ) (k l : Relation) → DictionaryRow system members w k → DictionaryRow system members w l → k ≡ l
 same_relation system members w k l row_k row_l = proportional_same k l row_k.positive row_l.positive row_k.primitive row_l.primitive constants coefficients
   where
-    at : (wanted : ℕ → ℤ) → l.d *ℤ (k.constant +ℤ sum_below (variables system) (λ m. k.coefficient m *ℤ wanted m)) ≡ k.d *ℤ (l.constant +ℤ sum_below (variables system) (λ m. l.coefficient m *ℤ wanted m))
+    at : (wanted : ℕ → ℤ) → l.d *ℤ (k.constant +ℤ sum_below (variables system) (λ m. k.coefficient m *ℤ wanted m))
+        ≡ k.d *ℤ (l.constant +ℤ sum_below (variables system) (λ m. l.coefficient m *ℤ wanted m))
     at wanted = proportional_at system members w k l row_k.free row_k.over row_l.over row_k.holds row_l.holds wanted
 
     drop_zero : (z : ℤ) → z +ℤ pos 0 ≡ z
@@ -117,7 +122,8 @@ same_relation system members w k l row_k row_l = proportional_same k l row_k.pos
     named : (m : ℕ) → m < variables system → l.d *ℤ k.coefficient m ≡ k.d *ℤ l.coefficient m
     named m lt =
         let e = at (only m (pos 1)) in
-        let e' = subst (λ z. l.d *ℤ (k.constant +ℤ z) ≡ k.d *ℤ (l.constant +ℤ sum_below (variables system) (λ i. l.coefficient i *ℤ only m (pos 1) i))) (sum_one (variables system) m k.coefficient lt) e in
+        let e' = subst (λ z. l.d *ℤ (k.constant +ℤ z)
+        ≡ k.d *ℤ (l.constant +ℤ sum_below (variables system) (λ i. l.coefficient i *ℤ only m (pos 1) i))) (sum_one (variables system) m k.coefficient lt) e in
         let e'' = subst (λ z. l.d *ℤ (k.constant +ℤ k.coefficient m) ≡ k.d *ℤ (l.constant +ℤ z)) (sum_one (variables system) m l.coefficient lt) e' in
         take_off l.d k.d k.constant l.constant (k.coefficient m) (l.coefficient m) e'' constants
       where

@@ -65,7 +65,11 @@ Bounded-raised : (b c : ℕ) (k : Relation) → b ≤ c → Bounded b k → Boun
 Bounded-raised b c k h g = record { d = raise b c _ h g.d; constant = raise b c _ h g.constant; coefficients = λ m. raise b c _ h (g.coefficients m) }
 
 Bounded-reduced : (b : ℕ) (raw l : Relation) → IsReduced raw l → Bounded b raw → Bounded b l
-Bounded-reduced b raw l r g = record { d = abs-factor r.factor _ _ b r.positive r.d g.d; constant = abs-factor r.factor _ _ b r.positive r.constant g.constant; coefficients = λ m. abs-factor r.factor _ _ b r.positive (r.coefficients m) (g.coefficients m) }
+Bounded-reduced b raw l r g = record {
+  d = abs-factor r.factor _ _ b r.positive r.d g.d;
+  constant = abs-factor r.factor _ _ b r.positive r.constant g.constant;
+  coefficients = λ m. abs-factor r.factor _ _ b r.positive (r.coefficients m) (g.coefficients m);
+}
 
 Bounded-turned : (b : ℕ) (k : Relation) (i j : ℕ) → Bounded b k → Bounded b (turned k i j)
 Bounded-turned b k i j g = record {
@@ -100,7 +104,9 @@ Bounded-renewed b k l i j g h = record {
 
 -- ---- the columns
 
-pub SetBounded-columns : (system : LinearSystem) (b : ℕ) → 1 ≤ b → ((i j : ℕ) → i < length system.rows → j < system.columns → unsigned_abs (entry system i j) ≤ b) → ((i : ℕ) → i < length system.rows → unsigned_abs (row_at system i).constant ≤ b) → SetBounded system b (column_set system)
+pub SetBounded-columns : (system : LinearSystem) (b : ℕ) → 1 ≤ b
+    → ((i j : ℕ) → i < length system.rows → j < system.columns → unsigned_abs (entry system i j) ≤ b)
+    → ((i : ℕ) → i < length system.rows → unsigned_abs (row_at system i).constant ≤ b) → SetBounded system b (column_set system)
 SetBounded-columns system b one entries constants w k row = at (cases_lt w system.columns)
   where
     own : (i : ℕ) → i < length system.rows → Bounded b (row_relation system i)
@@ -120,7 +126,8 @@ SetBounded-columns system b one entries constants w k row = at (cases_lt w syste
         let e : system.columns + i ≡ w = omega arith in
         let less = row.variable in
         let lt : i < length system.rows = omega arith in
-        subst (Bounded b) (same_relation system (column_set system) w (row_relation system i) k (subst (λ x. DictionaryRow system (column_set system) x (row_relation system i)) e (columns_row system i lt)) row) (own i lt)
+        subst (Bounded b) (same_relation system (column_set system) w (row_relation system i) k
+        (subst (λ x. DictionaryRow system (column_set system) x (row_relation system i)) e (columns_row system i lt)) row) (own i lt)
 
 -- ---- a row in a free set has a column whose relation names it
 
@@ -131,7 +138,8 @@ pub record Names (system : LinearSystem) (members : List ℕ) (p : ℕ) : Type 0
   pub row : DictionaryRow system members t k
   pub named : k.coefficient p ≢ pos 0
 
-none_named : (system : LinearSystem) (members : List ℕ) (p : ℕ) → HasDictionary system members → Contains members p → system.columns ≤ p → ((t : ℕ) (k : Relation) → t < system.columns → DictionaryRow system members t k → k.coefficient p ≡ pos 0) → ⊥
+none_named : (system : LinearSystem) (members : List ℕ) (p : ℕ) → HasDictionary system members → Contains members p → system.columns ≤ p
+    → ((t : ℕ) (k : Relation) → t < system.columns → DictionaryRow system members t k → k.coefficient p ≡ pos 0) → ⊥
 none_named system members p has member past none = contradiction u.times v.times u.positive v.positive row_same
   where
     v : Takes system members (only p (pos 1)) (pos 1)
@@ -219,11 +227,14 @@ none_named system members p has member past none = contradiction u.times v.times
     contradiction : (a b : ℤ) → pos 0 <ℤ a → pos 0 <ℤ b → a *ℤ b ≡ pos 0 → ⊥
     contradiction a b h g e = let q = mul_positive a b h g in omega (arith, ints)
 
-names_below : (system : LinearSystem) (members : List ℕ) (p : ℕ) → HasDictionary system members → (b : ℕ) → b ≤ system.columns → ((t : ℕ) (k : Relation) → t < b → DictionaryRow system members t k → k.coefficient p ≡ pos 0) ⊎ Names system members p
+names_below : (system : LinearSystem) (members : List ℕ) (p : ℕ) → HasDictionary system members → (b : ℕ) → b ≤ system.columns
+    → ((t : ℕ) (k : Relation) → t < b → DictionaryRow system members t k → k.coefficient p ≡ pos 0) ⊎ Names system members p
 names_below system members p has zero le = inl (λ t k lt row. absurd (omega arith))
 names_below system members p has (suc b) le = go (names_below system members p has b (omega arith)) (is_member members b)
   where
-    more : ((t : ℕ) (k : Relation) → t < b → DictionaryRow system members t k → k.coefficient p ≡ pos 0) → ((k : Relation) → DictionaryRow system members b k → k.coefficient p ≡ pos 0) → (t : ℕ) (k : Relation) → t < suc b → DictionaryRow system members t k → k.coefficient p ≡ pos 0
+    more : ((t : ℕ) (k : Relation) → t < b → DictionaryRow system members t k → k.coefficient p ≡ pos 0)
+        → ((k : Relation) → DictionaryRow system members b k → k.coefficient p ≡ pos 0) → (t : ℕ) (k : Relation) → t < suc b
+        → DictionaryRow system members t k → k.coefficient p ≡ pos 0
     more all here t k lt row = ⊎_elim (λ e. here k (subst (λ x. DictionaryRow system members x k) e row)) (λ ne. all t k (omega arith) row) (equal_or_not t b)
 
     at : ((t : ℕ) (k : Relation) → t < b → DictionaryRow system members t k → k.coefficient p ≡ pos 0) → (k : Relation) → DictionaryRow system members b k
@@ -232,7 +243,9 @@ names_below system members p has (suc b) le = go (names_below system members p h
     at all k row (inl e) = inl (more all (λ l row'. subst (λ x. x.coefficient p ≡ pos 0) (same_relation system members b k l row row') e))
     at all k row (inr ne) = inr (record { t = b; below = omega arith; k = k; row = row; named = ne })
 
-    go : ((t : ℕ) (k : Relation) → t < b → DictionaryRow system members t k → k.coefficient p ≡ pos 0) ⊎ Names system members p → Contains members b ⊎ ¬ Contains members b → ((t : ℕ) (k : Relation) → t < suc b → DictionaryRow system members t k → k.coefficient p ≡ pos 0) ⊎ Names system members p
+    go : ((t : ℕ) (k : Relation) → t < b → DictionaryRow system members t k → k.coefficient p ≡ pos 0) ⊎ Names system members p
+        → Contains members b ⊎ ¬ Contains members b
+        → ((t : ℕ) (k : Relation) → t < suc b → DictionaryRow system members t k → k.coefficient p ≡ pos 0) ⊎ Names system members p
     go (inr n) _ = inr n
     go (inl all) (inl member) = inl (more all (λ k row. absurd (row.outside member)))
     go (inl all) (inr lacks) = let (k, row) = has.rows b (omega arith) lacks in at all k row (is_zero_or_not (k.coefficient p))
@@ -243,7 +256,9 @@ names system members p has member past = ⊎_elim (λ none. absurd (none_named s
 -- ---- one row more
 
 -- over the set after an exchange numbers grow to twice the square at most
-SetBounded-exchanged : (system : LinearSystem) (members : List ℕ) (i j b : ℕ) (k : Relation) → HasDictionary system members → DictionaryRow system members i k → Contains members j → k.coefficient j ≢ pos 0 → 1 ≤ b → SetBounded system b members → SetBounded system (squared b) (exchanged members i j)
+SetBounded-exchanged : (system : LinearSystem) (members : List ℕ) (i j b : ℕ) (k : Relation) → HasDictionary system members
+    → DictionaryRow system members i k → Contains members j → k.coefficient j ≢ pos 0 → 1 ≤ b → SetBounded system b members
+    → SetBounded system (squared b) (exchanged members i j)
 SetBounded-exchanged system members i j b k has row member named one bounded w l target = at (equal_or_not w j) (equal_or_not w i) (is_member members w)
   where
     same_bound : (l' : Relation) → DictionaryRow system (exchanged members i j) w l' → Bounded (squared b) l' → Bounded (squared b) l
@@ -257,8 +272,10 @@ SetBounded-exchanged system members i j b k has row member named one bounded w l
     old : w ≢ i → (l₀ : Relation) → DictionaryRow system members w l₀ → (l₀.coefficient j ≡ pos 0) ⊎ (l₀.coefficient j ≢ pos 0) → Bounded (squared b) l
     old other l₀ row₀ (inl e) = same_bound l₀ (kept_row system members i j k row member named w l₀ row₀ other e) (Bounded-raised b (squared b) l₀ (le-squared b one) (bounded w l₀ row₀))
     old other l₀ row₀ (inr ne) =
-        let (l', r) = reduce (renewed k i j l₀) (variables system) (renewed-positive system members i j k row member named w l₀ row₀ other) (none_past system (exchanged members i j) (renewed k i j l₀) target.free (renewed-over system members i j k row member named w l₀ row₀ other)) in
-        same_bound l' (renewed_row system members i j k row member named w l₀ row₀ other l' r) (Bounded-reduced (squared b) (renewed k i j l₀) l' r (Bounded-renewed b k l₀ i j (bounded i k row) (bounded w l₀ row₀)))
+        let (l', r) = reduce (renewed k i j l₀) (variables system) (renewed-positive system members i j k row member named w l₀ row₀ other)
+        (none_past system (exchanged members i j) (renewed k i j l₀) target.free (renewed-over system members i j k row member named w l₀ row₀ other)) in
+        same_bound l' (renewed_row system members i j k row member named w l₀ row₀ other l' r)
+        (Bounded-reduced (squared b) (renewed k i j l₀) l' r (Bounded-renewed b k l₀ i j (bounded i k row) (bounded w l₀ row₀)))
 
     at : (w ≡ j) ⊎ (w ≢ j) → (w ≡ i) ⊎ (w ≢ i) → Contains members w ⊎ ¬ Contains members w → Bounded (squared b) l
     at (inl e) _ _ = leaving e
@@ -293,11 +310,13 @@ gone_has : (system : LinearSystem) (members : List ℕ) (p : ℕ) (n : Names sys
 unfolding Gone
 gone_has system members p n has member = exchanged_has system members n.t p n.k has n.row member n.named
 
-gone_count : (system : LinearSystem) (members : List ℕ) (p : ℕ) (n : Names system members p) → HasDictionary system members → Contains members p → system.columns ≤ p → suc (rows_in system.columns (Gone system members p n)) ≡ rows_in system.columns members
+gone_count : (system : LinearSystem) (members : List ℕ) (p : ℕ) (n : Names system members p) → HasDictionary system members → Contains members p
+    → system.columns ≤ p → suc (rows_in system.columns (Gone system members p n)) ≡ rows_in system.columns members
 unfolding Gone
 gone_count system members p n has member past = rows_in-exchanged system.columns n.t p members has.free.ordered member n.below past
 
-came_back : (system : LinearSystem) (members : List ℕ) (p b : ℕ) (n : Names system members p) → HasDictionary system members → Contains members p → 1 ≤ b → SetBounded system b (Gone system members p n) → SetBounded system (squared b) members
+came_back : (system : LinearSystem) (members : List ℕ) (p b : ℕ) (n : Names system members p) → HasDictionary system members → Contains members p
+    → 1 ≤ b → SetBounded system b (Gone system members p n) → SetBounded system (squared b) members
 unfolding Gone
 came_back system members p b n has member one bounded =
     subst (SetBounded system (squared b)) (exchanged_back n.t p members has.free.ordered member n.row.outside)
@@ -333,9 +352,13 @@ module _ (system : LinearSystem) (b : ℕ) (one : 1 ≤ b) (columns : SetBounded
     where
       none : (p : ℕ) → Contains members p → system.columns ≤ p → ⊥
       none p member past = let e = gone_count system members p (names system members p has member past) has member past in omega arith
-  SetBounded-rows (suc n) members has count = ⊎_elim (λ (p, member, past). with_row p member past (λ less has' e. SetBounded-rows n less has' e)) (λ all. only_columns (suc n) members has all) (row_in system.columns members)
+  SetBounded-rows (suc n) members has count =
+      ⊎_elim (λ (p, member, past). with_row p member past (λ less has' e. SetBounded-rows n less has' e))
+      (λ all. only_columns (suc n) members has all) (row_in system.columns members)
     where
-      with_row : (p : ℕ) → Contains members p → system.columns ≤ p → ((less : List ℕ) → HasDictionary system less → rows_in system.columns less ≡ n → SetBounded system (bound_of b n) less) → SetBounded system (bound_of b (suc n)) members
+      with_row : (p : ℕ) → Contains members p → system.columns ≤ p
+          → ((less : List ℕ) → HasDictionary system less → rows_in system.columns less ≡ n → SetBounded system (bound_of b n) less)
+          → SetBounded system (bound_of b (suc n)) members
       with_row p member past ih =
           let named = names system members p has member past in
           let e = gone_count system members p named has member past in
@@ -352,7 +375,8 @@ module _ (system : LinearSystem) (b : ℕ) (one : 1 ≤ b) (columns : SetBounded
       sum_is n c h = omega arith
 
       more : bound_of b (rows_in system.columns members) ≤ bound_of b system.columns
-      more = subst (λ m. bound_of b (rows_in system.columns members) ≤ bound_of b m) (sum_is _ _ few) (bound_of-more b (rows_in system.columns members) (system.columns - rows_in system.columns members) one)
+      more = subst (λ m. bound_of b (rows_in system.columns members) ≤ bound_of b m) (sum_is _ _ few)
+          (bound_of-more b (rows_in system.columns members) (system.columns - rows_in system.columns members) one)
 
 -- ---- the terms
 
@@ -380,7 +404,8 @@ terms_bounded b members k j l g h n t e = at n e
     rest : (ms : List ℕ) (n : ℕ) → slice_get (map mid ms ++ final ∷ []) n ≡ Some t → BoundedTerm b t
     rest [] zero e = subst (BoundedTerm b) (same_Some final t e) (record { a = zero_le; b' = q; c = abs-neg _ b (abs-signed (k.coefficient j) k.d b g.d); d = h.coefficients j })
     rest [] (suc n) e = absurd (none-some t e)
-    rest (m ∷ ms) zero e = subst (BoundedTerm b) (same_Some (mid m) t e) (record { a = h.coefficients m; b' = q; c = abs-signed (k.coefficient j) (k.coefficient m) b (g.coefficients m); d = h.coefficients j })
+    rest (m ∷ ms) zero e = subst (BoundedTerm b) (same_Some (mid m) t e)
+        (record { a = h.coefficients m; b' = q; c = abs-signed (k.coefficient j) (k.coefficient m) b (g.coefficients m); d = h.coefficients j })
     rest (m ∷ ms) (suc n) e = rest ms n e
 
     first : Wide
@@ -453,17 +478,22 @@ descent_has system members fixed r i o (after_last le) has = has
 descent_has system members fixed r i o (satisfied lt p d) has = descent_has system members fixed r (suc i) o d has
 descent_has system members fixed r i o (stuck lt s) has = tt
 descent_has system members fixed r i o (passes j w n t lt c f) has = tt
-descent_has system members fixed r i o (stops_below j lt c fit d stop) has = descent_has system (exchanged members (row_variable system i) j) (row_variable system i ∷ fixed) i 0 o d (exchanged_has system members (row_variable system i) j c.k has c.row c.member c.named)
+descent_has system members fixed r i o (stops_below j lt c fit d stop) has =
+    descent_has system (exchanged members (row_variable system i) j) (row_variable system i ∷ fixed) i 0 o d
+    (exchanged_has system members (row_variable system i) j c.k has c.row c.member c.named)
 descent_has system members fixed r i o (goes_on j after lt c fit d rest) has = descent_has system after fixed r (suc i) o rest
     (descent_has system (exchanged members (row_variable system i) j) (row_variable system i ∷ fixed) i 0 (point after) d
     (exchanged_has system members (row_variable system i) j c.k has c.row c.member c.named))
 
-never_wide : (system : LinearSystem) → ((members : List ℕ) (i j : ℕ) → HasDictionary system members → AllFit system members i j) → (members fixed : List ℕ) (r i : ℕ) (o : Outcome) → DescentFrom system members fixed r i o → HasDictionary system members → IsNotWide o
+never_wide : (system : LinearSystem) → ((members : List ℕ) (i j : ℕ) → HasDictionary system members → AllFit system members i j)
+    → (members fixed : List ℕ) (r i : ℕ) (o : Outcome) → DescentFrom system members fixed r i o → HasDictionary system members → IsNotWide o
 never_wide system fits members fixed r i o (after_last le) has = tt
 never_wide system fits members fixed r i o (satisfied lt p d) has = never_wide system fits members fixed r (suc i) o d has
 never_wide system fits members fixed r i o (stuck lt s) has = tt
 never_wide system fits members fixed r i o (passes j w n t lt c f) has = f.passes (fits members (row_variable system i) j has w n t f.term)
-never_wide system fits members fixed r i o (stops_below j lt c fit d stop) has = never_wide system fits (exchanged members (row_variable system i) j) (row_variable system i ∷ fixed) i 0 o d (exchanged_has system members (row_variable system i) j c.k has c.row c.member c.named)
+never_wide system fits members fixed r i o (stops_below j lt c fit d stop) has =
+    never_wide system fits (exchanged members (row_variable system i) j) (row_variable system i ∷ fixed) i 0 o d
+    (exchanged_has system members (row_variable system i) j c.k has c.row c.member c.named)
 never_wide system fits members fixed r i o (goes_on j after lt c fit d rest) has = never_wide system fits after fixed r (suc i) o rest
     (descent_has system (exchanged members (row_variable system i) j) (row_variable system i ∷ fixed) i 0 (point after) d
     (exchanged_has system members (row_variable system i) j c.k has c.row c.member c.named))
@@ -481,7 +511,8 @@ one_less : (n : ℕ) → 2 ≤ n → (1 ≤ n - 1) × (n - 1 < n) × ((m : ℕ) 
 one_less n h = (omega arith, omega arith, λ m lt. omega arith)
 
 pub narrow_fits : (system : LinearSystem) → IsNarrow system → (members : List ℕ) (i j : ℕ) → HasDictionary system members → AllFit system members i j
-narrow_fits system small members i j has = fits_where_small system members i j (bound_of most system.columns) (SetBounded-any system most one columns members has) (narrow system.columns most small.columns below)
+narrow_fits system small members i j has = fits_where_small system members i j (bound_of most system.columns)
+    (SetBounded-any system most one columns members has) (narrow system.columns most small.columns below)
   where
     most : ℕ
     most = 2 ^ (2 ^ (6 - system.columns) - 1) - 1

@@ -58,7 +58,8 @@ abbrev pub renewed : Relation → ℕ → ℕ → Relation → Relation
 renewed k i j l = record {
   d = l.d *ℤ size (k.coefficient j);
   constant = (l.constant *ℤ size (k.coefficient j)) -ℤ ((sign (k.coefficient j) *ℤ k.constant) *ℤ l.coefficient j);
-  coefficient = λ m. if m == i then (sign (k.coefficient j) *ℤ k.d) *ℤ l.coefficient j else ((l.coefficient m *ℤ size (k.coefficient j)) -ℤ ((sign (k.coefficient j) *ℤ k.coefficient m) *ℤ l.coefficient j));
+  coefficient = λ m. if m == i then (sign (k.coefficient j) *ℤ k.d)
+      *ℤ l.coefficient j else ((l.coefficient m *ℤ size (k.coefficient j)) -ℤ ((sign (k.coefficient j) *ℤ k.coefficient m) *ℤ l.coefficient j));
 }
 
 -- the new relation of the member j that leaves

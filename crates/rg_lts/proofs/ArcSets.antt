@@ -27,13 +27,13 @@ data Ranked (a b : ℕ) : Type 0 where
   equal : a ≡ b → nat_cmp a b ≡ Equal → Ranked a b
   upper : nat_cmp a b ≡ Greater → Ranked a b
 
-at_less : (a b : ℕ) → a < b → nat_cmp a b ≡ Less
+pub at_less : (a b : ℕ) → a < b → nat_cmp a b ≡ Less
 at_less a b h = grind (arith, nat_tests)
 
-at_equal : (a b : ℕ) → a ≡ b → nat_cmp a b ≡ Equal
+pub at_equal : (a b : ℕ) → a ≡ b → nat_cmp a b ≡ Equal
 at_equal a b h = grind (arith, nat_tests)
 
-at_greater : (a b : ℕ) → b < a → nat_cmp a b ≡ Greater
+pub at_greater : (a b : ℕ) → b < a → nat_cmp a b ≡ Greater
 at_greater a b h = grind (arith, nat_tests)
 
 ranked : (a b : ℕ) → Ranked a b

@@ -16,7 +16,7 @@ use Rattle.rg_lts.specs.Draft.{Draft, finished, names_alone, IsWellFormedDraft, 
 length-push : {X : Type 0} (xs : List X) (x : X) → length (xs ++ x ∷ []) ≡ length xs + 1
 length-push xs x = length-append xs (x ∷ [])
 
-names_push : (names : List (List ℕ)) (name : List ℕ) → AreNames names → IsName name → (Contains names name → ⊥) → AreNames (names ++ name ∷ [])
+pub names_push : (names : List (List ℕ)) (name : List ℕ) → AreNames names → IsName name → (Contains names name → ⊥) → AreNames (names ++ name ∷ [])
 names_push names name are is absent = record {
   each = All-push IsName names name are.each is;
   differ = all_pairs_push (λ a b. a ≢ b) names name are.differ (λ k d lt same. absent (subst (Contains names) same (Contains-get_or names k d lt)));

@@ -81,7 +81,7 @@ one_order (a ∷ xs) (b ∷ ys) x y to from =
 abbrev Compared : Arc → Arc → Type 0
 Compared a b = IsArcBefore a b ⊎ ((a ≡ b) ⊎ IsArcBefore b a)
 
-compared : (a b : Arc) → Compared a b
+pub compared : (a b : Arc) → Compared a b
 compared a b = by (cases_order a.from b.from) (cases_order a.label b.label) (cases_order a.to b.to)
   where
     by : (a.from ≡ b.from) ⊎ ((a.from < b.from) ⊎ (b.from < a.from)) → (a.label ≡ b.label) ⊎ ((a.label < b.label) ⊎ (b.label < a.label))
@@ -94,7 +94,7 @@ compared a b = by (cases_order a.from b.from) (cases_order a.label b.label) (cas
     by (inl e) (inl f) (inr (inr gt)) = inr (inr (inr (sym e, inr (sym f, gt))))
     by (inl e) (inl f) (inl g) = inr (inl (λ i. record { from = e i; label = f i; to = g i }))
 
-before_trans : (a b c : Arc) → IsArcBefore a b → IsArcBefore b c → IsArcBefore a c
+pub before_trans : (a b c : Arc) → IsArcBefore a b → IsArcBefore b c → IsArcBefore a c
 before_trans a b c (inl x) (inl y) = inl (omega arith)
 before_trans a b c (inl x) (inr y) = let e = y.0 in inl (omega arith)
 before_trans a b c (inr x) (inl y) = let e = x.0 in inl (omega arith)

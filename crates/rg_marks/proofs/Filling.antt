@@ -29,7 +29,8 @@ pub record FilledSoFar (lts : System) (p : Place) (rest : List Arc) (tokens : Li
 only_one : (x s : ℕ) → Contains (x ∷ []) s → x ≡ s
 only_one x s has = ⊎_elim (λ e. e) (λ (k, lt, e). absurd (omega arith)) (Contains-cons_cases x s [] has)
 
-pub filled_start : (lts : System) (p : Place) (tree : List Arc) (tokens : List ℕ) → IsInRange lts → IsTree lts tree → length tokens ≡ states lts → FilledSoFar lts p tree (set tokens lts.initial p.start)
+pub filled_start : (lts : System) (p : Place) (tree : List Arc) (tokens : List ℕ) → IsInRange lts → IsTree lts tree → length tokens ≡ states lts
+    → FilledSoFar lts p tree (set tokens lts.initial p.start)
 filled_start lts p tree tokens fine is count =
     record {
       met = lts.initial ∷ [];
@@ -37,7 +38,8 @@ filled_start lts p tree tokens fine is count =
       initial = (0, omega arith, refl);
       within = λ s has. subst (λ k. k < states lts) (only_one lts.initial s has) fine.initial;
       one_each = length-set tokens lts.initial p.start ∙ count;
-      right = λ m region s has. subst (λ k. get_or (set tokens lts.initial p.start) k 0 ≡ m k) (only_one lts.initial s has) (get_or-set_at tokens lts.initial lts.initial p.start 0 refl (subst (λ n. lts.initial < n) (sym count) fine.initial) ∙ sym region.start);
+      right = λ m region s has. subst (λ k. get_or (set tokens lts.initial p.start) k 0 ≡ m k) (only_one lts.initial s has)
+          (get_or-set_at tokens lts.initial lts.initial p.start 0 refl (subst (λ n. lts.initial < n) (sym count) fine.initial) ∙ sym region.start);
     }
 
 module _ (lts : System) (p : Place) (a : Arc) (rest : List Arc) (tokens : List ℕ) (fine : IsInRange lts) (so_far : FilledSoFar lts p (a ∷ rest) tokens) where
@@ -83,7 +85,8 @@ module _ (lts : System) (p : Place) (a : Arc) (rest : List Arc) (tokens : List �
         one_each = length-set tokens a.to (get_or tokens a.from 0 - x + y) ∙ so_far.one_each;
         right = λ m region s has. ⊎_elim
             (λ before. get_or-set_other tokens a.to s (get_or tokens a.from 0 - x + y) 0 (λ e. so_far.grows.0.fresh (subst (Contains so_far.met) e before)) ∙ so_far.right m region s before)
-            (λ e. subst (λ k. get_or (set tokens a.to (get_or tokens a.from 0 - x + y)) k 0 ≡ m k) e (get_or-set_at tokens a.to a.to (get_or tokens a.from 0 - x + y) 0 refl target_within ∙ value ∙ moved_to m region))
+            (λ e. subst (λ k. get_or (set tokens a.to (get_or tokens a.from 0 - x + y)) k 0 ≡ m k) e
+            (get_or-set_at tokens a.to a.to (get_or tokens a.from 0 - x + y) 0 refl target_within ∙ value ∙ moved_to m region))
             (Contains-push_cases so_far.met a.to s has);
       }
     where
@@ -91,7 +94,8 @@ module _ (lts : System) (p : Place) (a : Arc) (rest : List Arc) (tokens : List �
       value = ap (λ n. get_or tokens a.from 0 - n + y) ex ∙ ap (λ n. get_or tokens a.from 0 - pre_weight p a.label + n) ey
 
 -- the next arc of the tree
-pub next_arc : (lts : System) (p : Place) (tree : List Arc) (i : ℕ) (d : Arc) (tokens : List ℕ) → i < length tree → FilledSoFar lts p (drop i tree) tokens → FilledSoFar lts p (get_or tree i d ∷ drop (i + 1) tree) tokens
+pub next_arc : (lts : System) (p : Place) (tree : List Arc) (i : ℕ) (d : Arc) (tokens : List ℕ) → i < length tree
+    → FilledSoFar lts p (drop i tree) tokens → FilledSoFar lts p (get_or tree i d ∷ drop (i + 1) tree) tokens
 next_arc lts p tree i d tokens lt so_far = subst (λ l. FilledSoFar lts p l tokens) (rw add-one (drop-cons tree i d lt)) so_far
 
 pub filled_end : (lts : System) (p : Place) (tokens : List ℕ) → IsAllReachable lts → FilledSoFar lts p [] tokens → AreTokens lts p tokens

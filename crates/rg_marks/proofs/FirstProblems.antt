@@ -33,7 +33,8 @@ are_firsts lts front p tokens rows firsts narrow are stops within events some no
       no_cells = none;
     }
   where
-    by : (s t : ℕ) → s < states lts → t < labels lts → IsSeparatedBy lts (Event s t) p → (mark_at rows s t ≡ true) ⊎ (mark_at rows s t ≡ false) → Contains firsts.events.items (s, t) ⊎ Any (IsSeparatedBy lts (Event s t)) front
+    by : (s t : ℕ) → s < states lts → t < labels lts → IsSeparatedBy lts (Event s t) p → (mark_at rows s t ≡ true) ⊎ (mark_at rows s t ≡ false)
+        → Contains firsts.events.items (s, t) ⊎ Any (IsSeparatedBy lts (Event s t)) front
     by s t lt lt' here (inl e) = inr ((stops.marks s t lt lt').0 e)
     by s t lt lt' here (inr e) = inl ((events s t lt lt').1 (stopped_is lts p tokens narrow are s t lt here, e))
 
@@ -43,7 +44,8 @@ are_firsts lts front p tokens rows firsts narrow are stops within events some no
         (is_stopped lts p tokens narrow are s t lt stopped, λ before. true≢false (sym ((stops.marks s t lt lt').1 before) ∙ unmarked))
 
 -- a place with which the cells stay tells no more states apart
-pub tells_no_more : (lts : System) (front : List Place) (p : Place) (old new : Separated) → SeparateSoMuch lts front old → SeparateSoMuch lts (front ++ p ∷ []) new → new.cells.items ≡ old.cells.items → TellsNoMore lts front p
+pub tells_no_more : (lts : System) (front : List Place) (p : Place) (old new : Separated) → SeparateSoMuch lts front old
+    → SeparateSoMuch lts (front ++ p ∷ []) new → new.cells.items ≡ old.cells.items → TellsNoMore lts front p
 tells_no_more lts front p old new much more same = λ s s' lt lt' here. (much.cells.apart s s' lt lt').0 (λ e.
     (more.cells.apart s s' lt lt').1 (adds_any (IsSeparatedBy lts (States s s')) p front (front ++ p ∷ []) (adds_last p front) (inl here))
     (subst (λ (b : List ℕ). get_or b s 0 ≡ get_or b s' 0) (sym same) e))
@@ -56,14 +58,16 @@ no_firsts lts places all none none' = record {
 }
 
 -- one more place, with its problems
-pub firsts_more : (lts : System) (front : List Place) (p : Place) (all : List Firsts) (f : Firsts) → AreAllFirsts lts front all → AreFirsts lts front p f → AreAllFirsts lts (front ++ p ∷ []) (all ++ f ∷ [])
+pub firsts_more : (lts : System) (front : List Place) (p : Place) (all : List Firsts) (f : Firsts) → AreAllFirsts lts front all
+    → AreFirsts lts front p f → AreAllFirsts lts (front ++ p ∷ []) (all ++ f ∷ [])
 firsts_more lts front p all f before are =
     record {
       one_each = let same = before.one_each in omega (arith, length-append all (f ∷ []), length-append front (p ∷ []));
       each = λ i q g e h. by i q g (get_cases front p i q e) (get_cases all f i g h);
     }
   where
-    by : (i : ℕ) (q : Place) (g : Firsts) → (slice_get front i ≡ Some q) ⊎ ((i ≡ length front) × (p ≡ q)) → (slice_get all i ≡ Some g) ⊎ ((i ≡ length all) × (f ≡ g)) → AreFirsts lts (take i (front ++ p ∷ [])) q g
+    by : (i : ℕ) (q : Place) (g : Firsts) → (slice_get front i ≡ Some q) ⊎ ((i ≡ length front) × (p ≡ q))
+        → (slice_get all i ≡ Some g) ⊎ ((i ≡ length all) × (f ≡ g)) → AreFirsts lts (take i (front ++ p ∷ [])) q g
     by i q g (inl e) (inl h) = subst (λ (l : List Place). AreFirsts lts l q g) (sym (take-append-le i front (p ∷ []) (let lt = slice_get_within front i q e in omega arith))) (before.each i q g e h)
     by i q g (inl e) (inr (at, is)) = absurd (let lt = slice_get_within front i q e in let same = before.one_each in omega arith)
     by i q g (inr (at, is)) (inl h) = absurd (let lt = slice_get_within all i g h in let same = before.one_each in omega arith)
@@ -73,12 +77,15 @@ firsts_more lts front p all f before are =
         (subst (λ r. AreFirsts lts front r g) is (subst (AreFirsts lts front p) is' are)))
 
 -- the last place's problems, and those of the others
-pub last_firsts : (lts : System) (front : List Place) (p : Place) (all : List Firsts) (f : Firsts) → AreAllFirsts lts (front ++ p ∷ []) (all ++ f ∷ []) → AreFirsts lts front p f × AreAllFirsts lts front all
+pub last_firsts : (lts : System) (front : List Place) (p : Place) (all : List Firsts) (f : Firsts)
+    → AreAllFirsts lts (front ++ p ∷ []) (all ++ f ∷ []) → AreFirsts lts front p f × AreAllFirsts lts front all
 last_firsts lts front p all f are = (
-  subst (λ (l : List Place). AreFirsts lts l p f) (take-append_seam front (p ∷ [])) (are.each (length front) p f (get_last front p (length front) refl) (subst (λ n. slice_get (all ++ f ∷ []) n ≡ Some f) same (get_last all f (length all) refl))),
+  subst (λ (l : List Place). AreFirsts lts l p f) (take-append_seam front (p ∷ []))
+      (are.each (length front) p f (get_last front p (length front) refl) (subst (λ n. slice_get (all ++ f ∷ []) n ≡ Some f) same (get_last all f (length all) refl))),
   record {
     one_each = same;
-    each = λ i q g e h. subst (λ (l : List Place). AreFirsts lts l q g) (take-append-le i front (p ∷ []) (let lt = slice_get_within front i q e in omega arith)) (are.each i q g (get_before front p i q e) (get_before all f i g h));
+    each = λ i q g e h. subst (λ (l : List Place). AreFirsts lts l q g)
+        (take-append-le i front (p ∷ []) (let lt = slice_get_within front i q e in omega arith)) (are.each i q g (get_before front p i q e) (get_before all f i g h));
   },
 )
   where

@@ -21,11 +21,9 @@ pub record MarkedSoFar (lts : System) (events : List (ℕ × ℕ)) (old rows : L
   pub table : IsTable lts rows
   pub marks : (s t : ℕ) → s < states lts → t < labels lts → (mark_at rows s t ≡ true) ↔ ((mark_at old s t ≡ true) ⊎ IsAmongFirst events i (s, t))
 
-pub marked_start : (lts : System) (events : List (ℕ × ℕ)) (rows : List (List Bool)) → IsTable lts rows → MarkedSoFar lts events rows rows 0
-marked_start lts events rows table = record { table = table; marks = λ s t lt lt'. (λ e. inl e, λ h. ⊎_elim (λ e. e) (λ (k, less, is). absurd (omega arith)) h) }
-
 -- one more event is marked
-module _ (lts : System) (events : List (ℕ × ℕ)) (old rows : List (List Bool)) (i : ℕ) (so_far : MarkedSoFar lts events old rows i) (s t : ℕ) (lt : s < states lts) (lt' : t < labels lts) (at : get_or events i (s, t) ≡ (s, t)) where
+module _ (lts : System) (events : List (ℕ × ℕ)) (old rows : List (List Bool)) (i : ℕ) (so_far : MarkedSoFar lts events old rows i) (s t : ℕ)
+    (lt : s < states lts) (lt' : t < labels lts) (at : get_or events i (s, t) ≡ (s, t)) where
   abbrev after : List (List Bool)
   after = set rows t (set (get_or rows t []) s true)
 
@@ -46,7 +44,8 @@ module _ (lts : System) (events : List (ℕ × ℕ)) (old rows : List (List Bool
   stays : (r u : ℕ) → (u ≡ t) ⊎ (u ≡ t → ⊥) → (r ≡ s) ⊎ (r ≡ s → ⊥) → ((u ≡ t) × (r ≡ s)) ⊎ ((mark_at after r u ≡ mark_at rows r u) × (IsMarked (r, u) → ⊥))
   stays r u (inl e) (inl f) = inl (e, f)
   stays r u (inl e) (inr other) = inr (
-    ap (λ (b : List Bool). get_or b r false) (get_or-set_at rows t u (set (get_or rows t []) s true) [] e there) ∙ get_or-set_other (get_or rows t []) s r true false other ∙ ap (λ n. get_or (get_or rows n []) r false) (sym e),
+    ap (λ (b : List Bool). get_or b r false) (get_or-set_at rows t u (set (get_or rows t []) s true) [] e there)
+        ∙ get_or-set_other (get_or rows t []) s r true false other ∙ ap (λ n. get_or (get_or rows n []) r false) (sym e),
     λ is. other (ap (λ (x : ℕ × ℕ). x.0) is),
   )
   stays r u (inr other) f = inr (ap (λ (b : List Bool). get_or b r false) (get_or-set_other rows t u (set (get_or rows t []) s true) [] other), λ is. other (ap (λ (x : ℕ × ℕ). x.1) is))
@@ -95,7 +94,8 @@ label_of_row lts rows t lt table = subst (λ n. t < n) (sym (length-map rows (λ
 pub row_of_label : (lts : System) (rows : List (Vec Bool Global)) (t : ℕ) → t < labels lts → IsTable lts (rows_in rows) → t < length rows
 row_of_label lts rows t lt table = subst (λ n. t < n) (sym (sym (length-map rows (λ (v : Vec Bool Global). v.items)) ∙ table.one_row_each)) lt
 
-pub row_length : (lts : System) (rows : List (Vec Bool Global)) (t : ℕ) (r : Vec Bool Global) (row : List Bool) → t < length rows → IsTable lts (rows_in rows) → r ≡ get_or rows t r → row ≡ r.items → length row ≡ states lts
+pub row_length : (lts : System) (rows : List (Vec Bool Global)) (t : ℕ) (r : Vec Bool Global) (row : List Bool) → t < length rows
+    → IsTable lts (rows_in rows) → r ≡ get_or rows t r → row ≡ r.items → length row ≡ states lts
 row_length lts rows t r row lt table e f = ap (λ (b : List Bool). length b) (f ∙ sym (row_read rows t r lt e)) ∙ table.one_each t (label_of_row lts rows t lt table)
 
 -- one more event is marked, as its row is written
@@ -119,13 +119,15 @@ none_marked lts rows is =
         one_each = λ t lt. ap (λ (b : List Bool). length b) (get_or-replicate (labels lts) t (replicate (states lts) false) [] lt) ∙ length-replicate (states lts) false;
       };
       marks = λ s t lt lt'. (
-        λ h. absurd (true≢false (sym h ∙ ap (λ (b : List Bool). get_or b s false) (get_or-replicate (labels lts) t (replicate (states lts) false) [] lt') ∙ get_or-replicate (states lts) s false false lt)),
+        λ h. absurd (true≢false (sym h ∙ ap (λ (b : List Bool). get_or b s false)
+            (get_or-replicate (labels lts) t (replicate (states lts) false) [] lt') ∙ get_or-replicate (states lts) s false false lt)),
         λ (k, x, less, e, sep). absurd (omega arith),
       );
     })
 
 -- a mark that was read
-pub mark_read : (lts : System) (rows : List (Vec Bool Global)) (s t : ℕ) (r : Vec Bool Global) (v : Bool) → s < states lts → t < labels lts → IsTable lts (rows_in rows) → r ≡ get_or rows t r → v ≡ get_or r.items s v → mark_at (rows_in rows) s t ≡ v
+pub mark_read : (lts : System) (rows : List (Vec Bool Global)) (s t : ℕ) (r : Vec Bool Global) (v : Bool) → s < states lts → t < labels lts
+    → IsTable lts (rows_in rows) → r ≡ get_or rows t r → v ≡ get_or r.items s v → mark_at (rows_in rows) s t ≡ v
 mark_read lts rows s t r v lt lt' table read e =
     ap (λ (b : List Bool). get_or b s false) (row_read rows t r (row_of_label lts rows t lt' table) read)
     ∙ get_or_default r.items s false v (subst (λ n. s < n) (sym (row_length lts rows t r r.items (row_of_label lts rows t lt' table) table read refl)) lt)

@@ -152,7 +152,8 @@ module _ (cells tokens : List ℕ) (keys : List (ℕ × ℕ)) (firsts refined : 
           ∙ slice_get_read (firsts ++ s ∷ []) (length firsts + 1) number f (let n = length-append firsts (s ∷ []) in omega arith) (omega arith) read
           )
 
-      go : (list_any (same_pair next_pair) keys ≡ true) ⊎ (list_any (same_pair next_pair) keys ≡ false) → NumberedSoFar cells tokens (with_pair keys next_pair) (firsts ++ s ∷ []) (refined ++ f ∷ []) (s + 1)
+      go : (list_any (same_pair next_pair) keys ≡ true) ⊎ (list_any (same_pair next_pair) keys ≡ false)
+          → NumberedSoFar cells tokens (with_pair keys next_pair) (firsts ++ s ∷ []) (refined ++ f ∷ []) (s + 1)
       go (inl p) =
           let lt = slice_get_within keys number next_pair (subst (λ b. slice_get (if b then keys else (keys ++ next_pair ∷ [])) number ≡ Some next_pair) p at) in
           let same = so_far.listed in

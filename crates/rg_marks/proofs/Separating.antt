@@ -51,7 +51,9 @@ module _ (lts : System) (p : Place) (tokens : List ℕ) (narrow : IsNarrow lts p
       to : (s s' : ℕ) → s < states lts → s' < states lts → get_or refined s 0 ≢ get_or refined s' 0 → Any (IsSeparatedBy lts (States s s')) ys
       to s s' lt lt' differ = adds_any (IsSeparatedBy lts (States s s')) p xs ys adds (by (cases_eq (get_or cells s 0) (get_or cells s' 0)) (cases_eq (get_or tokens s 0) (get_or tokens s' 0)))
         where
-          by : (get_or cells s 0 ≡ get_or cells s' 0) ⊎ (get_or cells s 0 ≢ get_or cells s' 0) → (get_or tokens s 0 ≡ get_or tokens s' 0) ⊎ (get_or tokens s 0 ≢ get_or tokens s' 0) → IsSeparatedBy lts (States s s') p ⊎ Any (IsSeparatedBy lts (States s s')) xs
+          by : (get_or cells s 0 ≡ get_or cells s' 0) ⊎ (get_or cells s 0 ≢ get_or cells s' 0)
+              → (get_or tokens s 0 ≡ get_or tokens s' 0) ⊎ (get_or tokens s 0 ≢ get_or tokens s' 0)
+              → IsSeparatedBy lts (States s s') p ⊎ Any (IsSeparatedBy lts (States s s')) xs
           by (inl e) (inl f) = absurd (differ ((fine.same s s' (within s lt) (within s' lt')).1 (e, f)))
           by e (inr other) = inl (is_apart s s' lt lt' other)
           by (inr other) f = inr ((before.apart s s' lt lt').0 other)
@@ -70,22 +72,6 @@ one_cell lts cells is = subst (AreCells lts []) (sym is) (record {
     λ (k, x, less, e, sep). absurd (omega arith),
   );
 })
-
--- the one cell of all states is numbered by the first of them
-pub one_numbered : (count : ℕ) (cells : List ℕ) → cells ≡ replicate count 0 → AreNumbered cells
-one_numbered count cells is = subst AreNumbered (sym is) (record { within = within; own = own })
-  where
-    all : List ℕ
-    all = replicate count 0
-
-    first : (s : ℕ) → s < length all → get_or all s 0 ≡ 0
-    first s lt = get_or-replicate count s 0 0 (let size : length all ≡ count = length-replicate count 0 in omega arith)
-
-    within : (s : ℕ) → s < length all → get_or all s 0 < length all
-    within s lt = let e = first s lt in omega arith
-
-    own : (s : ℕ) → s < length all → get_or all (get_or all s 0) 0 ≡ get_or all s 0
-    own s lt = ap (λ n. get_or all n 0) (first s lt) ∙ first 0 (omega arith) ∙ sym (first s lt)
 
 -- each state is alone in its cell exactly where the places distinguish every two states
 pub single_apart : (lts : System) (places : List Place) (separated : Separated) → SeparateSoMuch lts places separated → AreSingle separated.cells.items ↔ AreAllApart lts places
@@ -134,7 +120,8 @@ marks_with_new lts p tokens before after events new says s t lt lt' = (
     by stops (inr not) = inr ((new s t lt lt').1 (stops, not))
 
 -- what is separated with one more place, as it was written
-pub so_much_more : (lts : System) (p : Place) (tokens : List ℕ) (xs ys : List Place) (old new : Separated) (before : List (Vec Bool Global)) (rows : List (Vec Bool Global)) (from : List ℕ) (refined : List ℕ) → IsNarrow lts p → AreTokens lts p tokens → AddsOne p xs ys → SeparateSoMuch lts xs old
+pub so_much_more : (lts : System) (p : Place) (tokens : List ℕ) (xs ys : List Place) (old new : Separated) (before : List (Vec Bool Global))
+    (rows : List (Vec Bool Global)) (from : List ℕ) (refined : List ℕ) → IsNarrow lts p → AreTokens lts p tokens → AddsOne p xs ys → SeparateSoMuch lts xs old
     → before ≡ old.stops.items → new.stops.items ≡ rows → IsTable lts (rows_in rows)
     → ((s t : ℕ) → s < states lts → t < labels lts → (mark_at (rows_in rows) s t ≡ true) ↔ ((mark_at (rows_in before) s t ≡ true) ⊎ IsStoppedBy p tokens s t))
     → from ≡ old.cells.items → AreRefined from tokens refined → new.cells.items ≡ refined
@@ -157,7 +144,8 @@ module _ (lts : System) (places : List Place) (separated : Separated) (much : Se
         (λ some. sym read ∙ from (subst (λ (q : Problem). Any (IsSeparatedBy lts q) places) is some)),
       )
 
-  pub told_by_numbers : (s s' number other : ℕ) → problem ≡ States s s' → number ≡ get_or separated.cells.items s 0 → other ≡ get_or separated.cells.items s' 0 → IsTrue (not (number == other)) ↔ Any (IsSeparatedBy lts problem) places
+  pub told_by_numbers : (s s' number other : ℕ) → problem ≡ States s s' → number ≡ get_or separated.cells.items s 0
+      → other ≡ get_or separated.cells.items s' 0 → IsTrue (not (number == other)) ↔ Any (IsSeparatedBy lts problem) places
   told_by_numbers s s' number other is e f = (
     (λ set. subst (λ (q : Problem). Any (IsSeparatedBy lts q) places) (sym is) (apart.0 (λ same. true≢false (sym set ∙ ap not (eq-eqb number other (e ∙ same ∙ sym f)))))),
     (λ some. by (apart.1 (subst (λ (q : Problem). Any (IsSeparatedBy lts q) places) is some)) (cases_Bool (number == other))),

@@ -12,9 +12,6 @@ use Rattle.rg_marks.proofs.Marking.{weight_read, row_read, row_of_label}
 pub record PushedSoFar (tokens : List ℕ) (weight : ℕ) (row : List Bool) (t : ℕ) (old events : List (ℕ × ℕ)) (q : ℕ) : Type 0 where
   pub all : (s u : ℕ) → Contains events (s, u) ↔ (Contains old (s, u) ⊎ ((u ≡ t) × (s < q) × (get_or tokens s 0 < weight) × (get_or row s false ≡ false)))
 
-pub pushed_start : (tokens : List ℕ) (weight : ℕ) (row : List Bool) (t : ℕ) (events : List (ℕ × ℕ)) → PushedSoFar tokens weight row t events events 0
-pushed_start tokens weight row t events = record { all = λ s u. (λ h. inl h, λ h. ⊎_elim (λ has. has) (λ (e, less, few, unmarked). absurd (omega arith)) h) }
-
 module _ (tokens : List ℕ) (weight : ℕ) (row : List Bool) (t : ℕ) (old events : List (ℕ × ℕ)) (q : ℕ) (so_far : PushedSoFar tokens weight row t old events q) where
   pub pushed_then : get_or tokens q 0 < weight → get_or row q false ≡ false → PushedSoFar tokens weight row t old (events ++ (q, t) ∷ []) (q + 1)
   pushed_then few unmarked = record {
@@ -43,7 +40,8 @@ module _ (tokens : List ℕ) (weight : ℕ) (row : List Bool) (t : ℕ) (old eve
     );
   }
     where
-      at : (s u : ℕ) → u ≡ t → s < q + 1 → get_or tokens s 0 < weight → get_or row s false ≡ false → (s ≡ q) ⊎ (s ≡ q → ⊥) → Contains old (s, u) ⊎ ((u ≡ t) × (s < q) × (get_or tokens s 0 < weight) × (get_or row s false ≡ false))
+      at : (s u : ℕ) → u ≡ t → s < q + 1 → get_or tokens s 0 < weight → get_or row s false ≡ false → (s ≡ q) ⊎ (s ≡ q → ⊥)
+          → Contains old (s, u) ⊎ ((u ≡ t) × (s < q) × (get_or tokens s 0 < weight) × (get_or row s false ≡ false))
       at s u e less few unmarked (inl same) = absurd (true≢false (sym (marked (subst (λ n. get_or tokens n 0 < weight) same few)) ∙ subst (λ n. get_or row n false ≡ false) same unmarked))
       at s u e less few unmarked (inr differ) = inr (e, omega arith, few, unmarked)
 
@@ -58,24 +56,37 @@ pushed_end tokens weight row t old events q past most so_far s u = (
 pub record NewSoFar (lts : System) (p : Place) (tokens : List ℕ) (rows : List (List Bool)) (events : List (ℕ × ℕ)) (t : ℕ) : Type 0 where
   pub all : (s u : ℕ) → Contains events (s, u) ↔ ((u < t) × (s < states lts) × IsStoppedBy p tokens s u × (mark_at rows s u ≡ false))
 
-pub new_start : (lts : System) (p : Place) (tokens : List ℕ) (rows : List (List Bool)) → NewSoFar lts p tokens rows [] 0
-new_start lts p tokens rows = record { all = λ s u. (λ (k, lt, e). absurd (omega arith), λ (less, lt, stops, unmarked). absurd (omega arith)) }
-
-module _ (lts : System) (p : Place) (tokens : List ℕ) (rows : List (List Bool)) (events : List (ℕ × ℕ)) (t : ℕ) (so_far : NewSoFar lts p tokens rows events t) (one_each : length tokens ≡ states lts) where
+module _ (lts : System) (p : Place) (tokens : List ℕ) (rows : List (List Bool)) (events : List (ℕ × ℕ)) (t : ℕ)
+    (so_far : NewSoFar lts p tokens rows events t) (one_each : length tokens ≡ states lts) where
   -- the label's own stops are added
-  pub new_then : (after : List (ℕ × ℕ)) → ((s u : ℕ) → Contains after (s, u) ↔ (Contains events (s, u) ⊎ ((u ≡ t) × (s < length tokens) × (get_or tokens s 0 < pre_weight p t) × (get_or (get_or rows t []) s false ≡ false)))) → NewSoFar lts p tokens rows after (t + 1)
+  pub new_then : (after : List (ℕ × ℕ)) → ((s u : ℕ)
+      → Contains after (s, u) ↔ (Contains events (s, u)
+      ⊎ ((u ≡ t) × (s < length tokens) × (get_or tokens s 0 < pre_weight p t) × (get_or (get_or rows t []) s false ≡ false)))) → NewSoFar lts p tokens rows after (t + 1)
   new_then after says = record {
     all = λ s u. (
       λ h. ⊎_elim
           (λ before. let (less, lt, stops, unmarked) = (so_far.all s u).0 before in (omega arith, lt, stops, unmarked))
-          (λ (e, lt, few, unmarked). (omega arith, subst (λ n. s < n) one_each lt, subst (λ n. get_or tokens s 0 < pre_weight p n) (sym e) few, subst (λ n. get_or (get_or rows n []) s false ≡ false) (sym e) unmarked))
+          (λ (e, lt, few, unmarked). (
+            omega arith,
+            subst (λ n. s < n) one_each lt,
+            subst (λ n. get_or tokens s 0 < pre_weight p n) (sym e) few,
+            subst
+                (λ n. get_or (get_or rows n []) s false ≡ false) (sym e) unmarked,
+          ))
           ((says s u).0 h),
       λ (less, lt, stops, unmarked). (says s u).1 (at s u less lt stops unmarked (cases_eq u t)),
     );
   }
     where
-      at : (s u : ℕ) → u < t + 1 → s < states lts → IsStoppedBy p tokens s u → mark_at rows s u ≡ false → (u ≡ t) ⊎ (u ≡ t → ⊥) → Contains events (s, u) ⊎ ((u ≡ t) × (s < length tokens) × (get_or tokens s 0 < pre_weight p t) × (get_or (get_or rows t []) s false ≡ false))
-      at s u less lt stops unmarked (inl e) = inr (e, subst (λ n. s < n) (sym one_each) lt, subst (λ n. get_or tokens s 0 < pre_weight p n) e stops, subst (λ n. get_or (get_or rows n []) s false ≡ false) e unmarked)
+      at : (s u : ℕ) → u < t + 1 → s < states lts → IsStoppedBy p tokens s u → mark_at rows s u ≡ false → (u ≡ t) ⊎ (u ≡ t → ⊥)
+          → Contains events (s, u) ⊎ ((u ≡ t) × (s < length tokens) × (get_or tokens s 0 < pre_weight p t) × (get_or (get_or rows t []) s false ≡ false))
+      at s u less lt stops unmarked (inl e) = inr (
+        e,
+        subst (λ n. s < n) (sym one_each) lt,
+        subst (λ n. get_or tokens s 0 < pre_weight p n) e stops,
+        subst
+            (λ n. get_or (get_or rows n []) s false ≡ false) e unmarked,
+      )
       at s u less lt stops unmarked (inr differ) = inl ((so_far.all s u).1 (omega arith, lt, stops, unmarked))
 
   -- a label that takes nothing is stopped nowhere
@@ -83,7 +94,8 @@ module _ (lts : System) (p : Place) (tokens : List ℕ) (rows : List (List Bool)
   new_else none = new_then events (λ s u. (λ h. inl h, λ h. ⊎_elim (λ has. has) (λ (e, lt, few, unmarked). absurd (omega arith)) h))
 
 pub new_end : (lts : System) (p : Place) (tokens : List ℕ) (rows : List (List Bool)) (events : List (ℕ × ℕ)) (t : ℕ) → labels lts ≤ t → t ≤ labels lts → NewSoFar lts p tokens rows events t
-    → ((s u : ℕ) → Contains events (s, u) → (s < states lts) × (u < labels lts)) × ((s u : ℕ) → s < states lts → u < labels lts → Contains events (s, u) ↔ (IsStoppedBy p tokens s u × (mark_at rows s u ≡ false)))
+    → ((s u : ℕ) → Contains events (s, u) → (s < states lts) × (u < labels lts))
+    × ((s u : ℕ) → s < states lts → u < labels lts → Contains events (s, u) ↔ (IsStoppedBy p tokens s u × (mark_at rows s u ≡ false)))
 new_end lts p tokens rows events t past all so_far = (
   λ s u h. (let (less, lt, stops, unmarked) = (so_far.all s u).0 h in (lt, omega arith)),
   λ s u lt lt'. (λ h. (let (less, within, stops, unmarked) = (so_far.all s u).0 h in (stops, unmarked)), λ (stops, unmarked). (so_far.all s u).1 (omega arith, lt, stops, unmarked)),
@@ -100,7 +112,8 @@ pub new_written : (lts : System) (p : Place) (tokens : List ℕ) (rows : List (V
     → ((s u : ℕ) → Contains after (s, u) ↔ (Contains events (s, u) ⊎ ((u ≡ t) × (s < length tokens) × (get_or tokens s 0 < weight) × (get_or row s false ≡ false))))
     → NewSoFar lts p tokens (rows_in rows) after (t + 1)
 new_written lts p tokens rows events after t r row weight one_each all lt table read is weighs so_far says =
-    new_then lts p tokens (rows_in rows) events t so_far one_each after (subst (λ (b : List Bool). IsAdded tokens events after t b (pre_weight p t)) here (subst (λ n. IsAdded tokens events after t row n) heavy says))
+    new_then lts p tokens (rows_in rows) events t so_far one_each after
+    (subst (λ (b : List Bool). IsAdded tokens events after t b (pre_weight p t)) here (subst (λ n. IsAdded tokens events after t row n) heavy says))
   where
     here : row ≡ get_or (rows_in rows) t []
     here = is ∙ sym (row_read rows t r (row_of_label lts rows t lt table) read)
@@ -109,5 +122,6 @@ new_written lts p tokens rows events after t r row weight one_each all lt table 
     heavy = weight_read p.pre t weight (subst (λ n. t < n) (sym all) lt) weighs
 
 -- the event at a place of the list
-pub event_within : (lts : System) (events : List (ℕ × ℕ)) (i : ℕ) (d : ℕ × ℕ) → i < length events → ((s t : ℕ) → Contains events (s, t) → (s < states lts) × (t < labels lts)) → ((get_or events i d).0 < states lts) × ((get_or events i d).1 < labels lts)
+pub event_within : (lts : System) (events : List (ℕ × ℕ)) (i : ℕ) (d : ℕ × ℕ) → i < length events
+    → ((s t : ℕ) → Contains events (s, t) → (s < states lts) × (t < labels lts)) → ((get_or events i d).0 < states lts) × ((get_or events i d).1 < labels lts)
 event_within lts events i d lt within = within (get_or events i d).0 (get_or events i d).1 (Contains-get_or events i d lt)

@@ -27,5 +27,6 @@ AreAllApart lts places = (s s' : ℕ) → IsProblem lts (States s s') → Any (I
 -- numbered by their states where the former ones were
 pub record AreRefined (cells tokens refined : List ℕ) : Type 0 where
   pub one_each : length refined ≡ length cells
-  pub same : (s s' : ℕ) → s < length cells → s' < length cells → (slice_index refined s ≡ slice_index refined s') ↔ ((slice_index cells s ≡ slice_index cells s') × (slice_index tokens s ≡ slice_index tokens s'))
+  pub same : (s s' : ℕ) → s < length cells → s' < length cells
+      → (slice_index refined s ≡ slice_index refined s') ↔ ((slice_index cells s ≡ slice_index cells s') × (slice_index tokens s ≡ slice_index tokens s'))
   pub numbered : AreNumbered cells → AreNumbered refined

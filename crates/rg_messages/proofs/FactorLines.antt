@@ -10,7 +10,8 @@ use Rattle.rg_product.specs.Product.{Factor, IsTuple}
 use Rattle.rg_factor.proofs.Joinings.{range_more}
 use Rattle.rg_messages.specs.FactorTexts.{factor_line, factor_lines, entries_text}
 
-pub line_more : {X : Type 0} (f : X → List ℕ) (xs : List X) (k : ℕ) (d : X) (start old new : List ℕ) → k < length xs → new ≡ old ++ f (get_or xs k d) → old ≡ start ++ flat_map f (take k xs) → new ≡ start ++ flat_map f (take (k + 1) xs)
+pub line_more : {X : Type 0} (f : X → List ℕ) (xs : List X) (k : ℕ) (d : X) (start old new : List ℕ) → k < length xs → new ≡ old ++ f (get_or xs k d)
+    → old ≡ start ++ flat_map f (take k xs) → new ≡ start ++ flat_map f (take (k + 1) xs)
 line_more f xs k d start old new lt is so_far =
     is ∙ ap (λ l. l ++ f (get_or xs k d)) so_far ∙ append_assoc start (flat_map f (take k xs)) (f (get_or xs k d))
     ∙ ap (λ l. start ++ l) (sym (ap (flat_map f) (take_more xs k d lt) ∙ flat_map-append f (take k xs) (get_or xs k d ∷ []) ∙ ap (λ l. flat_map f (take k xs) ++ l) (append-nil (f (get_or xs k d)))))

@@ -13,18 +13,19 @@ pub record MovedSoFar (net : Net) (m : Marking) (t : ℕ) (after : Marking) (i :
   pub long : length after ≡ i
   pub moved : (j : ℕ) (p : Place) → j < i → IsPlaceAt net j p → tokens after j ≡ left_on m j p t
 
-last_of : (xs : List ℕ) (y k : ℕ) → k ≡ length xs → get_or (xs ++ y ∷ []) k 0 ≡ y
+pub last_of : (xs : List ℕ) (y k : ℕ) → k ≡ length xs → get_or (xs ++ y ∷ []) k 0 ≡ y
 last_of [] y zero e = refl
 last_of [] y (suc k) e = absurd (omega arith)
 last_of (x ∷ xs) y zero e = absurd (omega arith)
 last_of (x ∷ xs) y (suc k) e = last_of xs y k (omega arith)
 
-first_of : (xs : List ℕ) (y k : ℕ) → k < length xs → get_or (xs ++ y ∷ []) k 0 ≡ get_or xs k 0
+pub first_of : (xs : List ℕ) (y k : ℕ) → k < length xs → get_or (xs ++ y ∷ []) k 0 ≡ get_or xs k 0
 first_of [] y k lt = absurd (omega arith)
 first_of (x ∷ xs) y zero lt = refl
 first_of (x ∷ xs) y (suc k) lt = first_of xs y k (omega arith)
 
-pub moved_next : (net : Net) (m : Marking) (t : ℕ) (after : Marking) (i : ℕ) (p : Place) (n : ℕ) → MovedSoFar net m t after i → IsPlaceAt net i p → n ≡ left_on m i p t → MovedSoFar net m t (after ++ n ∷ []) (i + 1)
+pub moved_next : (net : Net) (m : Marking) (t : ℕ) (after : Marking) (i : ℕ) (p : Place) (n : ℕ) → MovedSoFar net m t after i → IsPlaceAt net i p
+    → n ≡ left_on m i p t → MovedSoFar net m t (after ++ n ∷ []) (i + 1)
 moved_next net m t after i p n so_far at is =
     record {
       long = length-append after (n ∷ []) ∙ ap (λ k. k + 1) so_far.long;

@@ -3,18 +3,6 @@ use Rattle.std.proofs.Common.{◌≡◌, ◌≢◌, ◌↔◌, ℕ, zero, suc, �
 use Rattle.std.proofs.lemmas.Nat.{div-add-mod', mod-mul-add}
 use Rattle.rg_theory.specs.Class.{IsMultiple}
 
-pub multiple_of_zero : (n m : ℕ) → n ≡ 0 → IsTrue (m == 0) ↔ IsMultiple n m
-multiple_of_zero n m none = (
-  (λ is. (0, eqb-true m 0 is ∙ nothing n)),
-  (λ (times, e). eq-eqb m 0 (e ∙ ap (λ k. times * k) none ∙ nothing' times)),
-)
-  where
-    nothing : (n : ℕ) → 0 ≡ 0 * n
-    nothing n = omega arith
-
-    nothing' : (k : ℕ) → k * 0 ≡ 0
-    nothing' k = omega arith
-
 pub multiple_by_rest : (n m : ℕ) → n ≢ 0 → IsTrue ((m % n) == 0) ↔ IsMultiple n m
 multiple_by_rest n m some = (
   (λ is. (m / n, whole m (m / n * n) (m % n) (div-add-mod' m n) (eqb-true (m % n) 0 is))),

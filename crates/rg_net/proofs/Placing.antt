@@ -29,7 +29,8 @@ pub number_read : (xs : List ℕ) (i x : ℕ) → i < length xs → x ≡ get_or
 number_read xs i x lt e = e ∙ get_or_default_zero xs i x lt
 
 -- what holds at the places below i and at i holds at those below i + 1, and in the end at all
-pub placed_more : (P : ℕ → Place → Type 0) (net : Net) (i : ℕ) (x : Place) → ((j : ℕ) (p : Place) → j < i → IsPlaceAt net j p → P j p) → IsPlaceAt net i x → P i x → (j : ℕ) (p : Place) → j < i + 1 → IsPlaceAt net j p → P j p
+pub placed_more : (P : ℕ → Place → Type 0) (net : Net) (i : ℕ) (x : Place) → ((j : ℕ) (p : Place) → j < i → IsPlaceAt net j p → P j p)
+    → IsPlaceAt net i x → P i x → (j : ℕ) (p : Place) → j < i + 1 → IsPlaceAt net j p → P j p
 placed_more P net i x before at here j p lt at' =
     ⊎_elim
     (λ less. before j p less at')

@@ -19,12 +19,14 @@ pub all_at : (P : Marking → Type 0) (ms : List Marking) (s : ℕ) (m : Marking
 all_at P ms s m all at = subst P (get_or_from_slice_get ms s m m at) (all s m (slice_get_within ms s m at))
 
 -- what holds of those below s and of the one at s holds of those below s + 1, and in the end of all
-pub rows_more : (P : Marking → Type 0) (ms : List Marking) (s : ℕ) (x : Marking) → ((r : ℕ) (m : Marking) → r < s → slice_get ms r ≡ Some m → P m) → slice_get ms s ≡ Some x → P x → (r : ℕ) (m : Marking) → r < s + 1 → slice_get ms r ≡ Some m → P m
+pub rows_more : (P : Marking → Type 0) (ms : List Marking) (s : ℕ) (x : Marking) → ((r : ℕ) (m : Marking) → r < s → slice_get ms r ≡ Some m → P m)
+    → slice_get ms s ≡ Some x → P x → (r : ℕ) (m : Marking) → r < s + 1 → slice_get ms r ≡ Some m → P m
 rows_more P ms s x before at here r m lt at' =
     ⊎_elim
     (λ less. before r m less at')
     (λ more. (let e : r ≡ s = omega arith in subst P (same_Some x m (sym at ∙ subst (λ k. slice_get ms k ≡ Some m) e at')) here))
     (cases_lt r s)
 
-pub rows_all : (P : Marking → Type 0) (ms : List Marking) (s : ℕ) → length ms ≤ s → ((r : ℕ) (m : Marking) → r < s → slice_get ms r ≡ Some m → P m) → (r : ℕ) (m : Marking) → slice_get ms r ≡ Some m → P m
+pub rows_all : (P : Marking → Type 0) (ms : List Marking) (s : ℕ) → length ms ≤ s → ((r : ℕ) (m : Marking) → r < s → slice_get ms r ≡ Some m → P m)
+    → (r : ℕ) (m : Marking) → slice_get ms r ≡ Some m → P m
 rows_all P ms s past before r m at = before r m (let lt = slice_get_within ms r m at in omega arith) at

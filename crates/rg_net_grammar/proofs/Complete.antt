@@ -79,15 +79,18 @@ after_set_is post xs go = go
 after_set_is marking xs go = go
 
 -- the end of a member
-closed : (side : Side) (member : Member) (front : List Lexeme) (x : Lexeme) (xs : List Lexeme) (q : Position) → IsMember member front → x.kind ≡ RightBrace → Some (after_set side) ≡ Some q → Completes q xs
+closed : (side : Side) (member : Member) (front : List Lexeme) (x : Lexeme) (xs : List Lexeme) (q : Position) → IsMember member front
+    → x.kind ≡ RightBrace → Some (after_set side) ≡ Some q → Completes q xs
     → Members side (front ++ x ∷ xs)
 closed side member front x xs q is kind lead go = close_more RightBrace IsMember (Then side) member front x xs is kind (after_set_is side xs (led (after_set side) q xs lead go))
 
-going_on : (side : Side) (member : Member) (front : List Lexeme) (x : Lexeme) (xs : List Lexeme) (q : Position) → IsMember member front → x.kind ≡ Comma → Some (in_set side next_member) ≡ Some q → Completes q xs
+going_on : (side : Side) (member : Member) (front : List Lexeme) (x : Lexeme) (xs : List Lexeme) (q : Position) → IsMember member front
+    → x.kind ≡ Comma → Some (in_set side next_member) ≡ Some q → Completes q xs
     → Members side (front ++ x ∷ xs)
 going_on side member front x xs q is kind lead go = comma_more RightBrace IsMember (Then side) member front x xs is kind (led (in_set side next_member) q xs lead go)
 
-star_more : (side : Side) (name x : Lexeme) (xs : List Lexeme) (q : Position) (b : Bool) → is_digits name.text ≡ b → x.kind ≡ Star → cond b (Some (in_set side (after_star name))) None ≡ Some q → Completes q xs
+star_more : (side : Side) (name x : Lexeme) (xs : List Lexeme) (q : Position) (b : Bool) → is_digits name.text ≡ b → x.kind ≡ Star
+    → cond b (Some (in_set side (after_star name))) None ≡ Some q → Completes q xs
     → SetCompletes side (after_name name) (x ∷ xs)
 star_more side name x xs q true e kind lead go = λ name_kind. led (in_set side (after_star name)) q xs lead go x (name_kind, AllPass-from_list_all is_ascii_digit name.text e) kind
 star_more side name x xs q false e kind lead go = absurd cc
@@ -146,7 +149,8 @@ word_items word xs kind =
     t : List ℕ
     t = word.text
 
-    by : (a b c d e : Bool) → bytes_eq t (codes ".type") ≡ a → bytes_eq t (codes ".places") ≡ b → bytes_eq t (codes ".transitions") ≡ c → bytes_eq t (codes ".flows") ≡ d → bytes_eq t (codes ".initial_marking") ≡ e
+    by : (a b c d e : Bool) → bytes_eq t (codes ".type") ≡ a → bytes_eq t (codes ".places") ≡ b → bytes_eq t (codes ".transitions") ≡ c
+        → bytes_eq t (codes ".flows") ≡ d → bytes_eq t (codes ".initial_marking") ≡ e
         → Completes (cond a type_name (cond b (in_section places) (cond c (in_section transitions) (cond d in_flows (cond e (before_set marking) passed_text))))) xs → Items (word ∷ xs)
     by true b c d e f g h i j go = go word (kind, same_bytes t (codes ".type") f)
     by false true c d e f g h i j go = places_items word xs (kind, same_bytes t (codes ".places") g) go

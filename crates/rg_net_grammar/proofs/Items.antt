@@ -104,7 +104,8 @@ item_moves b d (item.marking members) xs is =
     (same_progress found made (or_false d.typed) (sym (append-nil d.places)) (sym (append-nil d.transitions)) (sym (append-nil d.flows)) refl)
 item_moves b d item.other xs is =
     let made = with_item item.other d in
-    word_moves net_grammar after_word b (section, section_begins) passed_text d d made is.0 (is.1 ∷ []) xs is.2.kind (other_word is.0 is.2) (kind_step passed_text section d d is.1 Text is.3 refl refl) is.4
+    word_moves net_grammar after_word b (section, section_begins) passed_text d d made is.0 (is.1 ∷ []) xs is.2.kind (other_word is.0 is.2)
+    (kind_step passed_text section d d is.1 Text is.3 refl refl) is.4
     (same_progress d made (or_false d.typed) (sym (append-nil d.places)) (sym (append-nil d.transitions)) (sym (append-nil d.flows)) (sym (append-nil d.marking)))
 
 all_items : (is : List Item) (d : Progress) → take_all with_item is d ≡ with_items is d

@@ -120,7 +120,8 @@ pub transitions_move : (d : Progress) (es : List Entry) (xs : List Lexeme) → A
 transitions_move d es xs is =
     let to = entries_move transitions d es xs is in (
       to.0,
-      moves_same net_grammar (in_section transitions) (free transitions to.0) d (take_all (with_entry transitions) es d) (record d { transitions = d.transitions ++ map labelled es }) xs (all_transitions es d) to.1,
+      moves_same net_grammar (in_section transitions) (free transitions to.0) d (take_all (with_entry transitions) es d)
+          (record d { transitions = d.transitions ++ map labelled es }) xs (all_transitions es d) to.1,
     )
 
 -- where a member may stand
@@ -131,19 +132,22 @@ first_name : (b : Bool) (side : Side) (d : Progress) (x : Lexeme) → x.kind ≡
 first_name true side d x name = kind_step (in_set side first_member) (in_set side (after_name x)) d d x Name name refl refl
 first_name false side d x name = kind_step (in_set side next_member) (in_set side (after_name x)) d d x Name name refl refl
 
-star_step : (side : Side) (d : Progress) (number star : Lexeme) → AllPass is_ascii_digit number.text → star.kind ≡ Star → Moves (in_set side (after_name number)) d (star ∷ []) (in_set side (after_star number)) d
+star_step : (side : Side) (d : Progress) (number star : Lexeme) → AllPass is_ascii_digit number.text → star.kind ≡ Star
+    → Moves (in_set side (after_name number)) d (star ∷ []) (in_set side (after_star number)) d
 star_step side d number star digits kind =
     kind_step (in_set side (after_name number)) (in_set side (after_star number)) d d star Star kind
     (ap (λ b. cond b (Some (in_set side (after_star number))) None) (list_all-from_AllPass is_ascii_digit number.text digits)) refl
 
 -- a member, and the token that ends it
-member_moves : (b : Bool) (side : Side) (d : Progress) (q : Position) (number : Option Lexeme) (place : Lexeme) (xs : List Lexeme) (x : Lexeme) → IsMember (record { number = number; place = place }) xs
+member_moves : (b : Bool) (side : Side) (d : Progress) (q : Position) (number : Option Lexeme) (place : Lexeme) (xs : List Lexeme) (x : Lexeme)
+    → IsMember (record { number = number; place = place }) xs
     → Moves (in_set side (after_name place)) d (x ∷ []) q (with_member side (record { number = None; place = place }) d)
     → ((e : Progress) → Moves (in_set side after_member) e (x ∷ []) q e)
     → Moves (member_position b side) d (xs ++ x ∷ []) q (with_member side (record { number = number; place = place }) d)
 member_moves b side d q None place xs x is name_ends ends =
     subst (λ l. Moves (member_position b side) d (l ++ x ∷ []) q (with_member side (record { number = None; place = place }) d)) (sym is.1)
-    (both (member_position b side) (in_set side (after_name place)) q d d (with_member side (record { number = None; place = place }) d) (place ∷ []) (x ∷ []) (first_name b side d place is.0) name_ends)
+    (both (member_position b side) (in_set side (after_name place)) q d d (with_member side (record { number = None; place = place }) d) (place ∷ [])
+    (x ∷ []) (first_name b side d place is.0) name_ends)
 member_moves b side d q (Some number) place xs x is name_ends ends =
     let star = is.1.1.0 in
     let e = with_member side (record { number = Some number; place = place }) d in
@@ -153,7 +157,8 @@ member_moves b side d q (Some number) place xs x is name_ends ends =
     (both (in_set side (after_star number)) (in_set side after_member) q d e e (place ∷ []) (x ∷ [])
     (kind_step (in_set side (after_star number)) (in_set side after_member) d e place Name is.0 refl refl) (ends e))))
 
-sets_enclose : (side : Side) → Encloses Position Progress ItemFault Member net_grammar LeftBrace RightBrace IsMember (with_member side) (before_set side) (in_set side first_member) (in_set side next_member) (after_set side)
+sets_enclose : (side : Side) → Encloses Position Progress ItemFault Member net_grammar LeftBrace RightBrace IsMember (with_member side)
+    (before_set side) (in_set side first_member) (in_set side next_member) (after_set side)
 sets_enclose side = record {
   opens = λ d x kind. kind_step (before_set side) (in_set side first_member) d d x LeftBrace kind refl refl;
   closes = λ d x kind. kind_step (in_set side first_member) (after_set side) d d x RightBrace kind refl refl;
@@ -169,7 +174,8 @@ sets_enclose side = record {
 
 set_moves : (side : Side) (d : Progress) (members : List Member) (xs : List Lexeme) → IsSet members xs → Moves (before_set side) d xs (after_set side) (take_all (with_member side) members d)
 set_moves side d members xs is =
-    enclosed_move net_grammar LeftBrace RightBrace IsMember (with_member side) (before_set side) (in_set side first_member) (in_set side next_member) (after_set side) (sets_enclose side) d members xs is
+    enclosed_move net_grammar LeftBrace RightBrace IsMember (with_member side) (before_set side) (in_set side first_member) (in_set side next_member)
+    (after_set side) (sets_enclose side) d members xs is
 
 -- the members of the marking
 all_marking : (members : List Member) (d : Progress) → take_all (with_member marking) members d ≡ record d { marking = d.marking ++ members }
@@ -178,7 +184,8 @@ all_marking (m ∷ members) d = all_marking members (with_member marking m d) �
 
 pub marking_moves : (d : Progress) (members : List Member) (xs : List Lexeme) → IsSet members xs → Moves (before_set marking) d xs (after_set marking) (record d { marking = d.marking ++ members })
 marking_moves d members xs is =
-    moves_same net_grammar (before_set marking) (after_set marking) d (take_all (with_member marking) members d) (record d { marking = d.marking ++ members }) xs (all_marking members d) (set_moves marking d members xs is)
+    moves_same net_grammar (before_set marking) (after_set marking) d (take_all (with_member marking) members d)
+    (record d { marking = d.marking ++ members }) xs (all_marking members d) (set_moves marking d members xs is)
 
 -- the members of a flow
 abbrev with_flow : Flow → Progress → Progress

@@ -2,7 +2,7 @@
 use Rattle.std.proofs.Common.{◌≡◌, ℕ, ◌+◌, ◌<◌, ◌≤◌, List, [], ◌∷◌, ◌++◌, length, get_or, set, drop, drop-cons, add-one, Contains, All, Vec, Some, slice_get, ⊎_elim, refl, sym, ap, ◌∙◌, subst, arith}
 use Rattle.std.specs.declared.alloc.Global.{Global}
 use Rattle.std.proofs.lemmas.Bool.{cases_lt}
-use Rattle.std.proofs.lemmas.List.{length-set, get_or-set_other, get_or_default, drop_all, map-set, length-map}
+use Rattle.std.proofs.lemmas.List.{length-set, get_or-set_other, get_or_default, drop_all, map-set}
 use Rattle.std.proofs.lemmas.Grind.{get_or-set_at, get_or_default_zero}
 use Rattle.std.proofs.lemmas.List.Elements.{Contains-append_left, Contains-push_cases}
 use Rattle.std.proofs.lemmas.Option.{same_Some, slice_get_within, slice_get-get_or, get_or_from_slice_get}
@@ -20,7 +20,7 @@ use Rattle.rg_net.specs.Range.{IsNetInRange}
 use Rattle.rg_net.specs.Firing.{StaysInRange}
 use Rattle.rg_net.specs.ClassBreaks.{shown_markings}
 use Rattle.rg_net.proofs.Placing.{place_in_range}
-use Rattle.rg_net.proofs.Rows.{row_read}
+use Rattle.rg_net.proofs.Rows.{row_read, rows_long as row_count}
 use Rattle.rg_net_verdict.specs.declared.verdict.CheckWide.{CheckWide}
 use Rattle.rg_net_verdict.specs.Markings.{IsMarkingOf, IsTreeArc, FireBefore}
 use Rattle.rg_net_verdict.specs.Rows.{AreRows, IsShownPassed}
@@ -32,9 +32,6 @@ row_at rows s x lt e = get_or_from_slice_get (shown_markings rows) s x.items [] 
 
 pub row_set : (rows : List (Vec ℕ Global)) (s : ℕ) (x : Vec ℕ Global) → shown_markings (set rows s x) ≡ set (shown_markings rows) s x.items
 row_set rows s x = map-set (λ (r : Vec ℕ Global). r.items) rows s x
-
-pub row_count : (rows : List (Vec ℕ Global)) → length (shown_markings rows) ≡ length rows
-row_count rows = length-map rows (λ (r : Vec ℕ Global). r.items)
 
 -- the states that are met have their markings, and the rest of the tree grows from these
 pub record AlongSoFar (lts : System) (net : Net) (tree : List Arc) (ms : List Marking) (i : ℕ) : Type 0 where
@@ -59,7 +56,8 @@ start_in_range net range k d lt =
     let same = get_or_default_zero (start_marking net) k d lt in
     omega arith
 
-pub along_start : (lts : System) (net : Net) (tree : List Arc) (ms : List Marking) → IsInRange lts → IsTree lts tree → IsNetInRange net → length ms ≡ states lts → marking_of ms lts.initial ≡ start_marking net → AlongSoFar lts net tree ms 0
+pub along_start : (lts : System) (net : Net) (tree : List Arc) (ms : List Marking) → IsInRange lts → IsTree lts tree → IsNetInRange net
+    → length ms ≡ states lts → marking_of ms lts.initial ≡ start_marking net → AlongSoFar lts net tree ms 0
 along_start lts net tree ms fine is range count begun =
     record {
       met = lts.initial ∷ [];
@@ -78,7 +76,8 @@ pub fires_more : (net : Net) (m : Marking) (ts : List ℕ) (mid : Marking) (t : 
 fires_more net m [] mid t after e f = (after, subst (λ k. Fires net k t after) (sym e) f, refl)
 fires_more net m (u ∷ ts) mid t after (next, step, rest) f = (next, step, fires_more net next ts mid t after rest f)
 
-module _ (lts : System) (net : Net) (tree : List Arc) (ms : List Marking) (i : ℕ) (d : Arc) (fine : IsInRange lts) (is : IsTree lts tree) (same : net.labels ≡ labels lts) (lt : i < length tree) (so_far : AlongSoFar lts net tree ms i) where
+module _ (lts : System) (net : Net) (tree : List Arc) (ms : List Marking) (i : ℕ) (d : Arc) (fine : IsInRange lts) (is : IsTree lts tree)
+    (same : net.labels ≡ labels lts) (lt : i < length tree) (so_far : AlongSoFar lts net tree ms i) where
   abbrev pub a : Arc
   a = get_or tree i d
 
@@ -136,7 +135,9 @@ module _ (lts : System) (net : Net) (tree : List Arc) (ms : List Marking) (i : �
         each = λ s has. ⊎_elim (λ before. subst (IsMarkingOf net tree s) (sym (kept s before)) (so_far.each s before))
             (λ is_to. subst (λ k. IsMarkingOf net tree k (marking_of (set ms a.to after) k)) is_to (subst (IsMarkingOf net tree a.to) (sym new) reached))
             (Contains-push_cases so_far.met a.to s has);
-        places = λ s has. ⊎_elim (λ before. ap length (kept s before) ∙ so_far.places s before) (λ is_to. subst (λ k. length (marking_of (set ms a.to after) k) ≡ length net.places) is_to (ap length new ∙ fires.places)) (Contains-push_cases so_far.met a.to s has);
+        places = λ s has. ⊎_elim (λ before. ap length (kept s before) ∙ so_far.places s before)
+            (λ is_to. subst (λ k. length (marking_of (set ms a.to after) k) ≡ length net.places) is_to (ap length new ∙ fires.places))
+            (Contains-push_cases so_far.met a.to s has);
         in_range = λ s has. ⊎_elim (λ before. subst (All (λ n. n ≤ greatest)) (sym (kept s before)) (so_far.in_range s before))
             (λ is_to. subst (λ k. All (λ n. n ≤ greatest) (marking_of (set ms a.to after) k)) is_to (subst (All (λ n. n ≤ greatest)) (sym new) range))
             (Contains-push_cases so_far.met a.to s has);
@@ -170,7 +171,8 @@ module _ (lts : System) (net : Net) (tree : List Arc) (ms : List Marking) (i : �
           subst (λ (c : Arc). (k : Marking) × IsMarkingOf net tree c.from k × IsEnabled net k c.label × StaysInRange net k c.label) is_a (m, (here m e).source, fires.enabled, stays)))
           (cases_lt j i)
 
-pub source_row : (lts : System) (net : Net) (tree : List Arc) (rows : List (Vec ℕ Global)) (i : ℕ) (d : Arc) → IsInRange lts → IsTree lts tree → net.labels ≡ labels lts → i < length tree → AlongSoFar lts net tree (shown_markings rows) i
+pub source_row : (lts : System) (net : Net) (tree : List Arc) (rows : List (Vec ℕ Global)) (i : ℕ) (d : Arc) → IsInRange lts → IsTree lts tree
+    → net.labels ≡ labels lts → i < length tree → AlongSoFar lts net tree (shown_markings rows) i
     → (x : Vec ℕ Global) → x ≡ get_or rows (get_or tree i d).from x → marking_of (shown_markings rows) (get_or tree i d).from ≡ x.items
 source_row lts net tree rows i d fine is same lt so_far x e =
     row_at rows (get_or tree i d).from x (subst (λ n. (get_or tree i d).from < n) (row_count rows) (source_within lts net tree (shown_markings rows) i d fine is same lt so_far)) e

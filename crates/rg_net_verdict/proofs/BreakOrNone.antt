@@ -16,7 +16,7 @@ use Rattle.rg_net.proofs.Breaking.{InClassBefore, first_break, in_class_more, in
 
 -- ---- numbers
 
-less_or_not : (m n : ℕ) → Decided (m < n)
+pub less_or_not : (m n : ℕ) → Decided (m < n)
 less_or_not m n = by (cases_lt m n)
   where
     by : (m < n) ⊎ (n ≤ m) → Decided (m < n)
@@ -30,7 +30,7 @@ at_most m n none = by (cases_lt m n)
     by (inl less) = absurd (none less)
     by (inr more) = more
 
-true_or_not : (b : Bool) → Decided (IsTrue b)
+pub true_or_not : (b : Bool) → Decided (IsTrue b)
 true_or_not true = inl refl
 true_or_not false = inr (λ e. true≢false (sym e))
 
@@ -61,10 +61,6 @@ over_or_not (Some k) n = by (cases_lt k n)
 within_bound : (o : Option ℕ) (n : ℕ) → IfSome o (λ k. n ≤ k) → IsSomeAnd o (λ k. k < n) → ⊥
 within_bound None n most over = over
 within_bound (Some k) n most over = absurd (omega arith)
-
-is_multiple : (o : Option ℕ) (start : ℕ) → IfSome o (λ n. IsMultiple n start) → IsSomeAnd o (λ n. ¬ IsMultiple n start) → ⊥
-is_multiple None start all none = none
-is_multiple (Some n) start all none = none all
 
 -- ---- one place
 

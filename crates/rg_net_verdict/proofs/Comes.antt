@@ -25,11 +25,14 @@ not_passes lts net tree w fine same is bounded x =
     let range = arc_in_range lts fine x.a.from x.a.label x.a.to has in
     let (after, fires) = fires_enabled net x.m x.a.label (subst (λ n. x.a.label < n) (sym same) range.1) x.enabled in
     let moved = fires.moved w.place x.passed.place x.passed.at in
-    let most = bounded after (way_to tree x.a.from ++ x.a.label ∷ [], fires_more net (start_marking net) (way_to tree x.a.from) x.m x.a.label after x.here.source.fires fires) w.place x.passed.place x.passed.at in
+    let most = bounded after
+    (way_to tree x.a.from ++ x.a.label ∷ [], fires_more net (start_marking net) (way_to tree x.a.from) x.m x.a.label after x.here.source.fires fires) w.place x.passed.place
+    x.passed.at in
     let more = x.passed.passes in
     absurd (omega arith)
 
-pub yes_comes : (lts : System) (net : Net) (class : Class) (v : Told) → IsInRange lts → net.labels ≡ labels lts → Solves net lts → InClass net class → IsBounded net greatest → IsVerdict lts net class v → v ≡ Ok Yes
+pub yes_comes : (lts : System) (net : Net) (class : Class) (v : Told) → IsInRange lts → net.labels ≡ labels lts → Solves net lts → InClass net class
+    → IsBounded net greatest → IsVerdict lts net class v → v ≡ Ok Yes
 yes_comes lts net class (Ok Yes) fine same sol inside bounded verdict = refl
 yes_comes lts net class (Ok (No n)) fine same sol inside bounded verdict = absurd (no_is_sound lts net class n fine same verdict sol inside)
 yes_comes lts net class (Err w) fine same sol inside bounded (flawless, tree, is, passes) = absurd (not_passes lts net tree w fine same is bounded passes)

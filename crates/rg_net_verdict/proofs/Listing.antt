@@ -50,12 +50,15 @@ module _ (net : Net) (t i : ℕ) (flow : List Flow) (so_far : IsFlowBelow net t 
           let first : get_or (flow ++ f ∷ []) j d ≡ get_or flow j d = get_or_before flow f d j (omega arith) in
           ⊎_elim
           (λ before. (let second = get_or_before flow f d k before in
-          subst (λ (a : Flow). a.place < (get_or (flow ++ f ∷ []) k d).place) (sym first) (subst (λ (b : Flow). (get_or flow j d).place < b.place) (sym second) (so_far.listed.ordered j k d less before))))
+          subst (λ (a : Flow). a.place < (get_or (flow ++ f ∷ []) k d).place) (sym first)
+          (subst (λ (b : Flow). (get_or flow j d).place < b.place) (sym second) (so_far.listed.ordered j k d less before))))
           (λ last. (let second = get_or_push flow f d k (omega arith) in
-          subst (λ (a : Flow). a.place < (get_or (flow ++ f ∷ []) k d).place) (sym first) (subst (λ (b : Flow). (get_or flow j d).place < b.place) (sym second) (let below = so_far.listed.within j d (omega arith) in omega arith))))
+          subst (λ (a : Flow). a.place < (get_or (flow ++ f ∷ []) k d).place) (sym first)
+          (subst (λ (b : Flow). (get_or flow j d).place < b.place) (sym second) (let below = so_far.listed.within j d (omega arith) in omega arith))))
           (cases_lt k (length flow))
 
-      each : (j : ℕ) (p : Place) → j < i + 1 → IsPlaceAt net j p → ((g : Flow) × Contains (flow ++ f ∷ []) g × (g.place ≡ j)) ⊎ ((pre_weight p t ≡ 0) × (post_weight p t ≡ 0) × All (λ g. g.place ≢ j) (flow ++ f ∷ []))
+      each : (j : ℕ) (p : Place) → j < i + 1 → IsPlaceAt net j p
+          → ((g : Flow) × Contains (flow ++ f ∷ []) g × (g.place ≡ j)) ⊎ ((pre_weight p t ≡ 0) × (post_weight p t ≡ 0) × All (λ g. g.place ≢ j) (flow ++ f ∷ []))
       each j p lt at' =
           ⊎_elim
           (λ before. ⊎_elim
@@ -101,7 +104,8 @@ flow_next net t i flow x pre post so_far at is is' small = go (cases_eq pre 0) (
     go : (pre ≡ 0) ⊎ (pre ≡ 0 → ⊥) → (post ≡ 0) ⊎ (post ≡ 0 → ⊥) → IsFlowBelow net t (i + 1) (flow ++ flow_if i pre post)
     go (inl none) (inl none') =
         let empty : flow_if i pre post ≡ [] = ap (λ (n : ℕ). flow_if i n post) none ∙ ap (λ (n : ℕ). flow_if i 0 n) none' in
-        subst (λ l. IsFlowBelow net t (i + 1) (flow ++ l)) (sym empty) (subst (IsFlowBelow net t (i + 1)) (sym (append-nil flow)) (flow_kept net t i flow so_far x at (sym is ∙ none) (sym is' ∙ none')))
+        subst (λ l. IsFlowBelow net t (i + 1) (flow ++ l)) (sym empty)
+        (subst (IsFlowBelow net t (i + 1)) (sym (append-nil flow)) (flow_kept net t i flow so_far x at (sym is ∙ none) (sym is' ∙ none')))
     go (inr ne) _ = some (cond-false ((pre == 0) && (post == 0)) [] (one ∷ []) (ap (λ (b : Bool). b && (post == 0)) (ne_eqb pre 0 ne)))
     go (inl none) (inr ne) = some (cond-false ((pre == 0) && (post == 0)) [] (one ∷ []) (ap (λ (b : Bool). (pre == 0) && b) (ne_eqb post 0 ne) ∙ and-false (pre == 0)))
 

@@ -56,7 +56,9 @@ module _ (net : Net) (tree : List Arc) where
   not_before_stuck n s t fire stuck lt = stuck.stuck (fires_there n stuck.i stuck.a stuck.m lt fire stuck.here).0
 
   not_before_passes : (n : ℕ) (w : CheckWide) → FireBefore net tree n → (passes : PassesInTree net tree w) → passes.i < n → ⊥
-  not_before_passes n w fire passes lt = absurd (let most = (fires_there n passes.i passes.a passes.m lt fire passes.here).1 w.place passes.passed.place passes.passed.at in let more = passes.passed.passes in omega arith)
+  not_before_passes n w fire passes lt = absurd
+      (let most = (fires_there n passes.i passes.a passes.m lt fire passes.here).1 w.place passes.passed.place passes.passed.at in
+      let more = passes.passed.passes in omega arith)
 
   same_arc : (i j : ℕ) (a b : Arc) (m n : Marking) → i ≡ j → IsTreeArc net tree i a m → IsTreeArc net tree j b n → a ≡ b
   same_arc i j a b m n e x y = same_Some a b (sym x.at ∙ ap (λ k. slice_get tree k) e ∙ y.at)
@@ -108,7 +110,9 @@ module _ (net : Net) (tree : List Arc) where
                   same_wide w w' (sym x.state ∙ ap (λ (b : Arc). b.to) a ∙ y.state) q (x.shown ∙ shown_same q r ∙ sym y.shown)
                 where
                   shown_same : w.place ≡ w'.place → x.passed.place ≡ y.passed.place → shown_at x.m w.place x.passed.place x.a.label ≡ shown_at y.m w'.place y.passed.place y.a.label
-                  shown_same q r = ap (λ (b : Arc). shown_at x.m w.place x.passed.place b.label) a ∙ ap (λ k. shown_at k w.place x.passed.place y.a.label) n ∙ ap (λ k. shown_at y.m k x.passed.place y.a.label) q ∙ ap (λ k. shown_at y.m w'.place k y.a.label) r
+                  shown_same q r = ap (λ (b : Arc). shown_at x.m w.place x.passed.place b.label) a
+                      ∙ ap (λ k. shown_at k w.place x.passed.place y.a.label) n ∙ ap (λ k. shown_at y.m k x.passed.place y.a.label) q
+                      ∙ ap (λ k. shown_at y.m w'.place k y.a.label) r
 
       by : (x.i < y.i) ⊎ (y.i ≤ x.i) → (y.i < x.i) ⊎ (x.i ≤ y.i) → w ≡ w'
       by (inl less) other = absurd (not_before_passes y.i w y.before x less)
@@ -181,11 +185,15 @@ module _ (lts : System) (net : Net) (h k : ℕ → Marking) (fine : IsInRange lt
   moved : (s t : ℕ) (d : Difference) → s < states lts → IsDifference lts net h s t d → IsDifference lts net k s t d
   moved s t not_on lt (has, not) = (has, subst (λ m. ¬ IsEnabled net m t) (same s lt) not)
   moved s t on lt (none, yes') = (none, subst (λ m. IsEnabled net m t) (same s lt) yes')
-  moved s t off lt (yes', (s', has, wrong)) =
-      (subst (λ m. IsEnabled net m t) (same s lt) yes', (s', has, subst (λ m. ¬ Fires net m t (k s')) (same s lt) (subst (λ m. ¬ Fires net (h s) t m) (same s' (arc_in_range lts fine s t s' has).2) wrong)))
+  moved s t off lt (yes', (s', has, wrong)) = (
+    subst (λ m. IsEnabled net m t) (same s lt)
+        yes',
+    (s', has, subst (λ m. ¬ Fires net m t (k s')) (same s lt) (subst (λ m. ¬ Fires net (h s) t m) (same s' (arc_in_range lts fine s t s' has).2) wrong)),
+  )
 
   -- the first wrong label is one
-  difference_once : IsForkFree lts → (s t r u : ℕ) (d e : Difference) → s < states lts → t < labels lts → r < states lts → u < labels lts → AreRightBefore lts net h s t → AreRightBefore lts net k r u → IsDifference lts net h s t d → IsDifference lts net k r u e → (s ≡ r) × (t ≡ u)
+  difference_once : IsForkFree lts → (s t r u : ℕ) (d e : Difference) → s < states lts → t < labels lts → r < states lts → u < labels lts
+      → AreRightBefore lts net h s t → AreRightBefore lts net k r u → IsDifference lts net h s t d → IsDifference lts net k r u e → (s ≡ r) × (t ≡ u)
   difference_once one s t r u d e lt lt' below below' right right' a b = by (cases_lt s r) (cases_lt r s)
     where
       back : (q v : ℕ) → q < states lts → IsRightAt lts net h q v → IsDifference lts net k q v e → ⊥
@@ -245,7 +253,8 @@ trichotomy m n = ⊎_elim (λ less. inl less) (λ more. ⊎_elim (λ less. inr (
 break_order : (a b : ClassBreak) → IsBreakBefore a b ⊎ (IsBreakBefore b a ⊎ (a ≡ b))
 break_order a b = place (trichotomy (place_of a) (place_of b))
   where
-    second : place_of a ≡ place_of b → kind_of a ≡ kind_of b → first_of a ≡ first_of b → (second_of a < second_of b) ⊎ ((second_of b < second_of a) ⊎ (second_of a ≡ second_of b)) → IsBreakBefore a b ⊎ (IsBreakBefore b a ⊎ (a ≡ b))
+    second : place_of a ≡ place_of b → kind_of a ≡ kind_of b → first_of a ≡ first_of b
+        → (second_of a < second_of b) ⊎ ((second_of b < second_of a) ⊎ (second_of a ≡ second_of b)) → IsBreakBefore a b ⊎ (IsBreakBefore b a ⊎ (a ≡ b))
     second p k f (inl less) = inl (inr (p, inr (k, inr (f, less))))
     second p k f (inr (inl less)) = inr (inl (inr (sym p, inr (sym k, inr (sym f, less)))))
     second p k f (inr (inr e)) = inr (inr (equal_breaks a b p k f e))
@@ -284,8 +293,10 @@ data Stage (lts : System) (net : Net) (tree : List Arc) (class : Class) (v : Tol
   in_tree : (s t : ℕ) → v ≡ Ok (No (NotEnabled s t)) → IsStuckInTree net tree s t → Stage lts net tree class v
   passing : (w : CheckWide) → v ≡ Err w → PassesInTree net tree w → Stage lts net tree class v
   alike : (h : ℕ → Marking) (s s' : ℕ) → v ≡ Ok (No (SameMarking s s')) → HaveMarkings lts net tree h → AreFirstSame lts h s s' → Stage lts net tree class v
-  differing : (h : ℕ → Marking) (s t : ℕ) (d : Difference) → v ≡ verdict_of d s t → AreTold lts net tree h → AreRightBefore lts net h s t → s < states lts → t < labels lts → IsDifference lts net h s t d → Stage lts net tree class v
-  breaking : (h : ℕ → Marking) (b : ClassBreak) → v ≡ Ok (No (OfClass b)) → AreTold lts net tree h → AreRightBefore lts net h (states lts) 0 → IsFirstBreak net (list_of lts h) class b → Stage lts net tree class v
+  differing : (h : ℕ → Marking) (s t : ℕ) (d : Difference) → v ≡ verdict_of d s t → AreTold lts net tree h → AreRightBefore lts net h s t
+      → s < states lts → t < labels lts → IsDifference lts net h s t d → Stage lts net tree class v
+  breaking : (h : ℕ → Marking) (b : ClassBreak) → v ≡ Ok (No (OfClass b)) → AreTold lts net tree h → AreRightBefore lts net h (states lts) 0
+      → IsFirstBreak net (list_of lts h) class b → Stage lts net tree class v
   is_fine : (h : ℕ → Marking) → v ≡ Ok Yes → AreTold lts net tree h → AreRightBefore lts net h (states lts) 0 → AreInClass net (list_of lts h) class → Stage lts net tree class v
 
 module _ (lts : System) (net : Net) (tree : List Arc) (class : Class) (fine : IsInRange lts) (one : IsForkFree lts) where
@@ -311,7 +322,8 @@ module _ (lts : System) (net : Net) (tree : List Arc) (class : Class) (fine : Is
   same_at : (h k : ℕ → Marking) → HaveMarkings lts net tree h → HaveMarkings lts net tree k → (s : ℕ) → s < states lts → h s ≡ k s
   same_at h k x y = at lts net tree h k x y
 
-  no_difference : (h k : ℕ → Marking) (s t : ℕ) (d : Difference) → AreTold lts net tree h → AreTold lts net tree k → s < states lts → t < labels lts → IsDifference lts net h s t d → AreRightBefore lts net k (states lts) 0 → ⊥
+  no_difference : (h k : ℕ → Marking) (s t : ℕ) (d : Difference) → AreTold lts net tree h → AreTold lts net tree k → s < states lts → t < labels lts
+      → IsDifference lts net h s t d → AreRightBefore lts net k (states lts) 0 → ⊥
   no_difference h k s t d x y lt lt' wrong right = wrong_is_not_right lts net k one s t d (moved lts net h k fine (same_at h k x.have y.have) s t d lt wrong) (right s t (inl lt) lt lt')
 
   differ_same : (h k : ℕ → Marking) (s t r u : ℕ) (d e : Difference) → AreTold lts net tree h → AreTold lts net tree k → s < states lts → t < labels lts → r < states lts
@@ -338,7 +350,8 @@ module _ (lts : System) (net : Net) (tree : List Arc) (class : Class) (fine : Is
   one_stage v w (passing w' e x) (is_fine h f y right z) = absurd (no_passes h w' y.have x)
   one_stage v w (alike h r r' e y z) (in_tree s t f x) = absurd (no_stuck h s t y x)
   one_stage v w (alike h r r' e y z) (passing w' f x) = absurd (no_passes h w' y x)
-  one_stage v w (alike h r r' e y z) (alike k q q' f y' z') = let (m, n) = same_once lts net tree h k y y' r r' q q' z z' in e ∙ ap (λ i. Ok (No (SameMarking i r'))) m ∙ ap (λ i. Ok (No (SameMarking q i))) n ∙ sym f
+  one_stage v w (alike h r r' e y z) (alike k q q' f y' z') = let (m, n) = same_once lts net tree h k y y' r r' q q' z z' in
+      e ∙ ap (λ i. Ok (No (SameMarking i r'))) m ∙ ap (λ i. Ok (No (SameMarking q i))) n ∙ sym f
   one_stage v w (alike h r r' e y z) (differing k s t d f y' right lt lt' z') = absurd (not_same lts net tree h k y y'.have r r' z y'.differ)
   one_stage v w (alike h r r' e y z) (breaking k b f y' right z') = absurd (not_same lts net tree h k y y'.have r r' z y'.differ)
   one_stage v w (alike h r r' e y z) (is_fine k f y' right z') = absurd (not_same lts net tree h k y y'.have r r' z y'.differ)
@@ -352,13 +365,17 @@ module _ (lts : System) (net : Net) (tree : List Arc) (class : Class) (fine : Is
   one_stage v w (breaking h b e y right z) (passing w' f x) = absurd (no_passes h w' y.have x)
   one_stage v w (breaking h b e y right z) (alike k q q' f y' z') = absurd (not_same lts net tree k h y' y.have q q' z' y.differ)
   one_stage v w (breaking h b e y right z) (differing k s t d f y' right' lt lt' z') = absurd (no_difference k h s t d y' y lt lt' z' right)
-  one_stage v w (breaking h b e y right z) (breaking k b' f y' right' z') = e ∙ ap (λ i. Ok (No (OfClass i))) (break_once net (list_of lts k) class b b' (subst (λ l. IsFirstBreak net l class b) (same_list lts h k (same_at h k y.have y'.have)) z) z') ∙ sym f
-  one_stage v w (breaking h b e y right z) (is_fine k f y' right' z') = absurd (no_break net (list_of lts k) class b z' (subst (λ l. IsBreak net l class b) (same_list lts h k (same_at h k y.have y'.have)) z.breaks))
+  one_stage v w (breaking h b e y right z) (breaking k b' f y' right' z') =
+      e ∙ ap (λ i. Ok (No (OfClass i))) (break_once net (list_of lts k) class b b'
+      (subst (λ l. IsFirstBreak net l class b) (same_list lts h k (same_at h k y.have y'.have)) z) z') ∙ sym f
+  one_stage v w (breaking h b e y right z) (is_fine k f y' right' z') =
+      absurd (no_break net (list_of lts k) class b z' (subst (λ l. IsBreak net l class b) (same_list lts h k (same_at h k y.have y'.have)) z.breaks))
   one_stage v w (is_fine h e y right z) (in_tree s t f x) = absurd (no_stuck h s t y.have x)
   one_stage v w (is_fine h e y right z) (passing w' f x) = absurd (no_passes h w' y.have x)
   one_stage v w (is_fine h e y right z) (alike k q q' f y' z') = absurd (not_same lts net tree k h y' y.have q q' z' y.differ)
   one_stage v w (is_fine h e y right z) (differing k s t d f y' right' lt lt' z') = absurd (no_difference k h s t d y' y lt lt' z' right)
-  one_stage v w (is_fine h e y right z) (breaking k b f y' right' z') = absurd (no_break net (list_of lts h) class b z (subst (λ l. IsBreak net l class b) (sym (same_list lts h k (same_at h k y.have y'.have))) z'.breaks))
+  one_stage v w (is_fine h e y right z) (breaking k b f y' right' z') =
+      absurd (no_break net (list_of lts h) class b z (subst (λ l. IsBreak net l class b) (sym (same_list lts h k (same_at h k y.have y'.have))) z'.breaks))
   one_stage v w (is_fine h e y right z) (is_fine k f y' right' z') = e ∙ sym f
 
 -- the first flaw, or what is told of a flawless system

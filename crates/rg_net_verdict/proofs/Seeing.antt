@@ -77,7 +77,8 @@ get_cases (k ∷ keys) y (suc i) x e = ⊎_elim (λ before. inl before) (λ (at,
 abbrev pub has_row : Bor (List ℕ) → Bor (List ℕ) → Bool
 has_row v k = pointwise nat_eq v.now k.now
 
-module _ (ms : List Marking) (keys : List (Bor (List ℕ))) (firsts : List ℕ) (best : Option (ℕ × ℕ)) (s : ℕ) (so_far : SeenSoFar ms keys firsts best s) (v : Bor (List ℕ)) (is : marking_of ms s ≡ v.now) where
+module _ (ms : List Marking) (keys : List (Bor (List ℕ))) (firsts : List ℕ) (best : Option (ℕ × ℕ)) (s : ℕ)
+    (so_far : SeenSoFar ms keys firsts best s) (v : Bor (List ℕ)) (is : marking_of ms s ≡ v.now) where
   -- a row that wasn't seen
   module _ (none : list_any (has_row v) keys ≡ false) where
     fresh : (r : ℕ) → r < s → marking_of ms r ≡ marking_of ms s → ⊥
@@ -86,19 +87,22 @@ module _ (ms : List Marking) (keys : List (Bor (List ℕ))) (firsts : List ℕ) 
         other_text v.now k.now (sym (not_any (has_row v) keys n k none at)) (sym (row ∙ e ∙ is))
 
     best_new : (o : Option (ℕ × ℕ)) → IsBest ms s o → IsBest ms (s + 1) o
-    best_new None b = λ r r' less lt same. ⊎_elim (λ early. b r r' less early same) (λ late. (let e : r' ≡ s = omega arith in fresh r (omega arith) (subst (λ k. marking_of ms r ≡ marking_of ms k) e same))) (cases_lt r' s)
+    best_new None b = λ r r' less lt same. ⊎_elim (λ early. b r r' less early same)
+        (λ late. (let e : r' ≡ s = omega arith in fresh r (omega arith) (subst (λ k. marking_of ms r ≡ marking_of ms k) e same))) (cases_lt r' s)
     best_new (Some f) b = record {
       order = b.order;
       within = let lt = b.within in omega arith;
       same = b.same;
-      least = λ r r' less lt same. ⊎_elim (λ early. b.least r r' less early same) (λ late. (let e : r' ≡ s = omega arith in absurd (fresh r (omega arith) (subst (λ k. marking_of ms r ≡ marking_of ms k) e same)))) (cases_lt r' s);
+      least = λ r r' less lt same. ⊎_elim (λ early. b.least r r' less early same)
+          (λ late. (let e : r' ≡ s = omega arith in absurd (fresh r (omega arith) (subst (λ k. marking_of ms r ≡ marking_of ms k) e same)))) (cases_lt r' s);
     }
 
     pub seen_new : SeenSoFar ms (keys ++ v ∷ []) (firsts ++ s ∷ []) best (s + 1)
     seen_new = record {
       size = length-append firsts (s ∷ []) ∙ ap (λ n. n + 1) so_far.size ∙ sym (length-append keys (v ∷ []));
       first = λ n k at. ⊎_elim (old n k) (new n k) (get_cases keys v n k at);
-      seen = λ r lt. ⊎_elim (λ early. (let (n, k, at, row) = so_far.seen r early in (n, k, get_before keys v n k at, row))) (λ late. (let e : r ≡ s = omega arith in (length keys, v, get_last keys v, sym is ∙ ap (marking_of ms) (sym e)))) (cases_lt r s);
+      seen = λ r lt. ⊎_elim (λ early. (let (n, k, at, row) = so_far.seen r early in (n, k, get_before keys v n k at, row)))
+          (λ late. (let e : r ≡ s = omega arith in (length keys, v, get_last keys v, sym is ∙ ap (marking_of ms) (sym e)))) (cases_lt r s);
       best = best_new best so_far.best;
     }
       where
@@ -159,7 +163,8 @@ module _ (ms : List Marking) (keys : List (Bor (List ℕ))) (firsts : List ℕ) 
       least = λ r r' lt lt' same. ⊎_elim (λ early. earlier best so_far.best less r r' lt early same) (λ late. here r r' (at_last r r' late lt' lt same) late) (cases_lt r' s);
     })
       where
-        earlier : (o : Option (ℕ × ℕ)) → IsBest ms s o → IfSome o (λ f. get_or firsts n 0 < f.0) → (r r' : ℕ) → r < r' → r' < s → marking_of ms r ≡ marking_of ms r' → (get_or firsts n 0 < r) ⊎ ((get_or firsts n 0 ≡ r) × (s ≤ r'))
+        earlier : (o : Option (ℕ × ℕ)) → IsBest ms s o → IfSome o (λ f. get_or firsts n 0 < f.0) → (r r' : ℕ) → r < r' → r' < s
+            → marking_of ms r ≡ marking_of ms r' → (get_or firsts n 0 < r) ⊎ ((get_or firsts n 0 ≡ r) × (s ≤ r'))
         earlier None b lt r r' less early same = absurd (b r r' less early same)
         earlier (Some f) b lt r r' less early same = ⊎_elim (λ far. inl (omega arith)) (λ (e, le). inl (omega arith)) (b.least r r' less early same)
 
@@ -184,7 +189,8 @@ module _ (ms : List Marking) (keys : List (Bor (List ℕ))) (firsts : List ℕ) 
             here : (r r' : ℕ) → get_or firsts n 0 ≤ r → s ≤ r' → (f.0 < r) ⊎ ((f.0 ≡ r) × (f.1 ≤ r'))
             here r r' le late = ⊎_elim (λ lt. inl lt) (λ ge. inr (omega arith, let lt = b.within in omega arith)) (cases_lt f.0 r)
 
-pub seen_some : (lts : System) (ms : List Marking) (keys : List (Bor (List ℕ))) (firsts : List ℕ) (f : ℕ × ℕ) (s : ℕ) → s ≡ states lts → SeenSoFar ms keys firsts (Some f) s → AreFirstSame lts (marking_of ms) f.0 f.1
+pub seen_some : (lts : System) (ms : List Marking) (keys : List (Bor (List ℕ))) (firsts : List ℕ) (f : ℕ × ℕ) (s : ℕ) → s ≡ states lts
+    → SeenSoFar ms keys firsts (Some f) s → AreFirstSame lts (marking_of ms) f.0 f.1
 seen_some lts ms keys firsts f s all so_far =
     let b = so_far.best in
     record {
@@ -203,11 +209,13 @@ seen_some lts ms keys firsts f s all so_far =
 pub seen_none : (lts : System) (ms : List Marking) (keys : List (Bor (List ℕ))) (firsts : List ℕ) (s : ℕ) → s ≡ states lts → SeenSoFar ms keys firsts None s → AllDiffer lts (marking_of ms)
 seen_none lts ms keys firsts s all so_far r r' less lt = so_far.best r r' less (omega arith)
 
-pub seen_end_some : (lts : System) (ms : List Marking) (keys : List (Bor (List ℕ))) (firsts : List ℕ) (o : Option (ℕ × ℕ)) (s : ℕ) → s ≡ states lts → SeenSoFar ms keys firsts o s → IfSome o (λ f. AreFirstSame lts (marking_of ms) f.0 f.1)
+pub seen_end_some : (lts : System) (ms : List Marking) (keys : List (Bor (List ℕ))) (firsts : List ℕ) (o : Option (ℕ × ℕ)) (s : ℕ) → s ≡ states lts
+    → SeenSoFar ms keys firsts o s → IfSome o (λ f. AreFirstSame lts (marking_of ms) f.0 f.1)
 seen_end_some lts ms keys firsts None s all so_far = tt
 seen_end_some lts ms keys firsts (Some f) s all so_far = seen_some lts ms keys firsts f s all so_far
 
-pub seen_end_none : (lts : System) (ms : List Marking) (keys : List (Bor (List ℕ))) (firsts : List ℕ) (o : Option (ℕ × ℕ)) (s : ℕ) → s ≡ states lts → SeenSoFar ms keys firsts o s → IfNone o (AllDiffer lts (marking_of ms))
+pub seen_end_none : (lts : System) (ms : List Marking) (keys : List (Bor (List ℕ))) (firsts : List ℕ) (o : Option (ℕ × ℕ)) (s : ℕ) → s ≡ states lts
+    → SeenSoFar ms keys firsts o s → IfNone o (AllDiffer lts (marking_of ms))
 seen_end_none lts ms keys firsts None s all so_far = seen_none lts ms keys firsts s all so_far
 seen_end_none lts ms keys firsts (Some f) s all so_far = tt
 
@@ -223,12 +231,15 @@ was_seen false e = absurd (true≢false (sym e))
 abbrev pub with_row : List (Bor (List ℕ)) → Bor (List ℕ) → List (Bor (List ℕ))
 with_row keys v = if list_any (has_row v) keys then keys else (keys ++ v ∷ [])
 
-module _ (ms : List Marking) (keys : List (Bor (List ℕ))) (firsts : List ℕ) (best : Option (ℕ × ℕ)) (s : ℕ) (so_far : SeenSoFar ms keys firsts best s) (v : Bor (List ℕ)) (is : marking_of ms s ≡ v.now) (keys' : List (Bor (List ℕ))) (put : keys' ≡ with_row keys v) where
+module _ (ms : List Marking) (keys : List (Bor (List ℕ))) (firsts : List ℕ) (best : Option (ℕ × ℕ)) (s : ℕ)
+    (so_far : SeenSoFar ms keys firsts best s) (v : Bor (List ℕ)) (is : marking_of ms s ≡ v.now) (keys' : List (Bor (List ℕ))) (put : keys' ≡ with_row keys v) where
   pub stepped_new : true ≡ not (list_any (has_row v) keys) → (firsts' : List ℕ) (best' : Option (ℕ × ℕ)) → firsts' ≡ firsts ++ s ∷ [] → best' ≡ best → SeenSoFar ms keys' firsts' best' (s + 1)
   stepped_new added firsts' best' ef eb =
       let none = was_new (list_any (has_row v) keys) added in
       let ek : keys' ≡ keys ++ v ∷ [] = put ∙ ap (λ b. if b then keys else (keys ++ v ∷ [])) none in
-      subst (λ k. SeenSoFar ms k firsts' best' (s + 1)) (sym ek) (subst (λ f. SeenSoFar ms (keys ++ v ∷ []) f best' (s + 1)) (sym ef) (subst (λ o. SeenSoFar ms (keys ++ v ∷ []) (firsts ++ s ∷ []) o (s + 1)) (sym eb) (seen_new ms keys firsts best s so_far v is none)))
+      subst (λ k. SeenSoFar ms k firsts' best' (s + 1)) (sym ek)
+      (subst (λ f. SeenSoFar ms (keys ++ v ∷ []) f best' (s + 1)) (sym ef)
+      (subst (λ o. SeenSoFar ms (keys ++ v ∷ []) (firsts ++ s ∷ []) o (s + 1)) (sym eb) (seen_new ms keys firsts best s so_far v is none)))
 
   module _ (again : false ≡ not (list_any (has_row v) keys)) (n : ℕ) (stored : (k : Bor (List ℕ)) × (slice_get keys' n ≡ Some k) × (has_row v k ≡ true)) where
     old_keys : keys' ≡ keys
@@ -248,10 +259,12 @@ module _ (ms : List Marking) (keys : List (Bor (List ℕ))) (firsts : List ℕ) 
       other_read = sym (eg ∙ get_or_default_zero firsts n g stepped_within)
 
       placed : (o : Option (ℕ × ℕ)) → best' ≡ o → SeenSoFar ms keys firsts o (s + 1) → SeenSoFar ms keys' firsts' best' (s + 1)
-      placed o eb next = subst (λ k. SeenSoFar ms k firsts' best' (s + 1)) (sym old_keys) (subst (λ l. SeenSoFar ms keys l best' (s + 1)) (sym es) (subst (λ b. SeenSoFar ms keys firsts b (s + 1)) (sym eb) next))
+      placed o eb next = subst (λ k. SeenSoFar ms k firsts' best' (s + 1)) (sym old_keys)
+          (subst (λ l. SeenSoFar ms keys l best' (s + 1)) (sym es) (subst (λ b. SeenSoFar ms keys firsts b (s + 1)) (sym eb) next))
 
       pub stepped_less : IfSome best (λ b. f < b.0) → best' ≡ Some (g, s) → SeenSoFar ms keys' firsts' best' (s + 1)
-      stepped_less less eb = placed (Some (get_or firsts n 0, s)) (eb ∙ ap (λ k. Some (k, s)) (sym other_read)) (seen_less ms keys firsts best s so_far v is n stored.0 here stored.2 (subst (λ k. IfSome best (λ b. k < b.0)) (sym first_read) less))
+      stepped_less less eb = placed (Some (get_or firsts n 0, s)) (eb ∙ ap (λ k. Some (k, s)) (sym other_read))
+          (seen_less ms keys firsts best s so_far v is n stored.0 here stored.2 (subst (λ k. IfSome best (λ b. k < b.0)) (sym first_read) less))
 
       pub stepped_kept : ¬ IfSome best (λ b. f < b.0) → best' ≡ best → SeenSoFar ms keys' firsts' best' (s + 1)
       stepped_kept not_less eb = placed best eb (seen_kept ms keys firsts best s so_far v is n stored.0 here stored.2 (λ less. not_less (subst (λ k. IfSome best (λ b. k < b.0)) first_read less)))

@@ -39,13 +39,6 @@ pub record MovedSoFar (flow : List Flow) (m after : Marking) (k : ℕ) : Type 0 
   pub small : All (λ f. left_by m f ≤ greatest) (take k flow)
   pub in_range : All (λ n. n ≤ greatest) after
 
-pub moved_start : (flow : List Flow) (m after : Marking) → All (λ n. n ≤ greatest) m → after ≡ m → MovedSoFar flow m after 0
-moved_start flow m after range e = record {
-  moved = record { long = ap length e; each = λ j d lt. absurd (let long = length-take 0 flow in omega arith); others = λ i lt apart. ap (λ n. get_or n i 0) e };
-  small = λ j d lt. absurd (let long = length-take 0 flow in omega arith);
-  in_range = subst (All (λ n. n ≤ greatest)) (sym e) range;
-}
-
 module _ (flow : List Flow) (m : Marking) (listed : AreListed flow (length m)) (k : ℕ) (d : Flow) (lt : k < length flow) where
   abbrev pub f : Flow
   f = get_or flow k d
@@ -91,9 +84,6 @@ module _ (flow : List Flow) (m : Marking) (listed : AreListed flow (length m)) (
             get_or-set_other after f.place i n 0 (λ same. last_of (λ g. g.place ≢ i) flow k d lt apart (sym same))
             ∙ so_far.moved.others i lt' (fewer (λ g. g.place ≢ i) flow k lt apart)
 
-pub moved_all : (flow : List Flow) (m after : Marking) (k : ℕ) → length flow ≤ k → MovedSoFar flow m after k → IsMoved flow m after
-moved_all flow m after k past so_far = subst (λ l. IsMoved l m after) (take_all k flow past) so_far.moved
-
 -- the rows agree with the firing as far as the first k members, and on the places below start
 pub record AgreeSoFar (flow : List Flow) (from to : Marking) (k start : ℕ) : Type 0 where
   pub bound : start ≤ length from
@@ -103,16 +93,6 @@ pub record AgreeSoFar (flow : List Flow) (from to : Marking) (k start : ℕ) : T
   pub each : All (λ f. get_or to f.place 0 ≡ left_by from f) (take k flow)
   pub others : (i : ℕ) → i < start → All (λ f. f.place ≢ i) flow → get_or to i 0 ≡ get_or from i 0
 
-pub agree_start : (flow : List Flow) (from to : Marking) → AgreeSoFar flow from to 0 0
-agree_start flow from to = record {
-  bound = omega arith;
-  before = λ j d less. absurd (omega arith);
-  after = λ j d le lt. omega arith;
-  tokens = λ j d lt. absurd (let long = length-take 0 flow in omega arith);
-  each = λ j d lt. absurd (let long = length-take 0 flow in omega arith);
-  others = λ i lt. absurd (omega arith);
-}
-
 -- the same from one place up to another
 abbrev pub SameBetween : Marking → Marking → ℕ → ℕ → Type 0
 SameBetween from to start end = (i : ℕ) → start ≤ i → i < end → get_or to i 0 ≡ get_or from i 0
@@ -120,7 +100,8 @@ SameBetween from to start end = (i : ℕ) → start ≤ i → i < end → get_or
 module _ (flow : List Flow) (from to : Marking) (listed : AreListed flow (length from)) (k start : ℕ) (so_far : AgreeSoFar flow from to k start) where
   -- no member has a place between
   between : (end : ℕ) → ((j : ℕ) (d : Flow) → k ≤ j → j < length flow → end ≤ (get_or flow j d).place) → (i : ℕ) → start ≤ i → i < end → All (λ f. f.place ≢ i) flow
-  between end beyond i le lt j d lt' e = ⊎_elim (λ early. absurd (let before = so_far.before j d early lt' in omega arith)) (λ late. absurd (let after = beyond j d late lt' in omega arith)) (cases_lt j k)
+  between end beyond i le lt j d lt' e = ⊎_elim (λ early. absurd (let before = so_far.before j d early lt' in omega arith))
+      (λ late. absurd (let after = beyond j d late lt' in omega arith)) (cases_lt j k)
 
   module _ (d : Flow) (lt : k < length flow) where
     abbrev pub next : Flow

@@ -7,7 +7,8 @@ use Rattle.rg_theory.specs.Net.{Place, Net, Marking, pre_weight, post_weight, to
 use Rattle.rg_net.specs.Firing.{IsFirstPassed}
 use Rattle.rg_net_verdict.specs.Rows.{IsShownPassed}
 
-pub is_shown : (net : Net) (m : Marking) (a : Arc) (i : ℕ) (p : Place) → IsFirstPassed net m a.label i → IsPlaceAt net i p → (x y : ℤ) → x ≡ pos (tokens m i - pre_weight p a.label) → y ≡ neg_ℤ (pos (post_weight p a.label))
+pub is_shown : (net : Net) (m : Marking) (a : Arc) (i : ℕ) (p : Place) → IsFirstPassed net m a.label i → IsPlaceAt net i p → (x y : ℤ)
+    → x ≡ pos (tokens m i - pre_weight p a.label) → y ≡ neg_ℤ (pos (post_weight p a.label))
     → IsShownPassed net m a (record { state = a.to; place = i; wide = record { a = x; b = pos 1; c = y; d = pos 1 } })
 is_shown net m a i p passed at x y ex ey =
     record {

@@ -48,7 +48,8 @@ module _ (lts : System) (net : Net) (tree : List Arc) (class : Class) where
   tells_wrong h (SameMarking s s') told w = absurd w.wrong
   tells_wrong h (OfClass b) told w = absurd w.wrong
 
-  module _ (ms : List Marking) (are : AreRows lts net ms) (have : HaveMarkings lts net tree (marking_of ms)) (differ : AllDiffer lts (marking_of ms)) (right : AreRightBefore lts net (marking_of ms) (states lts) 0) where
+  module _ (ms : List Marking) (are : AreRows lts net ms) (have : HaveMarkings lts net tree (marking_of ms)) (differ : AllDiffer lts (marking_of ms))
+      (right : AreRightBefore lts net (marking_of ms) (states lts) 0) where
     told : AreTold lts net tree (marking_of ms)
     told = record { have = have; differ = differ }
 

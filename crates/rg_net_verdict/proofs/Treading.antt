@@ -25,7 +25,8 @@ last_step net m [] t after (next, step, e) = (m, refl, subst (λ k. Fires net m 
 last_step net m (u ∷ ts) t after (next, step, rest) = let (mid, run, last) = last_step net next ts t after rest in (mid, (next, step, run), last)
 
 -- along an arc of the tree its label fires from marking to marking
-pub tree_fires : (lts : System) (net : Net) (tree : List Arc) (h : ℕ → Marking) → IsInRange lts → IsTree lts tree → HaveMarkings lts net tree h → (a : Arc) → Contains tree a → Fires net (h a.from) a.label (h a.to)
+pub tree_fires : (lts : System) (net : Net) (tree : List Arc) (h : ℕ → Marking) → IsInRange lts → IsTree lts tree → HaveMarkings lts net tree h
+    → (a : Arc) → Contains tree a → Fires net (h a.from) a.label (h a.to)
 tree_fires lts net tree h fine is have a in_tree = by (last_step net (start_marking net) (way_to tree a.from) a.label (h a.to) run)
   where
     range : (a.from < states lts) × (a.label < labels lts) × (a.to < states lts)
@@ -91,7 +92,8 @@ module _ (m : Marked) (is : IsMarked m) (s t : ℕ) (state : s < states m.lts.no
     pub read_long : length row' ≡ length row
     read_long = ap length is_row' ∙ row_places m.lts.now m.net.now m.rows.now is.rows to state' y at_to ∙ sym long
 
-    pub read_fires : IsEnabled m.net.now (marking_of (shown_markings m.rows.now) s) t → IsMoved flow row row' → Fires m.net.now (marking_of (shown_markings m.rows.now) s) t (marking_of (shown_markings m.rows.now) to)
+    pub read_fires : IsEnabled m.net.now (marking_of (shown_markings m.rows.now) s) t → IsMoved flow row row'
+        → Fires m.net.now (marking_of (shown_markings m.rows.now) s) t (marking_of (shown_markings m.rows.now) to)
     read_fires on moved =
         subst (λ k. Fires m.net.now (marking_of (shown_markings m.rows.now) s) t k) (sym there)
         (subst (λ k. Fires m.net.now k t row') (sym here)

@@ -7,10 +7,10 @@ use Rattle.rg_theory.specs.System.{System, states, labels}
 use Rattle.rg_theory.specs.Net.{Net, Marking}
 use Rattle.rg_theory.specs.Solves.{marking_of}
 use Rattle.rg_net.specs.ClassBreaks.{shown_markings}
-use Rattle.rg_net.proofs.Rows.{row_read, all_at}
+use Rattle.rg_net.proofs.Rows.{row_read, all_at, rows_long as row_count}
 use Rattle.rg_net_verdict.specs.Rows.{AreRows}
 use Rattle.rg_net_verdict.specs.Verdict.{IsRightAt, AreRightBefore}
-use Rattle.rg_net_verdict.proofs.Along.{row_at, row_count}
+use Rattle.rg_net_verdict.proofs.Along.{row_at}
 
 module _ (lts : System) (net : Net) (rows : List (Vec ℕ Global)) (are : AreRows lts net (shown_markings rows)) (s : ℕ) (lt : s < states lts) where
   pub row_within : s < length rows
@@ -27,9 +27,6 @@ module _ (lts : System) (net : Net) (rows : List (Vec ℕ Global)) (are : AreRow
     row_in_range = all_at (All (λ n. n ≤ greatest)) (shown_markings rows) s x.items are.in_range (row_read rows s x row_within e)
 
 module _ (lts : System) (net : Net) (h : ℕ → Marking) where
-  pub right_start : AreRightBefore lts net h 0 0
-  right_start r u before lr lu = ⊎_elim (λ less. absurd (omega arith)) (λ (same, less). absurd (omega arith)) before
-
   -- one label more
   pub right_more : (s t : ℕ) → AreRightBefore lts net h s t → IsRightAt lts net h s t → AreRightBefore lts net h s (t + 1)
   right_more s t before here r u (inl less) lr lu = before r u (inl less) lr lu

@@ -94,8 +94,12 @@ Tells lts net tree class (Ok (No (NotEnabled s t))) =
     IsStuckInTree net tree s t
     ⊎ ((h : ℕ → Marking) × AreTold lts net tree h × AreRightBefore lts net h s t × (s < states lts) × ((s' : ℕ) × HasArc lts s t s') × ¬ IsEnabled net (h s) t)
 Tells lts net tree class (Ok (No (SameMarking s s'))) = (h : ℕ → Marking) × HaveMarkings lts net tree h × AreFirstSame lts h s s'
-Tells lts net tree class (Ok (No (Enabled s t))) = (h : ℕ → Marking) × AreTold lts net tree h × AreRightBefore lts net h s t × (s < states lts) × (t < labels lts) × ((s' : ℕ) → ¬ HasArc lts s t s') × IsEnabled net (h s) t
-Tells lts net tree class (Ok (No (WrongStep s t))) = (h : ℕ → Marking) × AreTold lts net tree h × AreRightBefore lts net h s t × (s < states lts) × IsEnabled net (h s) t × ((s' : ℕ) × HasArc lts s t s' × ¬ Fires net (h s) t (h s'))
+Tells lts net tree class (Ok (No (Enabled s t))) =
+    (h : ℕ → Marking) × AreTold lts net tree h × AreRightBefore lts net h s t × (s < states lts) × (t < labels lts)
+    × ((s' : ℕ) → ¬ HasArc lts s t s') × IsEnabled net (h s) t
+Tells lts net tree class (Ok (No (WrongStep s t))) =
+    (h : ℕ → Marking) × AreTold lts net tree h × AreRightBefore lts net h s t × (s < states lts) × IsEnabled net (h s) t
+    × ((s' : ℕ) × HasArc lts s t s' × ¬ Fires net (h s) t (h s'))
 Tells lts net tree class (Ok (No (OfClass b))) = (h : ℕ → Marking) × AreTold lts net tree h × AreRightBefore lts net h (states lts) 0 × IsFirstBreak net (list_of lts h) class b
 Tells lts net tree class (Err w) = PassesInTree net tree w
 

@@ -1,5 +1,5 @@
 -- The flows of all labels, place by place.
-use Rattle.std.proofs.Common.{◌≡◌, ◌⊎◌, inl, inr, ℕ, ◌+◌, ◌<◌, List, [], ◌++◌, length, map, take, drop, get_or, All, refl, sym, ap, subst, ◌∙◌, arith, append-nil}
+use Rattle.std.proofs.Common.{◌≡◌, ◌⊎◌, inl, inr, ℕ, ◌+◌, ◌<◌, List, [], ◌++◌, length, map, take, drop, get_or, All, sym, ap, subst, ◌∙◌, arith, append-nil}
 use Rattle.std.proofs.Math.ListN.{set}
 use Rattle.std.proofs.lemmas.Bool.{cases_eq}
 use Rattle.std.proofs.Math.Seq.{take-length}
@@ -29,10 +29,6 @@ flows_start net flows one_each taken put = record {
   one_each = one_each;
   each = λ t d lt. record { taken = taken t d (omega (arith, one_each, lt)); put = put t d (omega (arith, one_each, lt)) };
 }
-
--- no flow has the place yet
-pub with_start : (place : Place) (i : ℕ) (flows : List Flow) → AreFlowsWith place i 0 flows flows
-with_start place i flows = record { long = refl; taken = λ t d lt few. absurd (omega arith); put = λ t d lt few. absurd (omega arith); left = λ t d le few. refl }
 
 -- one flow more has it
 pub with_more : (place : Place) (i t : ℕ) (before after : List Flow) (old new : Flow) → AreFlowsWith place i t before after → t < length after → old ≡ get_or after t old

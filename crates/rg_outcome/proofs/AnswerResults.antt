@@ -15,7 +15,8 @@ use Rattle.rg_outcome.proofs.SearchResults.{some_answer}
 pub always_answered : (lts : System) (class : Class) → IsInRange lts → HasNumbersInRange class → (a : Answer) × Out lts class a
 always_answered lts class fine numbers = let (tree, is) = some_tree lts fine in by tree is (all_reached_or_not lts fine) (some_fork lts fine)
   where
-    by : (tree : List Arc) → IsTree lts tree → IsAllReachable lts ⊎ ((s : ℕ) × IsLeastUnreachable lts s) → IsForkFree lts ⊎ ((s t s₁ s₂ : ℕ) × IsLeastFork lts s t s₁ s₂) → (a : Answer) × Out lts class a
+    by : (tree : List Arc) → IsTree lts tree → IsAllReachable lts ⊎ ((s : ℕ) × IsLeastUnreachable lts s)
+        → IsForkFree lts ⊎ ((s t s₁ s₂ : ℕ) × IsLeastFork lts s t s₁ s₂) → (a : Answer) × Out lts class a
     by tree is (inr (s, least)) _ = (unsolvable (unreachable s), a_state s least)
     by tree is (inl reachable) (inr (s, t, s₁, s₂, least)) = (unsolvable (fork s t s₁ s₂), a_fork s t s₁ s₂ reachable least)
     by tree is (inl reachable) (inl free) = some_answer lts tree class fine numbers reachable free is

@@ -87,12 +87,15 @@ module _ (lts : System) where
   same_cycle_shown : (w w' : Shown) → w.stage ≡ Stage.cycle → w'.stage ≡ Stage.cycle → CycleShown lts w → CycleShown lts w' → w ≡ w'
   same_cycle_shown w w' stage stage' h h' =
       let stops' = walk_over w' h.arcs h.kept h.is_tree h.chords h' in
-      let at : h.at ≡ h'.at = same_stop h.at h'.at (same_cycle (chord_system lts h.arcs h.kept) (column_set (chord_system lts h.arcs h.kept)) 0 (walk_passes h.at) (walk_passes h'.at) h.stops stops') in
-      same_shown w w' h'.at (stage ∙ sym stage') (subst (λ (x : WideAt). StandsAt w x) at h.stands) h'.stands (h.no_problem ∙ sym h'.no_problem) (h.no_case ∙ sym h'.no_case) (h.no_split ∙ sym h'.no_split)
+      let at : h.at ≡ h'.at = same_stop h.at h'.at
+      (same_cycle (chord_system lts h.arcs h.kept) (column_set (chord_system lts h.arcs h.kept)) 0 (walk_passes h.at) (walk_passes h'.at) h.stops stops') in
+      same_shown w w' h'.at (stage ∙ sym stage') (subst (λ (x : WideAt). StandsAt w x) at h.stands) h'.stands (h.no_problem ∙ sym h'.no_problem)
+      (h.no_case ∙ sym h'.no_case) (h.no_split ∙ sym h'.no_split)
 
   no_basis : (w : Shown) (arcs : List Arc) (basis : CycleBasis) → IsTree lts arcs → IsBasis lts arcs basis → CycleShown lts w → ⊥
   no_basis w arcs basis is is_basis h =
-      no_stop h.at basis.members (same_cycle (chord_system lts arcs basis.kept) (column_set (chord_system lts arcs basis.kept)) 0 (walk_passes h.at) (free_set basis.members) (walk_over w arcs basis.kept is is_basis.kept h) is_basis.cycle)
+      no_stop h.at basis.members (same_cycle (chord_system lts arcs basis.kept) (column_set (chord_system lts arcs basis.kept)) 0 (walk_passes h.at)
+      (free_set basis.members) (walk_over w arcs basis.kept is is_basis.kept h) is_basis.cycle)
 
 -- ---- early answers
 

@@ -21,7 +21,8 @@ behind_too (Some p) problem q behind less = before_after p problem q behind less
 abbrev pub IsPassedOver : System → List Place → Option Problem → Problem → Type 0
 IsPassedOver lts kept last problem = (q : Problem) → IsBehind last q → ¬ ComesBefore problem q → ¬ IsLeft lts kept q
 
-module _ (lts : System) (comes : Problem → Solved → Type 0) (kept : List Place) (last : Option Problem) (problem : Problem) (behind : IsBehind last problem) (over : IsPassedOver lts kept last problem) where
+module _ (lts : System) (comes : Problem → Solved → Type 0) (kept : List Place) (last : Option Problem) (problem : Problem)
+    (behind : IsBehind last problem) (over : IsPassedOver lts kept last problem) where
   -- what is left behind the last one is behind this one
   moves : (q : Problem) → IsLeft lts kept q → IsBehind last q → ComesBefore problem q
   moves q left b = go (cases_order problem q)
@@ -53,7 +54,8 @@ LeadsFrom lts comes last kept problems (refuted_one problem trees) = ComesFrom l
 
 -- one problem in front
 in_front : (lts : System) (comes : Problem → Solved → Type 0) (last : Option Problem) (kept then : List Place) (problem : Problem) (rest : List Problem) (a : AfterBlock)
-    → ((o : Separation) → ComesFrom lts comes (Some problem) then o → ComesFrom lts comes last kept o) → LeadsFrom lts comes (Some problem) then rest a → LeadsFrom lts comes last kept (problem ∷ rest) a
+    → ((o : Separation) → ComesFrom lts comes (Some problem) then o → ComesFrom lts comes last kept o)
+    → LeadsFrom lts comes (Some problem) then rest a → LeadsFrom lts comes last kept (problem ∷ rest) a
 in_front lts comes last kept then problem rest (kept_places after) step leads = λ o d. step o (leads o d)
 in_front lts comes last kept then problem rest (refuted_one q trees) step leads = step (unsolvable q trees) leads
 
@@ -81,12 +83,15 @@ module _ (lts : System) (comes : Problem → Solved → Type 0) where
 
       by_result : ((now : List Place) → ((q : Problem) → IsSeparated lts start q → IsSeparated lts now q) → TakenOver lts comes now rest a → LeadsFrom lts comes (Some problem) now rest a)
           → ¬ IsSeparated lts kept problem → (r : Solved) → comes problem r → GoesOn problem r kept (λ after. TakenOver lts comes after rest a) a → LeadsFrom lts comes last kept (problem ∷ rest) a
-      by_result ih lacks (placed p) has t = in_front lts comes last kept (kept ++ p ∷ []) problem rest a (λ o d. keeps problem p (next_now lacks) has d) (ih (kept ++ p ∷ []) (λ q sep. separated_among lts kept p q (grown q sep)) t)
+      by_result ih lacks (placed p) has t = in_front lts comes last kept (kept ++ p ∷ []) problem rest a
+          (λ o d. keeps problem p (next_now lacks) has d) (ih (kept ++ p ∷ []) (λ q sep. separated_among lts kept p q (grown q sep)) t)
       by_result ih lacks (passed w) has t = in_front lts comes last kept kept problem rest a (λ o d. goes_on problem w (next_now lacks) has d) (ih kept grown t)
       by_result ih lacks (refuted trees) has t = subst (LeadsFrom lts comes last kept (problem ∷ rest)) (sym t) (ends problem trees (next_now lacks) has)
 
       go : ((now : List Place) → ((q : Problem) → IsSeparated lts start q → IsSeparated lts now q) → TakenOver lts comes now rest a → LeadsFrom lts comes (Some problem) now rest a)
-          → (IsSeparated lts kept problem × TakenOver lts comes kept rest a) ⊎ (¬ IsSeparated lts kept problem × ((r : Solved) × comes problem r × GoesOn problem r kept (λ after. TakenOver lts comes after rest a) a)) → LeadsFrom lts comes last kept (problem ∷ rest) a
+          → (IsSeparated lts kept problem × TakenOver lts comes kept rest a)
+          ⊎ (¬ IsSeparated lts kept problem × ((r : Solved) × comes problem r
+          × GoesOn problem r kept (λ after. TakenOver lts comes after rest a) a)) → LeadsFrom lts comes last kept (problem ∷ rest) a
       go ih (inl (sep, t)) = in_front lts comes last kept kept problem rest a (passed_over lts comes kept last problem next.0.1 (over sep)) (ih kept grown t)
       go ih (inr (lacks, (r, has, t))) = by_result ih lacks r has t
 
@@ -121,13 +126,17 @@ module _ (lts : System) (comes : Problem → Solved → Type 0) (reachable : IsA
         regions = All-push (IsRegion lts) kept p sound.regions (sep.0, sep.1);
       }
 
-      by_result : ((now : List Place) → ((q : Problem) → IsSeparated lts start q → IsSeparated lts now q) → TakenOver lts comes now rest a → IsSound lts comes (Some problem) now → SoundAfter lts comes (last_of (Some problem) rest) a)
+      by_result : ((now : List Place) → ((q : Problem) → IsSeparated lts start q → IsSeparated lts now q) → TakenOver lts comes now rest a
+          → IsSound lts comes (Some problem) now → SoundAfter lts comes (last_of (Some problem) rest) a)
           → (r : Solved) → comes problem r → GoesOn problem r kept (λ after. TakenOver lts comes after rest a) a → SoundAfter lts comes (last_of (Some problem) rest) a
       by_result ih (placed p) has t = ih (kept ++ p ∷ []) (λ q sep. separated_among lts kept p q (grown q sep)) t (with_place p (separate problem p next.0.0.0 has))
       by_result ih (passed w) has t = ih kept grown t (stays (inr (w, has)))
       by_result ih (refuted trees) has t = subst (SoundAfter lts comes (last_of (Some problem) rest)) (sym t) tt
 
-      go : ((now : List Place) → ((q : Problem) → IsSeparated lts start q → IsSeparated lts now q) → TakenOver lts comes now rest a → IsSound lts comes (Some problem) now → SoundAfter lts comes (last_of (Some problem) rest) a)
-          → (IsSeparated lts kept problem × TakenOver lts comes kept rest a) ⊎ (¬ IsSeparated lts kept problem × ((r : Solved) × comes problem r × GoesOn problem r kept (λ after. TakenOver lts comes after rest a) a)) → SoundAfter lts comes (last_of (Some problem) rest) a
+      go : ((now : List Place) → ((q : Problem) → IsSeparated lts start q → IsSeparated lts now q) → TakenOver lts comes now rest a
+          → IsSound lts comes (Some problem) now → SoundAfter lts comes (last_of (Some problem) rest) a)
+          → (IsSeparated lts kept problem × TakenOver lts comes kept rest a)
+          ⊎ (¬ IsSeparated lts kept problem × ((r : Solved) × comes problem r
+          × GoesOn problem r kept (λ after. TakenOver lts comes after rest a) a)) → SoundAfter lts comes (last_of (Some problem) rest) a
       go ih (inl (sep, t)) = ih kept grown t (stays (inl sep))
       go ih (inr (lacks, (r, has, t))) = by_result ih r has t

@@ -38,8 +38,10 @@ module _ (s : CaseSetting) (case : CaseSystem) where
   same_tree above (leaf weights) (Ok t) (Ok t') (rows, made, e) (rows', made', e') =
       let same : rows ≡ rows' = ok_is rows rows' ((spread_one s case above (named_sides s.lts s.class s.problem above) weights).one (Ok rows) (Ok rows') made made') in
       ap Ok (e ∙ ap leaf same ∙ sym e')
-  same_tree above (leaf weights) (Ok t) (Err at) (rows, made, e) (e', err) = absurd (ok_not_err rows at.wide ((spread_one s case above (named_sides s.lts s.class s.problem above) weights).one (Ok rows) (Err at.wide) made err))
-  same_tree above (leaf weights) (Err at) (Ok t) (e, err) (rows, made, e') = absurd (ok_not_err rows at.wide ((spread_one s case above (named_sides s.lts s.class s.problem above) weights).one (Ok rows) (Err at.wide) made err))
+  same_tree above (leaf weights) (Ok t) (Err at) (rows, made, e) (e', err) =
+      absurd (ok_not_err rows at.wide ((spread_one s case above (named_sides s.lts s.class s.problem above) weights).one (Ok rows) (Err at.wide) made err))
+  same_tree above (leaf weights) (Err at) (Ok t) (e, err) (rows, made, e') =
+      absurd (ok_not_err rows at.wide ((spread_one s case above (named_sides s.lts s.class s.problem above) weights).one (Ok rows) (Err at.wide) made err))
   same_tree above (leaf weights) (Err at) (Err at') (e, err) (e', err') =
       ap Err (same_leaf_wide at at' (e ∙ sym e') (err_is at.wide at'.wide ((spread_one s case above (named_sides s.lts s.class s.problem above) weights).one (Err at.wide) (Err at'.wide) err err')))
   same_tree above (split f u low high) (Ok t) (Ok t') (l, h, is_l, is_h, e) (l', h', is_l', is_h', e') =
@@ -47,9 +49,11 @@ module _ (s : CaseSetting) (case : CaseSystem) where
       let eh : h ≡ h' = tree_ok h h' (same_tree (above ++ high_side f u ∷ []) high (Ok h) (Ok h') is_h is_h') in
       ap Ok (e ∙ ap (λ x. split (named_side s.lts s.class s.problem (low_side f u)).form u x h) el ∙ ap (λ x. split (named_side s.lts s.class s.problem (low_side f u)).form u l' x) eh ∙ sym e')
   same_tree above (split f u low high) (Ok t) (Err at) (l, h, is_l, is_h, e) (inl err) = absurd (tree_ok_not_err l at (same_tree (above ++ low_side f u ∷ []) low (Ok l) (Err at) is_l err))
-  same_tree above (split f u low high) (Ok t) (Err at) (l, h, is_l, is_h, e) (inr (l', is_l', err)) = absurd (tree_ok_not_err h at (same_tree (above ++ high_side f u ∷ []) high (Ok h) (Err at) is_h err))
+  same_tree above (split f u low high) (Ok t) (Err at) (l, h, is_l, is_h, e) (inr (l', is_l', err)) =
+      absurd (tree_ok_not_err h at (same_tree (above ++ high_side f u ∷ []) high (Ok h) (Err at) is_h err))
   same_tree above (split f u low high) (Err at) (Ok t) (inl err) (l, h, is_l, is_h, e) = absurd (tree_ok_not_err l at (same_tree (above ++ low_side f u ∷ []) low (Ok l) (Err at) is_l err))
-  same_tree above (split f u low high) (Err at) (Ok t) (inr (l', is_l', err)) (l, h, is_l, is_h, e) = absurd (tree_ok_not_err h at (same_tree (above ++ high_side f u ∷ []) high (Ok h) (Err at) is_h err))
+  same_tree above (split f u low high) (Err at) (Ok t) (inr (l', is_l', err)) (l, h, is_l, is_h, e) =
+      absurd (tree_ok_not_err h at (same_tree (above ++ high_side f u ∷ []) high (Ok h) (Err at) is_h err))
   same_tree above (split f u low high) (Err at) (Err at') (inl err) (inl err') = same_tree (above ++ low_side f u ∷ []) low (Err at) (Err at') err err'
   same_tree above (split f u low high) (Err at) (Err at') (inl err) (inr (l, is_l, err')) = absurd (tree_ok_not_err l at (same_tree (above ++ low_side f u ∷ []) low (Ok l) (Err at) is_l err))
   same_tree above (split f u low high) (Err at) (Err at') (inr (l, is_l, err)) (inl err') = absurd (tree_ok_not_err l at' (same_tree (above ++ low_side f u ∷ []) low (Ok l) (Err at') is_l err'))
@@ -91,8 +95,10 @@ module _ (it : CaseSetting) where
   unfolded : (r : CaseResult) → CaseComes it r → Stops it r ⊎ GoesOn it r
   unfolded r (row_passes w is) = inl (record { w = w; passes_at = is; is = refl })
   unfolded r (pivot_passes case sides at made b) = inr (record { case = case; made = made; outcome = stopped sides at; branching = b; ends = refl })
-  unfolded r (place_passes case members sides start value w made b point is) = inr (record { case = case; made = made; outcome = found members sides; branching = b; ends = (start, value, Err w, point, is, refl) })
-  unfolded r (place_is_made case members sides start value p made b point is) = inr (record { case = case; made = made; outcome = found members sides; branching = b; ends = (start, value, Ok p, point, is, refl) })
+  unfolded r (place_passes case members sides start value w made b point is) =
+      inr (record { case = case; made = made; outcome = found members sides; branching = b; ends = (start, value, Err w, point, is, refl) })
+  unfolded r (place_is_made case members sides start value p made b point is) =
+      inr (record { case = case; made = made; outcome = found members sides; branching = b; ends = (start, value, Ok p, point, is, refl) })
   unfolded r (leaf_passes case multipliers at made b is) = inr (record { case = case; made = made; outcome = tree multipliers; branching = b; ends = (Err at, is, refl) })
   unfolded r (is_refuted case multipliers t made b is) = inr (record { case = case; made = made; outcome = tree multipliers; branching = b; ends = (Ok t, is, refl) })
 

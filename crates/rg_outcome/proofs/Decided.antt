@@ -75,7 +75,8 @@ find_problem lts P decide has = go (find_pair (λ s t. P (Event s t)) (λ s t. d
     go (inr none) (inr none') = inr (nowhere none none')
 
 -- from the last problem on
-pub from_last : (lts : System) (P : Problem → Type 0) → ((problem : Problem) → ((later : Problem) → IsProblem lts later → ComesBefore problem later → P later) → P problem) → (problem : Problem) → P problem
+pub from_last : (lts : System) (P : Problem → Type 0)
+    → ((problem : Problem) → ((later : Problem) → IsProblem lts later → ComesBefore problem later → P later) → P problem) → (problem : Problem) → P problem
 from_last lts P step = all
   where
     states_step : (s s' : ℕ) → ((r r' : ℕ) → r < states lts → r' < states lts → PairBefore s s' r r' → P (States r r')) → P (States s s')

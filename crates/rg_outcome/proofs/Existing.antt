@@ -62,7 +62,8 @@ module _ (lts : System) (comes : Problem → Solved → Type 0) (reachable : IsA
       by (inl sep) = sep
       by (inr lacks) = absurd (none problem (is, lacks))
 
-  pub shows_its_term : (last : Option Problem) (kept : List Place) (problem : Problem) → IsSound lts comes last kept → IsDone lts kept last → IsLeft lts kept problem → (w : Shown) × comes problem (passed w)
+  pub shows_its_term : (last : Option Problem) (kept : List Place) (problem : Problem) → IsSound lts comes last kept → IsDone lts kept last
+      → IsLeft lts kept problem → (w : Shown) × comes problem (passed w)
   shows_its_term last kept problem sound done left = by (sound.over problem left.0 (λ behind. done problem behind left))
     where
       by : IsSeparated lts kept problem ⊎ ((w : Shown) × comes problem (passed w)) → (w : Shown) × comes problem (passed w)
@@ -81,7 +82,8 @@ module _ (lts : System) (comes : Problem → Solved → Type 0) (reachable : IsA
       result problem next (placed p) has =
           let sep = separate problem p next.0.0.0 has in
           let sound' : IsSound lts comes (Some problem) (kept ++ p ∷ []) = record {
-            over = over_too lts comes reachable last kept (kept ++ p ∷ []) problem sound (none_before lts comes reachable last kept problem next) (λ q. separated_among lts kept p q) (inl (separated_by_last lts kept p problem sep));
+            over = over_too lts comes reachable last kept (kept ++ p ∷ []) problem sound (none_before lts comes reachable last kept problem next)
+                (λ q. separated_among lts kept p q) (inl (separated_by_last lts kept p problem sep));
             regions = All-push (IsRegion lts) kept p sound.regions (sep.0, sep.1);
           } in
           let (o, d) = later problem next.0.0.0 next.0.1 (kept ++ p ∷ []) sound' in
@@ -113,7 +115,8 @@ module _ (lts : System) (comes : Problem → Solved → Type 0) (reachable : IsA
           by (inl sep) = sep
           by (inr lacks) = absurd (none problem (is, lacks))
 
-      finished : IsDone lts kept last → ((problem : Problem) × IsFirstProblem (IsLeft lts kept) problem) ⊎ ((problem : Problem) → ¬ IsLeft lts kept problem) → (o : Separation) × ComesFrom lts comes last kept o
+      finished : IsDone lts kept last → ((problem : Problem) × IsFirstProblem (IsLeft lts kept) problem)
+          ⊎ ((problem : Problem) → ¬ IsLeft lts kept problem) → (o : Separation) × ComesFrom lts comes last kept o
       finished done (inl (problem, first)) = left_over done problem first
       finished done (inr none) = (places kept, all_separated (all none))
 

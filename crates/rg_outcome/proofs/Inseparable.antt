@@ -34,13 +34,13 @@ record AllRefuted (comes : ℕ → CaseResult → Type 0) (n : ℕ) (trees : Lis
   pub long : length trees ≡ n
   pub each : (i : ℕ) (t : Tree) → slice_get trees i ≡ Some t → comes i (refutes t)
 
-placed_or_refuted : (p : Place) (trees : List Tree) → placed p ≡ refuted trees → ⊥
+pub placed_or_refuted : (p : Place) (trees : List Tree) → placed p ≡ refuted trees → ⊥
 placed_or_refuted p trees e = cc
 
-passed_or_refuted : (w : Shown) (trees : List Tree) → passed w ≡ refuted trees → ⊥
+pub passed_or_refuted : (w : Shown) (trees : List Tree) → passed w ≡ refuted trees → ⊥
 passed_or_refuted w trees e = cc
 
-same_refuted : (trees trees' : List Tree) → refuted trees ≡ refuted trees' → trees ≡ trees'
+pub same_refuted : (trees trees' : List Tree) → refuted trees ≡ refuted trees' → trees ≡ trees'
 same_refuted trees trees' e = cc
 
 refuted_cases : (comes : ℕ → CaseResult → Type 0) (n : ℕ) (r : Solved) (trees : List Tree) → CasesCome comes n r → r ≡ refuted trees → AllRefuted comes n trees
@@ -71,12 +71,12 @@ has_tree s r t (is_refuted case multipliers t' made b is) e = record { case = ca
 -- ---- a problem has a case
 
 -- the label of the first arc on the way to another state
-first_label : (lts : System) → IsInRange lts → (ts : List ℕ) (s s' : ℕ) → Leads lts s ts s' → s ≢ s' → 0 < labels lts
+pub first_label : (lts : System) → IsInRange lts → (ts : List ℕ) (s s' : ℕ) → Leads lts s ts s' → s ≢ s' → 0 < labels lts
 first_label lts fine [] s s' e differ = absurd (differ e)
 first_label lts fine (t ∷ ts) s s' (mid, has, rest) differ = let lt = (arc_in_range lts fine s t mid has).1 in omega arith
 
 -- where there are two states, a label leads to the one that isn't initial
-some_label : (lts : System) (s s' : ℕ) → IsInRange lts → IsAllReachable lts → s < s' → s' < states lts → 0 < labels lts
+pub some_label : (lts : System) (s s' : ℕ) → IsInRange lts → IsAllReachable lts → s < s' → s' < states lts → 0 < labels lts
 some_label lts s s' fine reachable less lt = go (cases_eq lts.initial s')
   where
     go : (lts.initial ≡ s') ⊎ (lts.initial ≢ s') → 0 < labels lts
@@ -99,19 +99,31 @@ asked lts (States s s') is = let a = is.0 in let b = is.1 in (omega arith, b, λ
 
 -- ---- no region of the class
 
-module _ (it : Setting) (fine : IsInRange it.lts) (numbers : HasNumbersInRange it.class) (reachable : IsAllReachable it.lts) (is_tree : IsTree it.lts it.tree) (is_basis : IsBasis it.lts it.tree it.basis) where
+module _ (it : Setting) (fine : IsInRange it.lts) (numbers : HasNumbersInRange it.class) (reachable : IsAllReachable it.lts)
+    (is_tree : IsTree it.lts it.tree) (is_basis : IsBasis it.lts it.tree it.basis) where
   -- the system of a case with a tree has no point with whole forms
   no_point : (problem : Problem) (number : ℕ) (h : HasTree (case_at it problem number)) → IsCaseOver (case_at it problem number) h.case → ¬ HasWholePoint h.case
   no_point problem number h over (scale, v, point, meets, whole) =
       tree_is_sound (rows_of h.case) h.case.forms h.multipliers (forms_bounded (case_at it problem number) h.case over).positive h.branching scale v point meets whole
 
-  all_inseparable : (problem : Problem) (trees : List Tree) → IsProblem it.lts problem → IsLive it.lts problem → CasesCome (λ i. CaseComes (case_at it problem i)) (cases_of it.lts it.class problem) (refuted trees) → IsInseparable it.lts it.class problem
+  all_inseparable : (problem : Problem) (trees : List Tree) → IsProblem it.lts problem → IsLive it.lts problem
+      → CasesCome (λ i. CaseComes (case_at it problem i)) (cases_of it.lts it.class problem) (refuted trees) → IsInseparable it.lts it.class problem
   all_inseparable problem trees is live c p m region sep =
-      let (number, lt, tokens, effect, allowed, keeps) = (rows_exact it.lts it.class problem fine (asked it.lts problem is) (some_case it.lts it.class problem fine reachable is)).0 (p, m, region, sep) in
+      let (number, lt, tokens, effect, allowed, keeps) =
+      (rows_exact it.lts it.class problem fine (asked it.lts problem is) (some_case it.lts it.class problem fine reachable is)).0 (p, m, region, sep) in
       let all = refuted_cases (λ i. CaseComes (case_at it problem i)) (cases_of it.lts it.class problem) (refuted trees) trees c refl in
       let (t, at) = slice_get_some trees number (let l = all.long in omega arith) in
       let h = has_tree (case_at it problem number) (refutes t) t (all.each number t at) refl in
-      let over : IsCaseOver (case_at it problem number) h.case = record { in_range = fine; reachable = reachable; is_tree = is_tree; is_basis = is_basis; asked = asked it.lts problem is; numbers = numbers; is_case = h.made } in
+      let over : IsCaseOver (case_at it problem number) h.case =
+      record {
+        in_range = fine;
+        reachable = reachable;
+        is_tree = is_tree;
+        is_basis = is_basis;
+        asked = asked it.lts problem is;
+        numbers = numbers;
+        is_case = h.made;
+      } in
       no_point problem number h over ((whole_points_exact (case_at it problem number) h.case over live).1 (tokens, effect, allowed, keeps))
 
   pub inseparable : (problem : Problem) (trees : List Tree) → IsProblem it.lts problem → ProblemComes it problem (refuted trees) → IsInseparable it.lts it.class problem

@@ -43,7 +43,8 @@ HaveFactors case = Each (λ (k : KeptRow). IsOver k.factor) case.kept
 
 pub case_factors : (s : CaseSetting) (case : CaseSystem) → system_fold s (Ok case) → HaveFactors case
 case_factors s case (all, rows, (forms, made, (columns, keeps, same))) k has =
-    let (name, _, row) = made_from (λ name. row_fold s.setting name (row_expression s.lts s.class s.problem s.number [] name)) (names_of s.lts s.class s.problem s.number) all k rows (kept_is (λ (k : KeptRow). k.row) IsIdle [] all case.kept k keeps has) in
+    let (name, _, row) = made_from (λ name. row_fold s.setting name (row_expression s.lts s.class s.problem s.number [] name))
+    (names_of s.lts s.class s.problem s.number) all k rows (kept_is (λ (k : KeptRow). k.row) IsIdle [] all case.kept k keeps has) in
     (factor_is_positive s.setting name (row_expression s.lts s.class s.problem s.number [] name) k row).1
 
 kept_factor : (kept : List KeptRow) (d : KeptRow) → Each (λ (k : KeptRow). IsOver k.factor) kept → IsOver d.factor → (i : ℕ) → IsOver (slice_index_or kept i d).factor
@@ -78,7 +79,8 @@ some_share case sides above weights all = some_each (share_fold case sides above
     (λ m _. some_given (record { name = name_of case w.row; multiplier = m })))
 
 shares_over : (case : CaseSystem) (sides : List SplitSide) (above : List Side) (weights : List Weight) → Makes (Each ShareOver) (each (share_fold case sides above) weights)
-shares_over case sides above weights = makes_each ShareOver (share_fold case sides above) weights (λ w has s (m, made, e). subst ShareOver (sym e) (product_over (whole w.multiplier) (factor_of case sides above w.row) m made))
+shares_over case sides above weights = makes_each ShareOver (share_fold case sides above) weights
+    (λ w has s (m, made, e). subst ShareOver (sym e) (product_over (whole w.multiplier) (factor_of case sides above w.row) m made))
 
 -- ---- chords
 
@@ -100,19 +102,24 @@ module _ (lts : System) (arcs : List Arc) (basis : CycleBasis) (related : HaveRe
       (λ x. and_then (quotient ((basis.relation p.label).coefficient c) (basis.relation p.label).d) (λ k. mul x k))
       (some_product p.share.multiplier (whole (count_of arcs (expression p.share.name).terms p.label)) over
       (whole_over (count_of arcs (expression p.share.name).terms p.label)))
-      (λ x h. some_then (quotient ((basis.relation p.label).coefficient c) (basis.relation p.label).d) (λ k. mul x k) (some_quotient _ _ differs) (λ k q. some_product x k (product_over p.share.multiplier (whole (count_of arcs (expression p.share.name).terms p.label)) x h) q.positive))
+      (λ x h. some_then (quotient ((basis.relation p.label).coefficient c) (basis.relation p.label).d) (λ k. mul x k) (some_quotient _ _ differs)
+      (λ k q. some_product x k (product_over p.share.multiplier (whole (count_of arcs (expression p.share.name).terms p.label)) x h) q.positive))
 
   pair_over : (c : ℕ) → Each (λ p. Makes IsOver (pair_fold arcs basis expression c p)) (pairs_of shares (dependent_labels (labels lts) basis))
   pair_over c p has z (x, h, (k, q, made)) = product_over x k z made
 
   chord_sum : (c : ℕ) → HasSome (joined add (pair_fold arcs basis expression (labels lts + c)) (whole (pos 0)) (pairs_of shares (dependent_labels (labels lts) basis)))
-  chord_sum c = some_joined IsOver add (pair_fold arcs basis expression (labels lts + c)) (whole (pos 0)) (pairs_of shares (dependent_labels (labels lts) basis)) sums_join (some_pair (labels lts + c)) (pair_over (labels lts + c))
+  chord_sum c = some_joined IsOver add (pair_fold arcs basis expression (labels lts + c)) (whole (pos 0))
+      (pairs_of shares (dependent_labels (labels lts) basis)) sums_join (some_pair (labels lts + c)) (pair_over (labels lts + c))
 
   some_chord : (c : ℕ) → HasSome (chord_fold lts arcs basis expression shares c)
-  some_chord c = some_then (joined add (pair_fold arcs basis expression (labels lts + c)) (whole (pos 0)) (pairs_of shares (dependent_labels (labels lts) basis))) (λ sum. gives (negated sum)) (chord_sum c) (λ sum _. some_given (negated sum))
+  some_chord c = some_then (joined add (pair_fold arcs basis expression (labels lts + c)) (whole (pos 0))
+      (pairs_of shares (dependent_labels (labels lts) basis))) (λ sum. gives (negated sum)) (chord_sum c) (λ sum _. some_given (negated sum))
 
   chord_over : (c : ℕ) → Makes IsOver (chord_fold lts arcs basis expression shares c)
-  chord_over c z (sum, h, e) = subst IsOver (sym e) (makes_joined IsOver add (pair_fold arcs basis expression (labels lts + c)) (whole (pos 0)) (pairs_of shares (dependent_labels (labels lts) basis)) sums_join (whole_over (pos 0)) (pair_over (labels lts + c)) sum h)
+  chord_over c z (sum, h, e) = subst IsOver (sym e)
+      (makes_joined IsOver add (pair_fold arcs basis expression (labels lts + c)) (whole (pos 0))
+      (pairs_of shares (dependent_labels (labels lts) basis)) sums_join (whole_over (pos 0)) (pair_over (labels lts + c)) sum h)
 
 -- ---- arcs of the tree
 
@@ -152,7 +159,11 @@ some_checked lts expression rows =
 
 module _ (lts : System) (arcs : List Arc) (basis : CycleBasis) (related : HaveRelations lts basis) (expression : RowName → Expression) (shares : List Share) (all : Each ShareOver shares) where
   abbrev leaf_of : List ArcTimes → List ℤ → List NamedRow
-  leaf_of times parts = not_zero (named_from (map (λ r. r.name) shares) parts ++ map (λ a. record { multiplier = multiplier_among (chord_arcs lts arcs basis ++ map (λ x. x.arc) times) (drop (length shares) parts) a; name = arc_name a }) lts.arcs)
+  leaf_of times parts = not_zero (named_from (map (λ r. r.name) shares) parts
+      ++ map (λ a. record {
+        multiplier = multiplier_among (chord_arcs lts arcs basis ++ map (λ x. x.arc) times) (drop (length shares) parts) a;
+        name = arc_name a;
+      }) lts.arcs)
 
   abbrev from_times : Scaled → List ArcTimes → Result (List NamedRow) Wide → Type 0
   from_times scaled times = and_then (parts_of (scaled.numbers ++ map (λ x. x.multiplier) times)) (λ parts. checked_leaf lts expression (leaf_of times parts))
@@ -161,7 +172,9 @@ module _ (lts : System) (arcs : List Arc) (basis : CycleBasis) (related : HaveRe
   from_scaled scaled = and_then (tree_fold expression (named_from (map (λ r. r.name) shares ++ map arc_name (chord_arcs lts arcs basis)) scaled.numbers) [] (reverse arcs)) (from_times scaled)
 
   some_times : (scaled : Scaled) (times : List ArcTimes) → HasSome (from_times scaled times)
-  some_times scaled times = some_then (parts_of (scaled.numbers ++ map (λ x. x.multiplier) times)) (λ parts. checked_leaf lts expression (leaf_of times parts)) (some_parts (scaled.numbers ++ map (λ x. x.multiplier) times)) (λ parts _. some_checked lts expression (leaf_of times parts))
+  some_times scaled times = some_then (parts_of (scaled.numbers ++ map (λ x. x.multiplier) times))
+      (λ parts. checked_leaf lts expression (leaf_of times parts)) (some_parts (scaled.numbers ++ map (λ x. x.multiplier) times))
+      (λ parts _. some_checked lts expression (leaf_of times parts))
 
   some_from_scaled : (scaled : Scaled) → HasSome (from_scaled scaled)
   some_from_scaled scaled = some_then (tree_fold expression (named_from (map (λ r. r.name) shares ++ map arc_name (chord_arcs lts arcs basis)) scaled.numbers) []
@@ -184,7 +197,8 @@ module _ (lts : System) (arcs : List Arc) (basis : CycleBasis) (related : HaveRe
 module _ (s : CaseSetting) (case : CaseSystem) (related : HaveRelations s.lts s.basis) (factors : HaveFactors case) where
   some_spread : (sides : List SplitSide) (above : List Side) (weights : List Weight) → HasSome (spread_fold s case sides above weights)
   some_spread sides above weights =
-      some_then (each (share_fold case sides above) weights) (λ shares. leaf_fold s.lts s.tree s.basis (row_expression s.lts s.class s.problem s.number above) shares) (some_share case sides above weights factors)
+      some_then (each (share_fold case sides above) weights)
+      (λ shares. leaf_fold s.lts s.tree s.basis (row_expression s.lts s.class s.problem s.number above) shares) (some_share case sides above weights factors)
       (λ shares h. some_leaf s.lts s.tree s.basis related (row_expression s.lts s.class s.problem s.number above) shares (shares_over case sides above weights shares h))
 
   pub some_spread_tree : (above : List SplitSide) (t : SplitTree) → (r : Result Tree LeafWide) × spread_tree s case above t r

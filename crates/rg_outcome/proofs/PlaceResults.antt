@@ -46,7 +46,8 @@ module _ (lts : System) (basis : CycleBasis) (related : HaveRelations lts basis)
   share t f = and_then (quotient ((basis.relation t).coefficient f) (basis.relation t).d) (λ k. mul (value f) k)
 
   some_share : (t : ℕ) → (basis.relation t).d ≢ pos 0 → Each (λ f. HasSome (share t f)) (free_columns lts basis)
-  some_share t differs f has = some_then (quotient ((basis.relation t).coefficient f) (basis.relation t).d) (λ k. mul (value f) k) (some_quotient _ _ differs) (λ k q. some_product (value f) k (over f has) q.positive)
+  some_share t differs f has = some_then (quotient ((basis.relation t).coefficient f) (basis.relation t).d) (λ k. mul (value f) k)
+      (some_quotient _ _ differs) (λ k q. some_product (value f) k (over f has) q.positive)
 
   share_over : (t : ℕ) → Each (λ f. Makes IsOver (share t f)) (free_columns lts basis)
   share_over t f has = makes_then IsOver (quotient ((basis.relation t).coefficient f) (basis.relation t).d) (λ k. mul (value f) k) (λ k q. product_over (value f) k)
@@ -54,17 +55,23 @@ module _ (lts : System) (basis : CycleBasis) (related : HaveRelations lts basis)
   some_effect : Each (λ t. HasSome (effect_fold lts basis value t)) (all_numbers (labels lts))
   some_effect t has = by (has_label t lts.arcs) (is_in basis.members t) refl
     where
-      by : (used free : Bool) → is_in basis.members t ≡ free → HasSome (either (not used) (gives (whole (pos 0))) (either free (gives (value t)) (joined add (share t) (whole (pos 0)) (free_columns lts basis))))
+      by : (used free : Bool) → is_in basis.members t ≡ free
+          → HasSome (either (not used) (gives (whole (pos 0))) (either free (gives (value t)) (joined add (share t) (whole (pos 0)) (free_columns lts basis))))
       by false free e = some_given (whole (pos 0))
       by true true e = some_given (value t)
-      by true false e = some_joined IsOver add (share t) (whole (pos 0)) (free_columns lts basis) sums_join (some_share t (related t (where_has (λ u. not (is_in basis.members u)) 0 (labels lts) t (ap not e) (omega arith) (where_is (λ u. true) 0 (labels lts) t has).2))) (share_over t)
+      by true false e = some_joined IsOver add (share t) (whole (pos 0)) (free_columns lts basis) sums_join
+          (some_share t (related t (where_has (λ u. not (is_in basis.members u)) 0 (labels lts) t (ap not e) (omega arith)
+          (where_is (λ u. true) 0 (labels lts) t has).2))) (share_over t)
 
   effect_over : Each (λ t. Makes IsOver (effect_fold lts basis value t)) (all_numbers (labels lts))
   effect_over t has = by (has_label t lts.arcs) refl (is_in basis.members t) refl
     where
-      by : (used : Bool) → has_label t lts.arcs ≡ used → (free : Bool) → is_in basis.members t ≡ free → Makes IsOver (either (not used) (gives (whole (pos 0))) (either free (gives (value t)) (joined add (share t) (whole (pos 0)) (free_columns lts basis))))
+      by : (used : Bool) → has_label t lts.arcs ≡ used → (free : Bool) → is_in basis.members t ≡ free
+          → Makes IsOver (either (not used) (gives (whole (pos 0))) (either free (gives (value t)) (joined add (share t) (whole (pos 0)) (free_columns lts basis))))
       by false u free e = λ x g. subst IsOver (sym g) (whole_over (pos 0))
-      by true u true e = λ x g. subst IsOver (sym g) (over t (where_has (λ u. is_in basis.members u && has_label u lts.arcs) 0 (labels lts) t (ap₂ (λ a b. a && b) e u) (omega arith) (where_is (λ u. true) 0 (labels lts) t has).2))
+      by true u true e = λ x g. subst IsOver (sym g)
+          (over t (where_has (λ u. is_in basis.members u && has_label u lts.arcs) 0 (labels lts) t (ap₂ (λ a b. a && b) e u) (omega arith)
+          (where_is (λ u. true) 0 (labels lts) t has).2))
       by true u false e = makes_joined IsOver add (share t) (whole (pos 0)) (free_columns lts basis) sums_join (whole_over (pos 0)) (share_over t)
 
 -- ---- made whole
@@ -77,7 +84,8 @@ module _ (class : Class) where
   some_times products over = by (is_some class.marking)
     where
       by : (b : Bool) → HasSome (either b (each (λ r. mul r (whole (pos (unwrap_or class.marking 1)))) products) (gives products))
-      by true = some_each (λ r. mul r (whole (pos (unwrap_or class.marking 1)))) products (λ r has. some_product r (whole (pos (unwrap_or class.marking 1))) (over r has) (whole_over (pos (unwrap_or class.marking 1))))
+      by true = some_each (λ r. mul r (whole (pos (unwrap_or class.marking 1)))) products
+          (λ r has. some_product r (whole (pos (unwrap_or class.marking 1))) (over r has) (whole_over (pos (unwrap_or class.marking 1))))
       by false = some_given products
 
   times_over : (products : List Ratio) → Each IsOver products → Makes (Each IsOver) (times_marking products)
@@ -100,14 +108,17 @@ module _ (class : Class) where
         by : (b : Bool) → HasSome (either b (gives numbers) (and_then (multiple_of_all (map (λ r. r.bottom) numbers)) from_multiple))
         by true = some_given numbers
         by false = some_then (multiple_of_all (map (λ r. r.bottom) numbers)) from_multiple (some_multiple (map (λ r. r.bottom) numbers))
-            (λ m _. some_then (each (λ r. mul r (whole m)) numbers) times_marking (some_each (λ r. mul r (whole m)) numbers (λ r has. some_product r (whole m) (over r has) (whole_over m))) (λ products h. some_times products (products_over m products h)))
+            (λ m _. some_then (each (λ r. mul r (whole m)) numbers) times_marking
+            (some_each (λ r. mul r (whole m)) numbers (λ r has. some_product r (whole m) (over r has) (whole_over m)))
+            (λ products h. some_times products (products_over m products h)))
 
     whole_made_over : Makes (Each IsOver) (made_whole class numbers)
     whole_made_over = by (class.plain || is_some class.bound)
       where
         by : (b : Bool) → Makes (Each IsOver) (either b (gives numbers) (and_then (multiple_of_all (map (λ r. r.bottom) numbers)) from_multiple))
         by true = λ x e. subst (Each IsOver) (sym e) over
-        by false = makes_then (Each IsOver) (multiple_of_all (map (λ r. r.bottom) numbers)) from_multiple (λ m _. makes_then (Each IsOver) (each (λ r. mul r (whole m)) numbers) times_marking (λ products h. times_over products (products_over m products h)))
+        by false = makes_then (Each IsOver) (multiple_of_all (map (λ r. r.bottom) numbers)) from_multiple
+            (λ m _. makes_then (Each IsOver) (each (λ r. mul r (whole m)) numbers) times_marking (λ products h. times_over products (products_over m products h)))
 
 -- ---- shifted
 
@@ -156,20 +167,24 @@ stepped_over number to m all over s = by (s == to)
 some_along : (effect number : ℕ → Ratio) (arcs : List Arc) → ((t : ℕ) → IsOver (effect t)) → ((s : ℕ) → IsOver (number s)) → HasSome (along_tree effect number arcs)
 some_along effect number [] effects numbers = some_given number
 some_along effect number (a ∷ arcs) effects numbers =
-    some_then (add (number a.from) (effect a.label)) (λ m. along_tree effect (λ s. if s == a.to then m else number s) arcs) (some_sum (number a.from) (effect a.label) (numbers a.from) (effects a.label))
-    (λ m h. some_along effect (λ s. if s == a.to then m else number s) arcs effects (stepped_over number a.to m numbers (sums_join.makes (number a.from) (effect a.label) (numbers a.from) (effects a.label) m h)))
+    some_then (add (number a.from) (effect a.label)) (λ m. along_tree effect (λ s. if s == a.to then m else number s) arcs)
+    (some_sum (number a.from) (effect a.label) (numbers a.from) (effects a.label))
+    (λ m h. some_along effect (λ s. if s == a.to then m else number s) arcs effects
+    (stepped_over number a.to m numbers (sums_join.makes (number a.from) (effect a.label) (numbers a.from) (effects a.label) m h)))
 
 along_over : (effect number : ℕ → Ratio) (arcs : List Arc) → ((t : ℕ) → IsOver (effect t)) → ((s : ℕ) → IsOver (number s)) → Makes (λ n. (s : ℕ) → IsOver (n s)) (along_tree effect number arcs)
 along_over effect number [] effects numbers = λ n e. subst (λ (n : ℕ → Ratio). (s : ℕ) → IsOver (n s)) (sym e) numbers
 along_over effect number (a ∷ arcs) effects numbers =
     makes_then (λ (n : ℕ → Ratio). (s : ℕ) → IsOver (n s)) (add (number a.from) (effect a.label)) (λ m. along_tree effect (λ s. if s == a.to then m else number s) arcs)
-    (λ m h. along_over effect (λ s. if s == a.to then m else number s) arcs effects (stepped_over number a.to m numbers (sums_join.makes (number a.from) (effect a.label) (numbers a.from) (effects a.label) m h)))
+    (λ m h. along_over effect (λ s. if s == a.to then m else number s) arcs effects
+    (stepped_over number a.to m numbers (sums_join.makes (number a.from) (effect a.label) (numbers a.from) (effects a.label) m h)))
 
 -- ---- the place
 
 module _ (it : Setting) (problem : Problem) where
   abbrev from_shifted : List Ratio → List Ratio → Result Place Wide → Type 0
-  from_shifted found numbers = and_then (each (λ u. whole_sum (taken it.lts it.class problem numbers found u) (top_at found u)) (all_numbers (labels it.lts))) (λ post. gives (place_of it.lts numbers (map (taken it.lts it.class problem numbers found) (all_numbers (labels it.lts))) post))
+  from_shifted found numbers = and_then (each (λ u. whole_sum (taken it.lts it.class problem numbers found u) (top_at found u))
+      (all_numbers (labels it.lts))) (λ post. gives (place_of it.lts numbers (map (taken it.lts it.class problem numbers found) (all_numbers (labels it.lts))) post))
 
   abbrev from_number : List Ratio → (ℕ → Ratio) → Result Place Wide → Type 0
   from_number found number = and_then (shift_fold it.lts it.class problem (map number (all_numbers (states it.lts)))) (from_shifted found)
@@ -189,13 +204,20 @@ module _ (it : Setting) (problem : Problem) where
       (λ numbers _. some_shifted found numbers)
 
   some_found : (found : List Ratio) → Each IsOver found → HasSome (from_found found)
-  some_found found over = some_then (along_tree (ratio_at found) (λ s. ratio_at found (labels it.lts)) it.tree) (from_number found) (some_along (ratio_at found) (λ s. ratio_at found (labels it.lts)) it.tree (at_over found over) (λ s. at_over found over (labels it.lts)))
+  some_found found over = some_then (along_tree (ratio_at found) (λ s. ratio_at found (labels it.lts)) it.tree) (from_number found)
+      (some_along (ratio_at found) (λ s. ratio_at found (labels it.lts)) it.tree (at_over found over) (λ s. at_over found over (labels it.lts)))
       (λ number h. some_numbered found number (along_over (ratio_at found) (λ s. ratio_at found (labels it.lts)) it.tree (at_over found over) (λ s. at_over found over (labels it.lts)) number h))
 
-  pub some_place : (start : Ratio) (value : ℕ → Ratio) → HaveRelations it.lts it.basis → IsOver start → Each (λ f. IsOver (value f)) (free_columns it.lts it.basis) → HasSome (place_fold it problem start value)
+  pub some_place : (start : Ratio) (value : ℕ → Ratio) → HaveRelations it.lts it.basis → IsOver start
+      → Each (λ f. IsOver (value f)) (free_columns it.lts it.basis) → HasSome (place_fold it problem start value)
   some_place start value related over values =
-      some_then (each (effect_fold it.lts it.basis value) (all_numbers (labels it.lts))) (λ effects. and_then (made_whole it.class (effects ++ start ∷ [])) from_found) (some_each (effect_fold it.lts it.basis value) (all_numbers (labels it.lts)) (some_effect it.lts it.basis related value values))
-      (λ effects h. some_then (made_whole it.class (effects ++ start ∷ [])) from_found (some_whole it.class (effects ++ start ∷ []) (all effects h)) (λ found g. some_found found (whole_made_over it.class (effects ++ start ∷ []) (all effects h) found g)))
+      some_then (each (effect_fold it.lts it.basis value) (all_numbers (labels it.lts)))
+      (λ effects. and_then (made_whole it.class (effects ++ start ∷ [])) from_found)
+      (some_each (effect_fold it.lts it.basis value) (all_numbers (labels it.lts)) (some_effect it.lts it.basis related value values))
+      (λ effects h. some_then (made_whole it.class (effects ++ start ∷ [])) from_found (some_whole it.class (effects ++ start ∷ []) (all effects h))
+      (λ found g. some_found found (whole_made_over it.class (effects ++ start ∷ []) (all effects h) found g)))
     where
       all : (effects : List Ratio) → each (effect_fold it.lts it.basis value) (all_numbers (labels it.lts)) (Ok effects) → Each IsOver (effects ++ start ∷ [])
-      all effects h = each_append IsOver effects (start ∷ []) (makes_each IsOver (effect_fold it.lts it.basis value) (all_numbers (labels it.lts)) (effect_over it.lts it.basis related value values) effects h) (each_cons IsOver start [] over (each_none IsOver))
+      all effects h = each_append IsOver effects (start ∷ [])
+          (makes_each IsOver (effect_fold it.lts it.basis value) (all_numbers (labels it.lts))
+          (effect_over it.lts it.basis related value values) effects h) (each_cons IsOver start [] over (each_none IsOver))

@@ -85,20 +85,33 @@ made_by_case comes n r p (first_term i w lt has none makes_none) e = absurd (pas
 
 -- ---- a region of the class
 
-module _ (it : Setting) (fine : IsInRange it.lts) (numbers : HasNumbersInRange it.class) (reachable : IsAllReachable it.lts) (is_tree : IsTree it.lts it.tree) (is_basis : IsBasis it.lts it.tree it.basis) where
+module _ (it : Setting) (fine : IsInRange it.lts) (numbers : HasNumbersInRange it.class) (reachable : IsAllReachable it.lts)
+    (is_tree : IsTree it.lts it.tree) (is_basis : IsBasis it.lts it.tree it.basis) where
   case_separates : (problem : Problem) (number : ℕ) (p : Place) → IsProblem it.lts problem → IsLive it.lts problem → HasPlace (case_at it problem number) p → IsSeparatedIn it.lts it.class problem p
   case_separates problem number p is live h =
-      let over : IsCaseOver (case_at it problem number) h.case = record { in_range = fine; reachable = reachable; is_tree = is_tree; is_basis = is_basis; asked = asked it.lts problem is; numbers = numbers; is_case = h.is_case } in
+      let over : IsCaseOver (case_at it problem number) h.case =
+      record {
+        in_range = fine;
+        reachable = reachable;
+        is_tree = is_tree;
+        is_basis = is_basis;
+        asked = asked it.lts problem is;
+        numbers = numbers;
+        is_case = h.is_case;
+      } in
       let made = found_makes (case_at it problem number) h.case h.members h.sides h.start h.value p over live h.branching h.point h.place in
       (tokens_of made.numbers, made.region, made.separates)
 
-  cases_separate : (problem : Problem) (p : Place) → IsProblem it.lts problem → IsLive it.lts problem → CasesCome (λ i. CaseComes (case_at it problem i)) (cases_of it.lts it.class problem) (placed p) → IsSeparatedIn it.lts it.class problem p
+  cases_separate : (problem : Problem) (p : Place) → IsProblem it.lts problem → IsLive it.lts problem
+      → CasesCome (λ i. CaseComes (case_at it problem i)) (cases_of it.lts it.class problem) (placed p) → IsSeparatedIn it.lts it.class problem p
   cases_separate problem p is live c =
       let (i, lt, has) = made_by_case (λ i. CaseComes (case_at it problem i)) (cases_of it.lts it.class problem) (placed p) p c refl in
       case_separates problem i p is live (has_place (case_at it problem i) (makes p) p has refl)
 
   pub placed_separates : (problem : Problem) (p : Place) → IsProblem it.lts problem → ProblemComes it problem (placed p) → IsSeparatedIn it.lts it.class problem p
-  placed_separates (Event s t) p is (inl (dead, e)) = subst (IsSeparatedIn it.lts it.class (Event s t)) (sym (same_placed p (blocking (labels it.lts) t) e)) ((λ s. 0), blocking_region it.lts it.class t is.1 dead, blocking_separates it.lts t is.1)
+  placed_separates (Event s t) p is (inl (dead, e)) =
+      subst (IsSeparatedIn it.lts it.class (Event s t)) (sym (same_placed p (blocking (labels it.lts) t) e))
+      ((λ s. 0), blocking_region it.lts it.class t is.1 dead, blocking_separates it.lts t is.1)
   placed_separates (Event s t) p is (inr (live, c)) = cases_separate (Event s t) p is live c
   placed_separates (States s s') p is c = cases_separate (States s s') p is tt c
 

@@ -30,7 +30,8 @@ same_value system members j f g (inr (k, row, is)) (inr (k', row', is')) =
     let same : k' ≡ k = same_relation system members j k' k row' row in
     ratio_one f g k.constant k.d is (subst (λ (x : Relation). IsRatio g x.constant x.d) same is')
 
-module _ (lts : System) (basis : CycleBasis) (class : Class) (system : LinearSystem) (members : List ℕ) (start start' : Ratio) (value value' : ℕ → Ratio) (a : PointOf lts basis class system members start value) (b : PointOf lts basis class system members start' value') where
+module _ (lts : System) (basis : CycleBasis) (class : Class) (system : LinearSystem) (members : List ℕ) (start start' : Ratio)
+    (value value' : ℕ → Ratio) (a : PointOf lts basis class system members start value) (b : PointOf lts basis class system members start' value') where
   pub one_start : start ≡ start'
   one_start = ⊎_elim (λ has. same_value system members 0 start start' (a.start_is has) (b.start_is has)) (λ lacks. a.no_start lacks ∙ sym (b.no_start lacks)) (cases_Bool (has_start class))
 
@@ -44,24 +45,29 @@ module _ (lts : System) (basis : CycleBasis) (class : Class) (system : LinearSys
 abbrev pub HasResultsOf : {X : Type 0} → (Result X Wide → Type 0) → (Result X Wide → Type 0) → Type 0
 HasResultsOf {X} fold fold' = (r : Result X Wide) → fold r → fold' r
 
-and_then_too : {X Y : Type 0} (one one' : Result X Wide → Type 0) (next next' : X → Result Y Wide → Type 0) → HasResultsOf one one' → ((x : X) → HasResultsOf (next x) (next' x)) → HasResultsOf (and_then one next) (and_then one' next')
+and_then_too : {X Y : Type 0} (one one' : Result X Wide → Type 0) (next next' : X → Result Y Wide → Type 0) → HasResultsOf one one'
+    → ((x : X) → HasResultsOf (next x) (next' x)) → HasResultsOf (and_then one next) (and_then one' next')
 and_then_too one one' next next' f n (Ok y) (x, a, b) = (x, f (Ok x) a, n x (Ok y) b)
 and_then_too one one' next next' f n (Err w) (inl a) = inl (f (Err w) a)
 and_then_too one one' next next' f n (Err w) (inr (x, a, b)) = inr (x, f (Ok x) a, n x (Err w) b)
 
-each_too : {A X : Type 0} (make make' : A → Result X Wide → Type 0) (items : List A) → ((a : A) → Contains items a → HasResultsOf (make a) (make' a)) → HasResultsOf (each make items) (each make' items)
+each_too : {A X : Type 0} (make make' : A → Result X Wide → Type 0) (items : List A) → ((a : A) → Contains items a → HasResultsOf (make a) (make' a))
+    → HasResultsOf (each make items) (each make' items)
 each_too make make' [] too = λ r h. h
 each_too {A} {X} make make' (a ∷ rest) too =
     and_then_too (make a) (make' a) (λ x. and_then (each make rest) (λ xs. gives (x ∷ xs))) (λ x. and_then (each make' rest) (λ xs. gives (x ∷ xs))) (too a (first a rest))
     (λ x. and_then_too (each make rest) (each make' rest) (λ xs. gives (x ∷ xs)) (λ xs. gives (x ∷ xs)) (each_too make make' rest (λ b has. too b (behind a b rest has))) (λ xs r h. h))
 
-further_too : {A X : Type 0} (join : X → X → Result X Wide → Type 0) (make make' : A → Result X Wide → Type 0) (sum : X) (items : List A) → ((a : A) → Contains items a → HasResultsOf (make a) (make' a)) → HasResultsOf (further join make sum items) (further join make' sum items)
+further_too : {A X : Type 0} (join : X → X → Result X Wide → Type 0) (make make' : A → Result X Wide → Type 0) (sum : X) (items : List A)
+    → ((a : A) → Contains items a → HasResultsOf (make a) (make' a)) → HasResultsOf (further join make sum items) (further join make' sum items)
 further_too join make make' sum [] too = λ r h. h
 further_too {A} {X} join make make' sum (a ∷ rest) too =
     and_then_too (make a) (make' a) (λ x. and_then (join sum x) (λ more. further join make more rest)) (λ x. and_then (join sum x) (λ more. further join make' more rest)) (too a (first a rest))
-    (λ x. and_then_too (join sum x) (join sum x) (λ more. further join make more rest) (λ more. further join make' more rest) (λ r h. h) (λ more. further_too join make make' more rest (λ b has. too b (behind a b rest has))))
+    (λ x. and_then_too (join sum x) (join sum x) (λ more. further join make more rest) (λ more. further join make' more rest) (λ r h. h)
+    (λ more. further_too join make make' more rest (λ b has. too b (behind a b rest has))))
 
-joined_too : {A X : Type 0} (join : X → X → Result X Wide → Type 0) (make make' : A → Result X Wide → Type 0) (none : X) (items : List A) → ((a : A) → Contains items a → HasResultsOf (make a) (make' a)) → HasResultsOf (joined join make none items) (joined join make' none items)
+joined_too : {A X : Type 0} (join : X → X → Result X Wide → Type 0) (make make' : A → Result X Wide → Type 0) (none : X) (items : List A)
+    → ((a : A) → Contains items a → HasResultsOf (make a) (make' a)) → HasResultsOf (joined join make none items) (joined join make' none items)
 joined_too join make make' none [] too = λ r h. h
 joined_too {A} {X} join make make' none (a ∷ rest) too =
     and_then_too (make a) (make' a) (λ x. further join make x rest) (λ x. further join make' x rest) (too a (first a rest))
@@ -72,7 +78,8 @@ joined_too {A} {X} join make make' none (a ∷ rest) too =
 abbrev effect_by : Bool → Bool → Ratio → (Result Ratio Wide → Type 0) → Result Ratio Wide → Type 0
 effect_by used free v rest = either (not used) (gives (whole (pos 0))) (either free (gives v) rest)
 
-effect_too : (used free : Bool) (v v' : Ratio) (rest rest' : Result Ratio Wide → Type 0) → (free ≡ true → used ≡ true → v ≡ v') → HasResultsOf rest rest' → HasResultsOf (effect_by used free v rest) (effect_by used free v' rest')
+effect_too : (used free : Bool) (v v' : Ratio) (rest rest' : Result Ratio Wide → Type 0) → (free ≡ true → used ≡ true → v ≡ v')
+    → HasResultsOf rest rest' → HasResultsOf (effect_by used free v rest) (effect_by used free v' rest')
 effect_too false free v v' rest rest' same too r h = h
 effect_too true true v v' rest rest' same too r h = subst (λ x. gives x r) (same refl refl) h
 effect_too true false v v' rest rest' same too r h = too r h
@@ -81,13 +88,15 @@ module _ (s : Setting) (problem : Problem) (start : Ratio) (value value' : ℕ �
   terms : (t : ℕ)
       → HasResultsOf (joined add (λ f. and_then (quotient ((s.basis.relation t).coefficient f) (s.basis.relation t).d) (λ k. mul (value f) k)) (whole (pos 0)) (free_columns s.lts s.basis))
       (joined add (λ f. and_then (quotient ((s.basis.relation t).coefficient f) (s.basis.relation t).d) (λ k. mul (value' f) k)) (whole (pos 0)) (free_columns s.lts s.basis))
-  terms t = joined_too add (λ f. and_then (quotient ((s.basis.relation t).coefficient f) (s.basis.relation t).d) (λ k. mul (value f) k)) (λ f. and_then (quotient ((s.basis.relation t).coefficient f) (s.basis.relation t).d) (λ k. mul (value' f) k)) (whole (pos 0)) (free_columns s.lts s.basis)
+  terms t = joined_too add (λ f. and_then (quotient ((s.basis.relation t).coefficient f) (s.basis.relation t).d) (λ k. mul (value f) k))
+      (λ f. and_then (quotient ((s.basis.relation t).coefficient f) (s.basis.relation t).d) (λ k. mul (value' f) k)) (whole (pos 0)) (free_columns s.lts s.basis)
       (λ f has r h. subst (λ v. and_then (quotient ((s.basis.relation t).coefficient f) (s.basis.relation t).d) (λ k. mul v k) r) (same f has) h)
 
   effect : (t : ℕ) → Contains (all_numbers (labels s.lts)) t → HasResultsOf (effect_fold s.lts s.basis value t) (effect_fold s.lts s.basis value' t)
   effect t has =
       effect_too (has_label t s.lts.arcs) (is_in s.basis.members t) (value t) (value' t) _ _
-      (λ free used. same t (where_has (λ u. is_in s.basis.members u && has_label u s.lts.arcs) 0 (labels s.lts) t (ap₂ (λ x y. x && y) free used) (omega arith) (where_is (λ u. true) 0 (labels s.lts) t has).2)) (terms t)
+      (λ free used. same t (where_has (λ u. is_in s.basis.members u && has_label u s.lts.arcs) 0 (labels s.lts) t (ap₂ (λ x y. x && y) free used)
+      (omega arith) (where_is (λ u. true) 0 (labels s.lts) t has).2)) (terms t)
 
   effects : HasResultsOf (each (effect_fold s.lts s.basis value) (all_numbers (labels s.lts))) (each (effect_fold s.lts s.basis value') (all_numbers (labels s.lts)))
   effects = each_too (effect_fold s.lts s.basis value) (effect_fold s.lts s.basis value') (all_numbers (labels s.lts)) effect

@@ -100,7 +100,8 @@ record HasPointOf (lts : System) (basis : CycleBasis) (class : Class) (system : 
   pub start_over : IsOver start
   pub values_over : Each (λ f. IsOver (value f)) (free_columns lts basis)
 
-module _ (lts : System) (basis : CycleBasis) (class : Class) (system : LinearSystem) (members : List ℕ) (has : HasDictionary system members) (columns : system.columns ≡ column_count lts basis class) where
+module _ (lts : System) (basis : CycleBasis) (class : Class) (system : LinearSystem) (members : List ℕ) (has : HasDictionary system members)
+    (columns : system.columns ≡ column_count lts basis class) where
   abbrev IsNumber : ℕ → Ratio → Type 0
   IsNumber j f = IsValueAt system members j f × IsOver f
 
@@ -133,7 +134,8 @@ module _ (lts : System) (basis : CycleBasis) (class : Class) (system : LinearSys
   some_point : HasPointOf lts basis class system members
   some_point =
       let s = some_start in
-      let (fs, all) = chosen (λ i f. IsNumber (first_column class + i) f) (length (free_columns lts basis)) (λ i lt. number_at_column (first_column class + i) (let c = columns in let n = count_is lts basis class in omega arith)) in
+      let (fs, all) = chosen (λ i f. IsNumber (first_column class + i) f) (length (free_columns lts basis))
+      (λ i lt. number_at_column (first_column class + i) (let c = columns in let n = count_is lts basis class in omega arith)) in
       let order = in_order _ 0 (labels lts) in
       let at : (i : ℕ) → i < length (free_columns lts basis)
       → IsNumber (first_column class + i) (beside (free_columns lts basis) (ratio_at fs) (slice_index_or (free_columns lts basis) i 0)) = λ i lt. subst
@@ -152,12 +154,14 @@ module _ (lts : System) (basis : CycleBasis) (class : Class) (system : LinearSys
 
 -- ---- a case
 
-found_has : (system : LinearSystem) (case : CaseSystem) (sides : List SplitSide) (members : List ℕ) → Branching (rows_of case) case.forms (found members sides) → HasDictionary (node_system (rows_of case) case.forms sides) members
+found_has : (system : LinearSystem) (case : CaseSystem) (sides : List SplitSide) (members : List ℕ)
+    → Branching (rows_of case) case.forms (found members sides) → HasDictionary (node_system (rows_of case) case.forms sides) members
 found_has system case sides members b =
     let node = node_system (rows_of case) case.forms sides in
     descent_has node (column_set node) [] (length node.rows) 0 (descent.Outcome.point members) (found_well (rows_of case) case.forms [] (found members sides) b).descent (columns_have node)
 
-module _ (s : Setting) (fine : IsInRange s.lts) (numbers : HasNumbersInRange s.class) (reachable : IsAllReachable s.lts) (is_tree : IsTree s.lts s.tree) (is_basis : IsBasis s.lts s.tree s.basis) (problem : Problem) (is : IsProblem s.lts problem) where
+module _ (s : Setting) (fine : IsInRange s.lts) (numbers : HasNumbersInRange s.class) (reachable : IsAllReachable s.lts)
+    (is_tree : IsTree s.lts s.tree) (is_basis : IsBasis s.lts s.tree s.basis) (problem : Problem) (is : IsProblem s.lts problem) where
   abbrev HasCase : ℕ → Type 0
   HasCase number = (r : CaseResult) × CaseComes (case_at s problem number) r
 
@@ -183,7 +187,16 @@ module _ (s : Setting) (fine : IsInRange s.lts) (numbers : HasNumbersInRange s.c
       by : HasSome (system_fold (case_at s problem number)) → HasCase number
       by (Err w, stops) = (passes (step_at Stage.row problem number [] w), row_passes w stops)
       by (Ok case, made) =
-          let over : IsCaseOver (case_at s problem number) case = record { in_range = fine; reachable = reachable; is_tree = is_tree; is_basis = is_basis; asked = asked s.lts problem is; numbers = numbers; is_case = made } in
+          let over : IsCaseOver (case_at s problem number) case =
+          record {
+            in_range = fine;
+            reachable = reachable;
+            is_tree = is_tree;
+            is_basis = is_basis;
+            asked = asked s.lts problem is;
+            numbers = numbers;
+            is_case = made;
+          } in
           let (o, b) = branching_ends (rows_of case) case.forms (forms_bounded (case_at s problem number) case over) in
           ended number case made o b
 
@@ -201,11 +214,14 @@ passes_or_refutes w t e = cc
 tree_is : (t t' : Tree) → Some t ≡ Some t' → t ≡ t'
 tree_is t t' e = cc
 
-all_trees : (n : ℕ) (comes : ℕ → CaseResult → Type 0) → ((i : ℕ) → i < n → (t : Tree) × comes i (refutes t)) → (trees : List Tree) × (length trees ≡ n) × ((i : ℕ) (t : Tree) → slice_get trees i ≡ Some t → comes i (refutes t))
+all_trees : (n : ℕ) (comes : ℕ → CaseResult → Type 0) → ((i : ℕ) → i < n → (t : Tree) × comes i (refutes t))
+    → (trees : List Tree) × (length trees ≡ n) × ((i : ℕ) (t : Tree) → slice_get trees i ≡ Some t → comes i (refutes t))
 all_trees zero comes each = ([], refl, λ i t e. absurd cc)
 all_trees (suc n) comes each = by (each 0 (omega arith)) (all_trees n (λ i. comes (suc i)) (λ i lt. each (suc i) (omega arith)))
   where
-    by : (t : Tree) × comes 0 (refutes t) → (trees : List Tree) × (length trees ≡ n) × ((i : ℕ) (t : Tree) → slice_get trees i ≡ Some t → comes (suc i) (refutes t)) → (trees : List Tree) × (length trees ≡ suc n) × ((i : ℕ) (t : Tree) → slice_get trees i ≡ Some t → comes i (refutes t))
+    by : (t : Tree) × comes 0 (refutes t) → (trees : List Tree) × (length trees ≡ n)
+        × ((i : ℕ) (t : Tree) → slice_get trees i ≡ Some t → comes (suc i) (refutes t))
+        → (trees : List Tree) × (length trees ≡ suc n) × ((i : ℕ) (t : Tree) → slice_get trees i ≡ Some t → comes i (refutes t))
     by (t, has) (trees, long, all) = (t ∷ trees, ap suc long, at)
       where
         at : (i : ℕ) (t' : Tree) → slice_get (t ∷ trees) i ≡ Some t' → comes i (refutes t')
@@ -246,7 +262,8 @@ module _ (comes : ℕ → CaseResult → Type 0) (n : ℕ) (one : (i : ℕ) (r r
   some_cases : (r : Solved) × CasesCome comes n r
   some_cases = by (find_number Makes makes_decided n) (find_number Passes passes_decided n)
     where
-      by : ((i : ℕ) × (i < n) × Makes i × ((j : ℕ) → j < i → ¬ Makes j)) ⊎ ((i : ℕ) → i < n → ¬ Makes i) → ((i : ℕ) × (i < n) × Passes i × ((j : ℕ) → j < i → ¬ Passes j)) ⊎ ((i : ℕ) → i < n → ¬ Passes i) → (r : Solved) × CasesCome comes n r
+      by : ((i : ℕ) × (i < n) × Makes i × ((j : ℕ) → j < i → ¬ Makes j)) ⊎ ((i : ℕ) → i < n → ¬ Makes i)
+          → ((i : ℕ) × (i < n) × Passes i × ((j : ℕ) → j < i → ¬ Passes j)) ⊎ ((i : ℕ) → i < n → ¬ Passes i) → (r : Solved) × CasesCome comes n r
       by (inl (i, lt, (p, has), before)) _ = (placed p, first_place i p lt has (λ j q less has'. before j less (q, has')))
       by (inr none) (inl (i, lt, (w, has), before)) = (passed w, first_term i w lt has (λ j v less has'. before j less (v, has')) (λ j q less has'. none j less (q, has')))
       by (inr none) (inr none') = let (trees, long, each) = all_trees n comes (λ i lt. refuted_else i (none i lt) (none' i lt)) in (refuted trees, all_refuted trees long each)
@@ -265,7 +282,8 @@ all_results it fine numbers reachable is_tree is_basis (Event s t) is = by (dead
     (some_cases (λ i. CaseComes (case_at it (Event s t) i)) (cases_of it.lts it.class (Event s t)) (λ i. same_result (case_at it (Event s t) i))
     (some_case_result it fine numbers reachable is_tree is_basis (Event s t) is))
   where
-    by : IsDead it.lts t ⊎ ¬ IsDead it.lts t → (r : Solved) × CasesCome (λ i. CaseComes (case_at it (Event s t) i)) (cases_of it.lts it.class (Event s t)) r → (r : Solved) × ProblemComes it (Event s t) r
+    by : IsDead it.lts t ⊎ ¬ IsDead it.lts t → (r : Solved)
+        × CasesCome (λ i. CaseComes (case_at it (Event s t) i)) (cases_of it.lts it.class (Event s t)) r → (r : Solved) × ProblemComes it (Event s t) r
     by (inl dead) _ = (placed (blocking (labels it.lts) t), inl (dead, refl))
     by (inr live) (r, c) = (r, inr (live, c))
 all_results it fine numbers reachable is_tree is_basis (States s s') is = some_cases (λ i. CaseComes (case_at it (States s s') i))

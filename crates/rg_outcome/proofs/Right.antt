@@ -56,12 +56,18 @@ shown_by_case comes n r w (first_place i p lt has none) e = absurd (placed_or_pa
 shown_by_case comes n r w (all_refuted trees long each) e = absurd (refuted_or_passed trees w e)
 shown_by_case comes n r w (first_term i w' lt has none makes_none) e = (i, lt, subst (λ x. comes i (passes x)) (same_passed w' w e) has)
 
-module _ (s : Setting) (is_tree : IsTree s.lts s.tree) (is_basis : IsBasis s.lts s.tree s.basis) (problem : Problem) (is : IsProblem s.lts problem) (live : IsLive s.lts problem) (number : ℕ) (below : number < cases_of s.lts s.class problem) where
+module _ (s : Setting) (is_tree : IsTree s.lts s.tree) (is_basis : IsBasis s.lts s.tree s.basis) (problem : Problem) (is : IsProblem s.lts problem)
+    (live : IsLive s.lts problem) (number : ℕ) (below : number < cases_of s.lts s.class problem) where
   -- the leaf in which the step stands
   leaf_of : (case : CaseSystem) (above : List SplitSide) (t : SplitTree) (at : LeafWide) → spread_tree (case_at s problem number) case above t (Err at)
       → (weights : List Weight) × HasLeaf above t at.above weights
       × spread_fold (case_at s problem number) case at.above (named_sides s.lts s.class problem at.above) weights (Err at.wide)
-  leaf_of case above (leaf weights) at (e, stops) = (weights, (e, refl), subst (λ sides. spread_fold (case_at s problem number) case sides (named_sides s.lts s.class problem sides) weights (Err at.wide)) (sym e) stops)
+  leaf_of case above (leaf weights) at (e, stops) = (
+    weights,
+    (e, refl),
+    subst (λ sides. spread_fold (case_at s problem number) case sides (named_sides s.lts s.class problem sides) weights
+        (Err at.wide)) (sym e) stops,
+  )
   leaf_of case above (split f u low high) at (inl in_low) = let (weights, has, stops) = leaf_of case (above ++ low_side f u ∷ []) low at in_low in (weights, inl has, stops)
   leaf_of case above (split f u low high) at (inr (l, made, in_high)) = let (weights, has, stops) = leaf_of case (above ++ high_side f u ∷ []) high at in_high in (weights, inr has, stops)
 
@@ -69,7 +75,15 @@ module _ (s : Setting) (is_tree : IsTree s.lts s.tree) (is_basis : IsBasis s.lts
   stands_in w e f = record { problem_is = e; has = is; live = live; case_below = subst (λ n. n < cases_of s.lts s.class problem) (sym f) below }
 
   abbrev case_is : (w : Shown) (case : CaseSystem) → w.problem ≡ Some problem → w.case_number ≡ number → system_fold (case_at s problem number) (Ok case) → CaseOf s.lts s.class w case
-  case_is w case e f made = record { arcs = s.tree; basis = s.basis; problem = problem; is_tree = is_tree; is_basis = is_basis; stands = stands_in w e f; is_case = subst (λ n. system_fold (case_at s problem n) (Ok case)) (sym f) made }
+  case_is w case e f made = record {
+    arcs = s.tree;
+    basis = s.basis;
+    problem = problem;
+    is_tree = is_tree;
+    is_basis = is_basis;
+    stands = stands_in w e f;
+    is_case = subst (λ n. system_fold (case_at s problem n) (Ok case)) (sym f) made;
+  }
 
   case_shows : (r : CaseResult) (w : Shown) → CaseComes (case_at s problem number) r → r ≡ passes w → ShownWide s.lts s.class w
   case_shows r w (row_passes wide stops) e = subst (ShownWide s.lts s.class) (same_shown _ w e) (record {
@@ -123,7 +137,8 @@ module _ (s : Setting) (is_tree : IsTree s.lts s.tree) (is_basis : IsBasis s.lts
   case_shows r w (is_refuted case multipliers t made b spread) e = absurd (refutes_or_passes t w e)
 
 module _ (it : Setting) (is_tree : IsTree it.lts it.tree) (is_basis : IsBasis it.lts it.tree it.basis) where
-  cases_show : (problem : Problem) (w : Shown) → IsProblem it.lts problem → IsLive it.lts problem → CasesCome (λ i. CaseComes (case_at it problem i)) (cases_of it.lts it.class problem) (passed w) → ShownWide it.lts it.class w
+  cases_show : (problem : Problem) (w : Shown) → IsProblem it.lts problem → IsLive it.lts problem
+      → CasesCome (λ i. CaseComes (case_at it problem i)) (cases_of it.lts it.class problem) (passed w) → ShownWide it.lts it.class w
   cases_show problem w is live c =
       let (i, lt, has) = shown_by_case (λ i. CaseComes (case_at it problem i)) (cases_of it.lts it.class problem) (passed w) w c refl in
       case_shows it is_tree is_basis problem is live i lt (passes w) w has refl
@@ -136,15 +151,18 @@ module _ (it : Setting) (is_tree : IsTree it.lts it.tree) (is_basis : IsBasis it
 -- ---- a search
 
 module _ (lts : System) (class : Class) (fine : IsInRange lts) (numbers : HasNumbersInRange class) (reachable : IsAllReachable lts) where
-  regions_made : (arcs : List Arc) (basis : CycleBasis) (kept : List Place) → IsTree lts arcs → IsBasis lts arcs basis → All (IsMade lts (ProblemComes (setting_at lts arcs basis class))) kept → All (IsRegionIn lts class) kept
+  regions_made : (arcs : List Arc) (basis : CycleBasis) (kept : List Place) → IsTree lts arcs → IsBasis lts arcs basis
+      → All (IsMade lts (ProblemComes (setting_at lts arcs basis class))) kept → All (IsRegionIn lts class) kept
   regions_made arcs basis kept is_tree is_basis made k p lt =
       let (problem, is, has) = made k p lt in
       let (m, region, _) = placed_separates (setting_at lts arcs basis class) fine numbers reachable is_tree is_basis problem _ is has in
       (m, region)
 
-  problems_right : (arcs : List Arc) (basis : CycleBasis) (o : Separation) → IsTree lts arcs → IsBasis lts arcs basis → Says lts (ProblemComes (setting_at lts arcs basis class)) o → IsSearchRight lts class o
+  problems_right : (arcs : List Arc) (basis : CycleBasis) (o : Separation) → IsTree lts arcs → IsBasis lts arcs basis
+      → Says lts (ProblemComes (setting_at lts arcs basis class)) o → IsSearchRight lts class o
   problems_right arcs basis (places kept) is_tree is_basis h = (regions_made arcs basis kept is_tree is_basis h.made, h.separate)
-  problems_right arcs basis (of_problem problem trees) is_tree is_basis h = (h.first.0.0, inseparable (setting_at lts arcs basis class) fine numbers reachable is_tree is_basis problem trees h.first.0.0 h.has)
+  problems_right arcs basis (of_problem problem trees) is_tree is_basis h =
+      (h.first.0.0, inseparable (setting_at lts arcs basis class) fine numbers reachable is_tree is_basis problem trees h.first.0.0 h.has)
   problems_right arcs basis (of_term w) is_tree is_basis h = problem_shows (setting_at lts arcs basis class) is_tree is_basis h.problem w h.first.0.0 h.has
 
   pub search_right : (o : Separation) → Searched lts class o → IsSearchRight lts class o

@@ -42,7 +42,8 @@ module _ (lts : System) (comes : Problem → Solved → Type 0) (one : IsOneResu
       lacks (k, p, lt, e, sep) = subst (SparesRefuted lts comes) e (spares k p lt) problem r sep
 
   -- none of those before the next one is refuted
-  none_before : (last : Option Problem) (kept : List Place) (problem : Problem) → IsSparedSoFar lts comes last kept → IsNext lts kept last problem → (q : Problem) → ComesBefore q problem → ¬ IsRefutedIn lts comes q
+  none_before : (last : Option Problem) (kept : List Place) (problem : Problem) → IsSparedSoFar lts comes last kept → IsNext lts kept last problem
+      → (q : Problem) → ComesBefore q problem → ¬ IsRefutedIn lts comes q
   none_before last kept problem spared next q less r = go (behind_is_decided last q)
     where
       go : Decided (IsBehind last q) → ⊥

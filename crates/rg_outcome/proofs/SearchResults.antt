@@ -46,7 +46,8 @@ module _ (count : ℕ) (vectors : List (List ℤ)) (kept members : List ℕ) (ha
   abbrev basis_of : CycleBasis
   basis_of = record { kept = kept; members = members; relation = λ t. relation_by t (cases_lt t count) (among cases_eq members t) }
 
-  relation_is : (t : ℕ) → t < count → ¬ Contains members t → (d : (t < count) ⊎ (count ≤ t)) (e : Contains members t ⊎ ¬ Contains members t) → DictionaryRow (vector_system count vectors kept) members t (relation_by t d e)
+  relation_is : (t : ℕ) → t < count → ¬ Contains members t → (d : (t < count) ⊎ (count ≤ t)) (e : Contains members t ⊎ ¬ Contains members t)
+      → DictionaryRow (vector_system count vectors kept) members t (relation_by t d e)
   relation_is t lt out (inl below) (inl free) = absurd (out free)
   relation_is t lt out (inl below) (inr outside) = (has.rows t (omega arith) outside).1
   relation_is t lt out (inr past) e = absurd (omega arith)
@@ -127,7 +128,8 @@ module _ (lts : System) (reachable : IsAllReachable lts) where
   some_left front [] regions all = ([], refl, All-nil (IsRegion lts))
   some_left front (p ∷ rest) regions all = by (some_left (front ++ p ∷ []) rest (All-push (IsRegion lts) front p regions (all 0 p (omega arith))) (λ k d lt. all (suc k) d (omega arith)))
     where
-      decided : (behind : List Place) → LeavesBehind lts (front ++ p ∷ []) rest behind → All (IsRegion lts) behind → Decided (SeparateAll (front ++ behind) lts) → (left : List Place) × LeavesBehind lts front (p ∷ rest) left × All (IsRegion lts) left
+      decided : (behind : List Place) → LeavesBehind lts (front ++ p ∷ []) rest behind → All (IsRegion lts) behind
+          → Decided (SeparateAll (front ++ behind) lts) → (left : List Place) × LeavesBehind lts front (p ∷ rest) left × All (IsRegion lts) left
       decided behind leaves left (inl separate) = (behind, (behind, leaves, inl (separate, refl)), left)
       decided behind leaves left (inr not_so) = (p ∷ behind, (behind, leaves, inr (not_so, refl)), All-cons (IsRegion lts) p behind (all 0 p (omega arith)) left)
 
@@ -136,7 +138,8 @@ module _ (lts : System) (reachable : IsAllReachable lts) where
 
 -- ---- an answer
 
-module _ (lts : System) (arcs : List Arc) (class : Class) (fine : IsInRange lts) (numbers : HasNumbersInRange class) (reachable : IsAllReachable lts) (free : IsForkFree lts) (is_tree : IsTree lts arcs) where
+module _ (lts : System) (arcs : List Arc) (class : Class) (fine : IsInRange lts) (numbers : HasNumbersInRange class) (reachable : IsAllReachable lts)
+    (free : IsForkFree lts) (is_tree : IsTree lts arcs) where
   pub some_answer : (a : Answer) × Out lts class a
   some_answer = let (o, searched) = some_search lts arcs class fine numbers reachable is_tree in by o searched (search_right lts class fine numbers reachable o searched)
     where
@@ -144,5 +147,6 @@ module _ (lts : System) (arcs : List Arc) (class : Class) (fine : IsInRange lts)
       by (places kept) searched (regions, separate) =
           let (left, leaves, _) = some_left lts reachable [] kept (All-nil (IsRegion lts)) (λ k d lt. ((regions k d lt).0, (regions k d lt).1.region)) in
           (net left, a_search (places kept) (net left) reachable free searched leaves)
-      by (of_problem problem trees) searched right = (unsolvable (refuted_reason problem trees), a_search (of_problem problem trees) (unsolvable (refuted_reason problem trees)) reachable free searched refl)
+      by (of_problem problem trees) searched right =
+          (unsolvable (refuted_reason problem trees), a_search (of_problem problem trees) (unsolvable (refuted_reason problem trees)) reachable free searched refl)
       by (of_term w) searched right = (too_wide w, a_search (of_term w) (too_wide w) reachable free searched refl)

@@ -51,7 +51,8 @@ not_left lts kept separate problem (is, lacks) = lacks (separate problem is)
 
 module _ (lts : System) (comes : Problem → Solved → Type 0) (one : IsOneResult comes) where
   -- the taken problem is the next one, and its result is the result
-  moved : (last : Option Problem) (kept : List Place) (o : Separation) (problem : Problem) (r : Solved) → IsNext lts kept last problem → comes problem r → IsTaken lts comes last kept o → Afterwards lts comes kept problem r o
+  moved : (last : Option Problem) (kept : List Place) (o : Separation) (problem : Problem) (r : Solved) → IsNext lts kept last problem
+      → comes problem r → IsTaken lts comes last kept o → Afterwards lts comes kept problem r o
   moved last kept o problem r next has t =
       let same : t.problem ≡ problem = first_is_one (λ q. IsLeft lts kept q × IsBehind last q) t.problem problem t.next next in
       let has' : comes problem t.r = subst (λ q. comes q t.r) same t.has in
@@ -59,7 +60,8 @@ module _ (lts : System) (comes : Problem → Solved → Type 0) (one : IsOneResu
       subst (λ x. Afterwards lts comes kept problem x o) results (subst (λ q. Afterwards lts comes kept q t.r o) same t.after)
 
   -- where a next problem has this result, this comes after it
-  pub taken : (last : Option Problem) (kept : List Place) (o : Separation) (problem : Problem) (r : Solved) → IsNext lts kept last problem → comes problem r → ComesFrom lts comes last kept o → Afterwards lts comes kept problem r o
+  pub taken : (last : Option Problem) (kept : List Place) (o : Separation) (problem : Problem) (r : Solved) → IsNext lts kept last problem
+      → comes problem r → ComesFrom lts comes last kept o → Afterwards lts comes kept problem r o
   taken last kept o problem r next has d = go (unfolded lts comes last kept o d)
     where
       go : IsTaken lts comes last kept o ⊎ (AreSeparated lts kept o ⊎ IsLeftOver lts comes last kept o) → Afterwards lts comes kept problem r o

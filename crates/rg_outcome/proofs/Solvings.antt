@@ -34,7 +34,8 @@ passes_or_refutes w t e = cc
 
 module _ (comes : ℕ → CaseResult → Type 0) (n : ℕ) (one : (i : ℕ) (r r' : CaseResult) → comes i r → comes i r' → r ≡ r') where
   -- the first number is one
-  same_number : (X : Type 0) (make : X → CaseResult) (i i' : ℕ) (x x' : X) → comes i (make x) → comes i' (make x') → ((j : ℕ) (y : X) → j < i → ¬ comes j (make y)) → ((j : ℕ) (y : X) → j < i' → ¬ comes j (make y)) → i ≡ i'
+  same_number : (X : Type 0) (make : X → CaseResult) (i i' : ℕ) (x x' : X) → comes i (make x) → comes i' (make x')
+      → ((j : ℕ) (y : X) → j < i → ¬ comes j (make y)) → ((j : ℕ) (y : X) → j < i' → ¬ comes j (make y)) → i ≡ i'
   same_number X make i i' x x' has has' none none' = go (cases_lt i i') (cases_lt i' i)
     where
       go : (i < i') ⊎ (i' ≤ i) → (i' < i) ⊎ (i ≤ i') → i ≡ i'
@@ -52,7 +53,9 @@ module _ (comes : ℕ → CaseResult → Type 0) (n : ℕ) (one : (i : ℕ) (r r
   not_passed : (trees : List Tree) → length trees ≡ n → ((i : ℕ) (t : Tree) → slice_get trees i ≡ Some t → comes i (refutes t)) → (i : ℕ) (w : Shown) → i < n → ¬ comes i (passes w)
   not_passed trees long each i w lt has = let (t, is) = refuted_at trees long each i lt in passes_or_refutes w t (one i (passes w) (refutes t) has is)
 
-  same_trees : (trees trees' : List Tree) → length trees ≡ n → length trees' ≡ n → ((i : ℕ) (t : Tree) → slice_get trees i ≡ Some t → comes i (refutes t)) → ((i : ℕ) (t : Tree) → slice_get trees' i ≡ Some t → comes i (refutes t)) → trees ≡ trees'
+  same_trees : (trees trees' : List Tree) → length trees ≡ n → length trees' ≡ n
+      → ((i : ℕ) (t : Tree) → slice_get trees i ≡ Some t → comes i (refutes t))
+      → ((i : ℕ) (t : Tree) → slice_get trees' i ≡ Some t → comes i (refutes t)) → trees ≡ trees'
   same_trees trees trees' long long' each each' = ext_get_or (leaf []) trees trees' (long ∙ sym long') at
     where
       at : (i : ℕ) → i < length trees → get_or trees i (leaf []) ≡ get_or trees' i (leaf [])
@@ -82,5 +85,6 @@ module _ (it : Setting) where
   same_solved (Event s t) r r' (inl (dead, e)) (inl (dead', e')) = e ∙ sym e'
   same_solved (Event s t) r r' (inl (dead, e)) (inr (live, c)) = absurd (live dead)
   same_solved (Event s t) r r' (inr (live, c)) (inl (dead, e)) = absurd (live dead)
-  same_solved (Event s t) r r' (inr (live, c)) (inr (live', c')) = same_cases (λ i. CaseComes (case_at it (Event s t) i)) (cases_of it.lts it.class (Event s t)) (λ i. same_result (case_at it (Event s t) i)) r r' c c'
+  same_solved (Event s t) r r' (inr (live, c)) (inr (live', c')) =
+      same_cases (λ i. CaseComes (case_at it (Event s t) i)) (cases_of it.lts it.class (Event s t)) (λ i. same_result (case_at it (Event s t) i)) r r' c c'
   same_solved (States s s') r r' c c' = same_cases (λ i. CaseComes (case_at it (States s s') i)) (cases_of it.lts it.class (States s s')) (λ i. same_result (case_at it (States s s') i)) r r' c c'

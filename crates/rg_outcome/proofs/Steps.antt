@@ -68,24 +68,29 @@ pub record Joins {X : Type 0} (P : X → Type 0) (join : X → X → Result X Wi
   pub some : (x y : X) → P x → P y → HasSome (join x y)
   pub makes : (x y : X) → P x → P y → Makes P (join x y)
 
-pub some_further : {A X : Type 0} (P : X → Type 0) (join : X → X → Result X Wide → Type 0) (make : A → Result X Wide → Type 0) (sum : X) (items : List A) → Joins P join → P sum → Each (λ a. HasSome (make a)) items → Each (λ a. Makes P (make a)) items → HasSome (further join make sum items)
+pub some_further : {A X : Type 0} (P : X → Type 0) (join : X → X → Result X Wide → Type 0) (make : A → Result X Wide → Type 0) (sum : X)
+    (items : List A) → Joins P join → P sum → Each (λ a. HasSome (make a)) items → Each (λ a. Makes P (make a)) items → HasSome (further join make sum items)
 some_further P join make sum [] joins p some makes = some_given sum
 some_further {A} {X} P join make sum (a ∷ rest) joins p some makes =
     some_then (make a) (λ x. and_then (join sum x) (λ more. further join make more rest)) (some a (first a rest))
     (λ x f. some_then (join sum x) (λ more. further join make more rest) (joins.some sum x p (makes a (first a rest) x f))
     (λ more g. some_further P join make more rest joins (joins.makes sum x p (makes a (first a rest) x f) more g) (λ b has. some b (behind a b rest has)) (λ b has. makes b (behind a b rest has))))
 
-pub makes_further : {A X : Type 0} (P : X → Type 0) (join : X → X → Result X Wide → Type 0) (make : A → Result X Wide → Type 0) (sum : X) (items : List A) → Joins P join → P sum → Each (λ a. Makes P (make a)) items → Makes P (further join make sum items)
+pub makes_further : {A X : Type 0} (P : X → Type 0) (join : X → X → Result X Wide → Type 0) (make : A → Result X Wide → Type 0) (sum : X)
+    (items : List A) → Joins P join → P sum → Each (λ a. Makes P (make a)) items → Makes P (further join make sum items)
 makes_further P join make sum [] joins p makes z e = subst P (sym e) p
-makes_further P join make sum (a ∷ rest) joins p makes z (x, f, (more, g, h)) = makes_further P join make more rest joins (joins.makes sum x p (makes a (first a rest) x f) more g) (λ b has. makes b (behind a b rest has)) z h
+makes_further P join make sum (a ∷ rest) joins p makes z (x, f, (more, g, h)) =
+    makes_further P join make more rest joins (joins.makes sum x p (makes a (first a rest) x f) more g) (λ b has. makes b (behind a b rest has)) z h
 
-pub some_joined : {A X : Type 0} (P : X → Type 0) (join : X → X → Result X Wide → Type 0) (make : A → Result X Wide → Type 0) (none : X) (items : List A) → Joins P join → Each (λ a. HasSome (make a)) items → Each (λ a. Makes P (make a)) items → HasSome (joined join make none items)
+pub some_joined : {A X : Type 0} (P : X → Type 0) (join : X → X → Result X Wide → Type 0) (make : A → Result X Wide → Type 0) (none : X)
+    (items : List A) → Joins P join → Each (λ a. HasSome (make a)) items → Each (λ a. Makes P (make a)) items → HasSome (joined join make none items)
 some_joined P join make none [] joins some makes = some_given none
 some_joined {A} {X} P join make none (a ∷ rest) joins some makes =
     some_then (make a) (λ x. further join make x rest) (some a (first a rest))
     (λ x f. some_further P join make x rest joins (makes a (first a rest) x f) (λ b has. some b (behind a b rest has)) (λ b has. makes b (behind a b rest has)))
 
-pub makes_joined : {A X : Type 0} (P : X → Type 0) (join : X → X → Result X Wide → Type 0) (make : A → Result X Wide → Type 0) (none : X) (items : List A) → Joins P join → P none → Each (λ a. Makes P (make a)) items → Makes P (joined join make none items)
+pub makes_joined : {A X : Type 0} (P : X → Type 0) (join : X → X → Result X Wide → Type 0) (make : A → Result X Wide → Type 0) (none : X)
+    (items : List A) → Joins P join → P none → Each (λ a. Makes P (make a)) items → Makes P (joined join make none items)
 makes_joined P join make none [] joins p makes z e = subst P (sym e) p
 makes_joined P join make none (a ∷ rest) joins p makes z (x, f, h) = makes_further P join make x rest joins (makes a (first a rest) x f) (λ b has. makes b (behind a b rest has)) z h
 
@@ -145,10 +150,12 @@ product_differs : (x y : ℤ) → pos 0 <ℤ x → pos 0 <ℤ y → (x *ℤ y) �
 product_differs x y a b = positive_differs (x *ℤ y) (mul_positive x y a b)
 
 pub some_sum : (f g : Ratio) → IsOver f → IsOver g → HasSome (add f g)
-some_sum f g a b = some_two (sum_top f.top f.bottom g.top g.bottom) (sum_bottom f.top f.bottom g.top g.bottom) ((f.top *ℤ g.bottom) +ℤ (g.top *ℤ f.bottom)) (f.bottom *ℤ g.bottom) (product_differs f.bottom g.bottom a b)
+some_sum f g a b = some_two (sum_top f.top f.bottom g.top g.bottom) (sum_bottom f.top f.bottom g.top g.bottom)
+    ((f.top *ℤ g.bottom) +ℤ (g.top *ℤ f.bottom)) (f.bottom *ℤ g.bottom) (product_differs f.bottom g.bottom a b)
 
 pub some_product : (f g : Ratio) → IsOver f → IsOver g → HasSome (mul f g)
-some_product f g a b = some_two (product_top f.top f.bottom g.top g.bottom) (product_bottom f.top f.bottom g.top g.bottom) (f.top *ℤ g.top) (f.bottom *ℤ g.bottom) (product_differs f.bottom g.bottom a b)
+some_product f g a b = some_two (product_top f.top f.bottom g.top g.bottom) (product_bottom f.top f.bottom g.top g.bottom) (f.top *ℤ g.top)
+    (f.bottom *ℤ g.bottom) (product_differs f.bottom g.bottom a b)
 
 pub sums_join : Joins IsOver add
 sums_join = record { some = some_sum; makes = λ x y p q z (fits, fits', is). is.positive }

@@ -28,12 +28,11 @@ use Rattle.rg_case_folds.specs.Setting.{Setting, CaseSetting}
 use Rattle.rg_case_folds.specs.Chords.{IsBasis}
 use Rattle.rg_folds.specs.Fold.{gives, and_then, each, Ratio, whole, quotient, add, mul, multiple_of_all}
 use Rattle.rg_folds.specs.Substitution.{is_in, free_labels, dependent_labels, dependent_term, coefficient_fold, substitute_fold}
-use Rattle.rg_case_folds.specs.Rewriting.{has_label, has_start, pick}
-use Rattle.rg_case_folds.specs.Rewriting.{columns_of, column_count, Scaled, scaled_fold, terms_fold, KeptRow, divided, row_fold, names_of, IsIdle, split_forms}
+use Rattle.rg_case_folds.specs.Rewriting.{has_label, has_start, pick, columns_of, column_count, Scaled, scaled_fold, terms_fold, KeptRow, divided, row_fold, names_of, IsIdle, split_forms}
 use Rattle.rg_case_folds.specs.Rewriting.{form_low, form_high, form_fold, kept_of, system_fold, count_of, start_of}
-use Rattle.rg_case_folds.proofs.Lists.{first, behind, where_is}
-use Rattle.rg_case_folds.proofs.Lists.{not_in}
+use Rattle.rg_case_folds.proofs.Lists.{first, behind, where_is, not_in}
 use Rattle.rg_outcome.proofs.Steps.{HasSome, Makes, Each, each_none, each_cons, some_given, some_then, makes_then, some_each, makes_each, some_further, makes_further, IsOver, whole_over, some_ratio, some_quotient, some_product, sums_join, product_over, some_multiple}
+use Rattle.rg_case_folds.proofs.OneResult.{not_none as divisor_differs}
 
 -- each label that isn't free has a relation
 abbrev pub HaveRelations : System → CycleBasis → Type 0
@@ -75,16 +74,19 @@ each_column lts basis class start free all = each_append IsOver (if has_start cl
 
 module _ (lts : System) (basis : CycleBasis) (related : HaveRelations lts basis) where
   dependent_some : (counts : ℕ → ℤ) (f : ℕ) → Each (λ t. HasSome (dependent_term basis counts f t)) (dependent_labels (labels lts) basis)
-  dependent_some counts f t has = some_then (quotient ((basis.relation t).coefficient f) (basis.relation t).d) (λ k. mul (whole (counts t)) k) (some_quotient _ _ (related t has)) (λ k q. some_product (whole (counts t)) k (whole_over (counts t)) q.positive)
+  dependent_some counts f t has = some_then (quotient ((basis.relation t).coefficient f) (basis.relation t).d) (λ k. mul (whole (counts t)) k)
+      (some_quotient _ _ (related t has)) (λ k q. some_product (whole (counts t)) k (whole_over (counts t)) q.positive)
 
   dependent_over : (counts : ℕ → ℤ) (f : ℕ) → Each (λ t. Makes IsOver (dependent_term basis counts f t)) (dependent_labels (labels lts) basis)
   dependent_over counts f t has = makes_then IsOver (quotient ((basis.relation t).coefficient f) (basis.relation t).d) (λ k. mul (whole (counts t)) k) (λ k q. product_over (whole (counts t)) k)
 
   coefficient_some : (counts : ℕ → ℤ) (f : ℕ) → HasSome (coefficient_fold (labels lts) basis counts f)
-  coefficient_some counts f = some_further IsOver add (dependent_term basis counts f) (whole (counts f)) (dependent_labels (labels lts) basis) sums_join (whole_over (counts f)) (dependent_some counts f) (dependent_over counts f)
+  coefficient_some counts f = some_further IsOver add (dependent_term basis counts f) (whole (counts f))
+      (dependent_labels (labels lts) basis) sums_join (whole_over (counts f)) (dependent_some counts f) (dependent_over counts f)
 
   coefficient_over : (counts : ℕ → ℤ) (f : ℕ) → Makes IsOver (coefficient_fold (labels lts) basis counts f)
-  coefficient_over counts f = makes_further IsOver add (dependent_term basis counts f) (whole (counts f)) (dependent_labels (labels lts) basis) sums_join (whole_over (counts f)) (dependent_over counts f)
+  coefficient_over counts f = makes_further IsOver add (dependent_term basis counts f) (whole (counts f))
+      (dependent_labels (labels lts) basis) sums_join (whole_over (counts f)) (dependent_over counts f)
 
   substitute_some : (counts : ℕ → ℤ) → HasSome (substitute_fold (labels lts) basis counts)
   substitute_some counts = some_each (coefficient_fold (labels lts) basis counts) (free_labels (labels lts) basis) (λ f has. coefficient_some counts f)
@@ -96,15 +98,19 @@ module _ (lts : System) (basis : CycleBasis) (related : HaveRelations lts basis)
 
 pub some_scaled : (numbers : List Ratio) → Each IsOver numbers → HasSome (scaled_fold numbers)
 some_scaled numbers over =
-    some_then (multiple_of_all (map (λ r. r.bottom) numbers)) (λ m. and_then (each (λ r. mul r (whole m)) numbers) (λ products. gives (record { multiple = m; numbers = map (λ r. r.top) products }))) (some_multiple (map (λ r. r.bottom) numbers))
+    some_then (multiple_of_all (map (λ r. r.bottom) numbers))
+    (λ m. and_then (each (λ r. mul r (whole m)) numbers) (λ products. gives (record { multiple = m; numbers = map (λ r. r.top) products })))
+    (some_multiple (map (λ r. r.bottom) numbers))
     (λ m _. some_then (each (λ r. mul r (whole m)) numbers) (λ products. gives (record { multiple = m; numbers = map (λ r. r.top) products }))
     (some_each (λ r. mul r (whole m)) numbers (λ r has. some_product r (whole m) (over r has) (whole_over m)))
     (λ products _. some_given (record { multiple = m; numbers = map (λ r. r.top) products })))
 
 some_terms : (s : Setting) (terms : List Term) → HaveRelations s.lts s.basis → HasSome (terms_fold s terms)
 some_terms s terms related =
-    some_then (substitute_fold (labels s.lts) s.basis (count_of s.tree terms)) (λ free. scaled_fold (columns_of s.lts s.basis s.class (start_of terms) free)) (substitute_some s.lts s.basis related (count_of s.tree terms))
-    (λ free made. some_scaled (columns_of s.lts s.basis s.class (start_of terms) free) (each_column s.lts s.basis s.class (start_of terms) free (substitute_over s.lts s.basis related (count_of s.tree terms) free made)))
+    some_then (substitute_fold (labels s.lts) s.basis (count_of s.tree terms))
+    (λ free. scaled_fold (columns_of s.lts s.basis s.class (start_of terms) free)) (substitute_some s.lts s.basis related (count_of s.tree terms))
+    (λ free made. some_scaled (columns_of s.lts s.basis s.class (start_of terms) free)
+    (each_column s.lts s.basis s.class (start_of terms) free (substitute_over s.lts s.basis related (count_of s.tree terms) free made)))
 
 -- ---- divided by a common divisor
 
@@ -127,22 +133,27 @@ divisor_divides numbers g is z (k, lt, e) = subst (λ n. max g 1 ∣ unsigned_ab
     by zero h = one-dvd (unsigned_abs (number_at numbers k))
     by (suc g) h = subst (λ n. n ∣ unsigned_abs (number_at numbers k)) (let e : suc g ≡ max (suc g) 1 = omega arith in e) h
 
-divisor_differs : (g : ℕ) → pos (max g 1) ≢ pos 0
-divisor_differs g = positive_differs (pos (max g 1)) (omega (arith, ints))
-
 some_divided : (name : RowName) (scaled : Scaled) (number : ℤ) → HasSome (divided name scaled number)
 some_divided name scaled number =
     let (g, is) = gcd_below (length (scaled.numbers ++ number ∷ [])) (λ k. unsigned_abs (number_at (scaled.numbers ++ number ∷ []) k)) in
     let divides = divisor_divides (scaled.numbers ++ number ∷ []) g is in
     let (coeffs, e) = quotients (pos (max g 1)) scaled.numbers (λ z has. divides z (Contains-append_left scaled.numbers (number ∷ []) z has)) in
     let last = quotient_is (pos (max g 1)) number (divides number (Contains-append_right scaled.numbers (number ∷ []) number (first number []))) in
-    let (factor, f) = some_ratio scaled.multiple (pos (max g 1)) (divisor_differs g) in
-    (Ok (record { name = name; row = record { coeffs = coeffs; constant = int_div number (pos (max g 1)) }; factor = factor }), (refl, record { divisor = g; greatest = is; coeffs = e; constant = last; factor = f }))
+    let (factor, f) = some_ratio scaled.multiple (pos (max g 1)) (divisor_differs g) in (
+      Ok (record {
+        name = name;
+        row = record { coeffs = coeffs; constant = int_div number (pos (max g 1)) };
+        factor = factor;
+      }),
+      (refl, record { divisor = g; greatest = is; coeffs = e; constant = last; factor = f }),
+    )
 
 pub some_row : (s : Setting) (name : RowName) (e : Expression) → HaveRelations s.lts s.basis → HasSome (row_fold s name e)
 some_row s name e related =
     some_then (terms_fold s e.terms) (λ scaled. and_then (mul (whole e.constant) (whole scaled.multiple)) (λ constant. divided name scaled constant.top)) (some_terms s e.terms related)
-    (λ scaled _. some_then (mul (whole e.constant) (whole scaled.multiple)) (λ constant. divided name scaled constant.top) (some_product (whole e.constant) (whole scaled.multiple) (whole_over e.constant) (whole_over scaled.multiple)) (λ constant _. some_divided name scaled constant.top))
+    (λ scaled _. some_then (mul (whole e.constant) (whole scaled.multiple)) (λ constant. divided name scaled constant.top)
+    (some_product (whole e.constant) (whole scaled.multiple) (whole_over e.constant) (whole_over scaled.multiple))
+    (λ constant _. some_divided name scaled constant.top))
 
 -- ---- the first of equal rows
 
@@ -209,11 +220,13 @@ idle k = by (all_zero k.row.coeffs) k.row.constant refl
     by (inl zeros) (negsuc n) e = inr (λ (_, least). (let least' : pos 0 ≤ℤ negsuc n = subst (λ c. pos 0 ≤ℤ c) e least in omega (arith, ints)))
     by (inr some) c e = inr (λ (zeros, _). some zeros)
 
-pub some_firsts : {X K : Type 0} (key : X → K) (Drops : X → Type 0) → ((x : X) → Drops x ⊎ ¬ Drops x) → ((a b : K) → (a ≡ b) ⊎ ¬ (a ≡ b)) → (seen : List K) (xs : List X) → (kept : List X) × KeepsEqualRows key Drops seen xs kept
+pub some_firsts : {X K : Type 0} (key : X → K) (Drops : X → Type 0) → ((x : X) → Drops x ⊎ ¬ Drops x) → ((a b : K) → (a ≡ b) ⊎ ¬ (a ≡ b))
+    → (seen : List K) (xs : List X) → (kept : List X) × KeepsEqualRows key Drops seen xs kept
 some_firsts key Drops drops same seen [] = ([], refl)
 some_firsts {X} {K} key Drops drops same seen (x ∷ xs) = by (drops x) (among same seen (key x)) (some_firsts key Drops drops same seen xs) (some_firsts key Drops drops same (key x ∷ seen) xs)
   where
-    by : Drops x ⊎ ¬ Drops x → Contains seen (key x) ⊎ ¬ Contains seen (key x) → (kept : List X) × KeepsEqualRows key Drops seen xs kept → (kept : List X) × KeepsEqualRows key Drops (key x ∷ seen) xs kept
+    by : Drops x ⊎ ¬ Drops x → Contains seen (key x) ⊎ ¬ Contains seen (key x) → (kept : List X) × KeepsEqualRows key Drops seen xs kept
+        → (kept : List X) × KeepsEqualRows key Drops (key x ∷ seen) xs kept
         → (kept : List X) × KeepsEqualRows key Drops seen (x ∷ xs) kept
     by (inl dropped) _ (kept, keeps) _ = (kept, inl (inl dropped, keeps))
     by (inr stays) (inl has) (kept, keeps) _ = (kept, inl (inr has, keeps))
@@ -230,11 +243,15 @@ some_form s form related =
 
 pub some_system : (s : CaseSetting) → HaveRelations s.lts s.basis → HasSome (system_fold s)
 some_system s related =
-    some_then (each (λ name. row_fold s.setting name (row_expression s.lts s.class s.problem s.number [] name)) (names_of s.lts s.class s.problem s.number)) (λ all. and_then (each (form_fold s.setting) (split_forms s.lts s.class s.problem)) (λ forms. kept_of s.setting all forms))
-    (some_each (λ name. row_fold s.setting name (row_expression s.lts s.class s.problem s.number [] name)) (names_of s.lts s.class s.problem s.number) (λ name has. some_row s.setting name (row_expression s.lts s.class s.problem s.number [] name) related))
+    some_then (each (λ name. row_fold s.setting name (row_expression s.lts s.class s.problem s.number [] name))
+    (names_of s.lts s.class s.problem s.number))
+    (λ all. and_then (each (form_fold s.setting) (split_forms s.lts s.class s.problem)) (λ forms. kept_of s.setting all forms))
+    (some_each (λ name. row_fold s.setting name (row_expression s.lts s.class s.problem s.number [] name))
+    (names_of s.lts s.class s.problem s.number) (λ name has. some_row s.setting name (row_expression s.lts s.class s.problem s.number [] name) related))
     (λ all _. some_then (each (form_fold s.setting) (split_forms s.lts s.class s.problem)) (λ forms. kept_of s.setting all forms)
     (some_each (form_fold s.setting) (split_forms s.lts s.class s.problem) (λ form has. some_form s.setting form related))
     (λ forms _. kept all forms))
   where
     kept : (all : List KeptRow) (forms : List Form) → HasSome (kept_of s.setting all forms)
-    kept all forms = let (rows, keeps) = some_firsts (λ (k : KeptRow). k.row) IsIdle idle same_row [] all in (Ok (record { columns = column_count s.lts s.basis s.class; kept = rows; forms = forms }), (refl, keeps, refl))
+    kept all forms = let (rows, keeps) = some_firsts (λ (k : KeptRow). k.row) IsIdle idle same_row [] all in
+        (Ok (record { columns = column_count s.lts s.basis s.class; kept = rows; forms = forms }), (refl, keeps, refl))

@@ -81,7 +81,8 @@ PlacesSeparate lts comes = (problem : Problem) (p : Place) → IsProblem lts pro
 
 -- no place that is made separates a problem that is refuted
 abbrev pub RefutedStay : System → (Problem → Solved → Type 0) → Type 0
-RefutedStay lts comes = (problem other : Problem) (trees : List Tree) (p : Place) → IsProblem lts problem → IsProblem lts other → comes problem (refuted trees) → comes other (placed p) → ¬ IsSeparatedBy lts problem p
+RefutedStay lts comes = (problem other : Problem) (trees : List Tree) (p : Place) → IsProblem lts problem → IsProblem lts other
+    → comes problem (refuted trees) → comes other (placed p) → ¬ IsSeparatedBy lts problem p
 
 -- the problem is refuted
 abbrev pub IsRefutedIn : System → (Problem → Solved → Type 0) → Problem → Type 0

@@ -28,7 +28,8 @@ any_mapped g P Q go (a ∷ xs) (suc k, x, lt, e, is) =
     let (i, y, within, f, holds) = any_mapped g P Q go xs (k, x, omega arith, e, is) in
     (suc i, y, omega arith, f, holds)
 
-module _ (lts : System) (factors : List Factor) (tuples : List (List ℕ)) (fine : IsInRange lts) (inside : AreInRange factors) (product : Product lts factors tuples) (i : ℕ) (f : Factor) (at : IsFactorAt factors i f) where
+module _ (lts : System) (factors : List Factor) (tuples : List (List ℕ)) (fine : IsInRange lts) (inside : AreInRange factors)
+    (product : Product lts factors tuples) (i : ℕ) (f : Factor) (at : IsFactorAt factors i f) where
   -- the tuple of the initial state with another entry of the factor
   abbrev begun : ℕ → List ℕ
   begun q = slice_set (tuple_of tuples lts.initial) i q
@@ -100,7 +101,8 @@ module _ (lts : System) (factors : List Factor) (tuples : List (List ℕ)) (fine
         (let (_, kl, _) = arc_in_range f.lts (inside i f at) q k q' has in
         let (t, label, _) = label_of lts factors tuples fine inside product i k f at kl in
         region.moved (placed q) t (placed q') (placed_arc q k q' t has label)
-        ∙ ap (λ n. below m q - n + post_weight p t) (sym (narrowed_pre f.labels p k t label)) ∙ ap (λ n. below m q - pre_weight (narrowed f.labels p) k + n) (sym (narrowed_post f.labels p k t label)));
+        ∙ ap (λ n. below m q - n + post_weight p t) (sym (narrowed_pre f.labels p k t label))
+        ∙ ap (λ n. below m q - pre_weight (narrowed f.labels p) k + n) (sym (narrowed_post f.labels p k t label)));
   }
 
   narrowed_weights : (class : Class) (p : Place) → IsPlaceInClass class (labels lts) p → IsPlaceInClass class (labels f.lts) (narrowed f.labels p)

@@ -21,6 +21,7 @@ use Rattle.rg_product.specs.Product.{Factor, IsFactorAt, IsLabelAt, tuple_of, Mo
 use Rattle.rg_product.specs.Beside.{widened, places_beside, net_beside, SolveEach}
 use Rattle.rg_product.proofs.Tuples.{differ_at, tuple_is, moved, arc_of_entry, initial_entry, label_in_range}
 use Rattle.rg_product.proofs.Weights.{StandsOnce, HasWeights, LacksWeights, widened_there, widened_absent, widened_weights}
+use Rattle.rg_theory.proofs.Among.{any_of as any_from_contains}
 
 -- ---- two lists with one entry for each of the other
 
@@ -38,7 +39,8 @@ zip_at R (a ∷ xs) (y ∷ ys) zip zero x at = (y, refl, subst (λ z. R z y) (sa
 zip_at R (a ∷ xs) (y ∷ ys) zip (suc i) x at = zip_at R xs ys zip.1 i x at
 
 -- a fact about all places of the nets, and about one
-all_beside : (P : Place → Type 0) (n : ℕ) (factors : List Factor) (nets : List Net) → AllZip (λ f net. All (λ p. P (widened n f.labels p)) net.places) factors nets → All P (places_beside n factors nets)
+all_beside : (P : Place → Type 0) (n : ℕ) (factors : List Factor) (nets : List Net)
+    → AllZip (λ f net. All (λ p. P (widened n f.labels p)) net.places) factors nets → All P (places_beside n factors nets)
 all_beside P n [] [] zip = All-nil P
 all_beside P n [] (net ∷ nets) zip = All-nil P
 all_beside P n (f ∷ factors) [] zip = All-nil P
@@ -61,9 +63,6 @@ beside_has n (g ∷ factors) (other ∷ nets) zero f net p at at' has =
 beside_has n (g ∷ factors) (other ∷ nets) (suc i) f net p at at' has =
     Contains-append_right (map (widened n g.labels) other.places) (places_beside n factors nets) (widened n f.labels p) (beside_has n factors nets i f net p at at' has)
 
-any_from_contains : {X : Type 0} (P : X → Type 0) (xs : List X) (x : X) → Contains xs x → P x → Any P xs
-any_from_contains P xs x (k, lt, e) is = (k, x, lt, e, is)
-
 module _ (lts : System) (factors : List Factor) (tuples : List (List ℕ)) (fine : IsInRange lts) (inside : AreInRange factors) (product : Product lts factors tuples) where
   -- the numbers of a factor's states, at the states of the product
   abbrev lifted : (ℕ → ℕ) → ℕ → ℕ → ℕ
@@ -84,15 +83,20 @@ module _ (lts : System) (factors : List Factor) (tuples : List (List ℕ)) (fine
   }
     where
       own : (s t s' k : ℕ) → t < labels lts → IsLabelAt f k t → Moves f i k (tuple_of tuples s) (tuple_of tuples s')
-          → (pre_weight (widened (labels lts) f.labels p) t ≤ lifted m i s) × (lifted m i s' ≡ lifted m i s - pre_weight (widened (labels lts) f.labels p) t + post_weight (widened (labels lts) f.labels p) t)
+          → (pre_weight (widened (labels lts) f.labels p) t ≤ lifted m i s)
+          × (lifted m i s' ≡ lifted m i s - pre_weight (widened (labels lts) f.labels p) t + post_weight (widened (labels lts) f.labels p) t)
       own s t s' k lt label moves =
           let w = widened_there (labels lts) f.labels p t k lt (once i f at t) label in
           let enough = region.enabled (slice_index (tuple_of tuples s) i) k (slice_index (tuple_of tuples s') i) moves.1 in
-          let steps = region.moved (slice_index (tuple_of tuples s) i) k (slice_index (tuple_of tuples s') i) moves.1 in
-          (subst (λ n. n ≤ lifted m i s) (sym w.pre) enough, steps ∙ ap (λ n. lifted m i s - n + post_weight p k) (sym w.pre) ∙ ap (λ n. lifted m i s - pre_weight (widened (labels lts) f.labels p) t + n) (sym w.post))
+          let steps = region.moved (slice_index (tuple_of tuples s) i) k (slice_index (tuple_of tuples s') i) moves.1 in (
+            subst (λ n. n ≤ lifted m i s) (sym w.pre) enough,
+            steps ∙ ap (λ n. lifted m i s - n + post_weight p k) (sym w.pre)
+                ∙ ap (λ n. lifted m i s - pre_weight (widened (labels lts) f.labels p) t + n) (sym w.post),
+          )
 
       away : (s t s' : ℕ) → t < labels lts → ((k : ℕ) → slice_get f.labels k ≡ Some t → ⊥) → slice_index (tuple_of tuples s) i ≡ slice_index (tuple_of tuples s') i
-          → (pre_weight (widened (labels lts) f.labels p) t ≤ lifted m i s) × (lifted m i s' ≡ lifted m i s - pre_weight (widened (labels lts) f.labels p) t + post_weight (widened (labels lts) f.labels p) t)
+          → (pre_weight (widened (labels lts) f.labels p) t ≤ lifted m i s)
+          × (lifted m i s' ≡ lifted m i s - pre_weight (widened (labels lts) f.labels p) t + post_weight (widened (labels lts) f.labels p) t)
       away s t s' lt none same =
           let w = widened_absent (labels lts) f.labels p t lt none in
           let a = w.pre in
@@ -100,14 +104,17 @@ module _ (lts : System) (factors : List Factor) (tuples : List (List ℕ)) (fine
           let e : lifted m i s ≡ lifted m i s' = ap m same in
           (omega arith, omega arith)
 
-      by_label : (s t s' : ℕ) → HasArc lts s t s' → (pre_weight (widened (labels lts) f.labels p) t ≤ lifted m i s) × (lifted m i s' ≡ lifted m i s - pre_weight (widened (labels lts) f.labels p) t + post_weight (widened (labels lts) f.labels p) t)
+      by_label : (s t s' : ℕ) → HasArc lts s t s'
+          → (pre_weight (widened (labels lts) f.labels p) t ≤ lifted m i s)
+          × (lifted m i s' ≡ lifted m i s - pre_weight (widened (labels lts) f.labels p) t + post_weight (widened (labels lts) f.labels p) t)
       by_label s t s' has =
           let (_, tl, _) = arc_in_range lts fine s t s' has in
           let (j, k, g, at', label) = product.shared.each t tl in
           which j k g tl at' label (cases_eq i j)
         where
           which : (j k : ℕ) (g : Factor) → t < labels lts → IsFactorAt factors j g → IsLabelAt g k t → (i ≡ j) ⊎ (i ≡ j → ⊥)
-              → (pre_weight (widened (labels lts) f.labels p) t ≤ lifted m i s) × (lifted m i s' ≡ lifted m i s - pre_weight (widened (labels lts) f.labels p) t + post_weight (widened (labels lts) f.labels p) t)
+              → (pre_weight (widened (labels lts) f.labels p) t ≤ lifted m i s)
+              × (lifted m i s' ≡ lifted m i s - pre_weight (widened (labels lts) f.labels p) t + post_weight (widened (labels lts) f.labels p) t)
           which j k g tl at' label (inl e) =
               let same : g ≡ f = same_Some g f (sym at' ∙ subst (λ n. IsFactorAt factors n f) e at) in
               let label' : IsLabelAt f k t = subst (λ (x : Factor). IsLabelAt x k t) same label in
@@ -116,7 +123,8 @@ module _ (lts : System) (factors : List Factor) (tuples : List (List ℕ)) (fine
               let moves = moved lts factors tuples fine inside product s t s' j k g at' label has in
               away s t s' tl (elsewhere i j k t f g at at' label other) (moves.0 i other)
 
-  weights_in_class : (class : Class) (i : ℕ) (f : Factor) (p : Place) → IsFactorAt factors i f → IsPlaceInClass class (labels f.lts) p → IsPlaceInClass class (labels lts) (widened (labels lts) f.labels p)
+  weights_in_class : (class : Class) (i : ℕ) (f : Factor) (p : Place) → IsFactorAt factors i f → IsPlaceInClass class (labels f.lts) p
+      → IsPlaceInClass class (labels lts) (widened (labels lts) f.labels p)
   weights_in_class class i f p at of_class = record {
     pure = λ is t lt takes makes. no_loop is t takes makes (has t lt);
     plain = λ is t lt. small is t (has t lt);
@@ -193,13 +201,15 @@ module _ (lts : System) (factors : List Factor) (tuples : List (List ℕ)) (fine
         ordered i f at differ (a.within i f at) (b.within i f at) (cases_lt (slice_index (tuple_of tuples s) i) (slice_index (tuple_of tuples s') i))
       where
         ordered : (i : ℕ) (f : Factor) → IsFactorAt factors i f → slice_index (tuple_of tuples s) i ≢ slice_index (tuple_of tuples s') i → slice_index (tuple_of tuples s) i < states f.lts
-            → slice_index (tuple_of tuples s') i < states f.lts → (slice_index (tuple_of tuples s) i < slice_index (tuple_of tuples s') i) ⊎ (slice_index (tuple_of tuples s') i ≤ slice_index (tuple_of tuples s) i)
+            → slice_index (tuple_of tuples s') i < states f.lts
+            → (slice_index (tuple_of tuples s) i < slice_index (tuple_of tuples s') i) ⊎ (slice_index (tuple_of tuples s') i ≤ slice_index (tuple_of tuples s) i)
             → Any (IsSeparatedBy lts (States s s')) (places_beside (labels lts) factors nets)
         ordered i f at differ lt lt' (inl rises) = separates_above (States (slice_index (tuple_of tuples s) i) (slice_index (tuple_of tuples s') i)) (States s s') i f at (rises, lt') (λ p m sep. sep)
         ordered i f at differ lt lt' (inr falls) =
             separates_above (States (slice_index (tuple_of tuples s') i) (slice_index (tuple_of tuples s) i)) (States s s') i f at (below differ falls, lt) (λ p m sep e. sep (sym e))
           where
-            below : slice_index (tuple_of tuples s) i ≢ slice_index (tuple_of tuples s') i → slice_index (tuple_of tuples s') i ≤ slice_index (tuple_of tuples s) i → slice_index (tuple_of tuples s') i < slice_index (tuple_of tuples s) i
+            below : slice_index (tuple_of tuples s) i ≢ slice_index (tuple_of tuples s') i
+                → slice_index (tuple_of tuples s') i ≤ slice_index (tuple_of tuples s) i → slice_index (tuple_of tuples s') i < slice_index (tuple_of tuples s) i
             below other le = omega arith
 
     all_separated : SeparateAll (places_beside (labels lts) factors nets) lts

@@ -19,7 +19,8 @@ differ_start a b = record { has = λ k lt. absurd (omega arith); only = λ x (k,
 contains_get : (keys : List (ℕ × ℕ)) (x : ℕ × ℕ) (i : ℕ) → slice_get keys i ≡ Some x → Contains keys x
 contains_get keys x i at = (i, slice_get_within keys i x at, get_or_from_slice_get keys i x x at)
 
-pub differ_next : (a b : List ℕ) (keys : List (ℕ × ℕ)) (s : ℕ) → DifferSoFar a b keys s → list_any (same_pair (get_or a s 0, get_or b s 0)) keys ≡ false → DifferSoFar a b (with_pair keys (get_or a s 0, get_or b s 0)) (s + 1)
+pub differ_next : (a b : List ℕ) (keys : List (ℕ × ℕ)) (s : ℕ) → DifferSoFar a b keys s
+    → list_any (same_pair (get_or a s 0, get_or b s 0)) keys ≡ false → DifferSoFar a b (with_pair keys (get_or a s 0, get_or b s 0)) (s + 1)
 differ_next a b keys s so_far new = subst (λ t. DifferSoFar a b (if t then keys else (keys ++ (get_or a s 0, get_or b s 0) ∷ [])) (s + 1)) (sym new) more
   where
     gone : Contains keys (get_or a s 0, get_or b s 0) → ⊥

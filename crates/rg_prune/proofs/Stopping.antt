@@ -8,7 +8,8 @@ use Rattle.rg_marks.specs.Stops.{mark_at}
 abbrev pub MarkedUpTo : List (List Bool) → List (ℕ × ℕ) → ℕ → Type 0
 MarkedUpTo rows events i = (k : ℕ) (d : ℕ × ℕ) → k < i → mark_at rows (get_or events k d).0 (get_or events k d).1 ≡ true
 
-pub marked_more : (rows : List (List Bool)) (events : List (ℕ × ℕ)) (i : ℕ) (d : ℕ × ℕ) → i < length events → MarkedUpTo rows events i → mark_at rows (get_or events i d).0 (get_or events i d).1 ≡ true → MarkedUpTo rows events (i + 1)
+pub marked_more : (rows : List (List Bool)) (events : List (ℕ × ℕ)) (i : ℕ) (d : ℕ × ℕ) → i < length events → MarkedUpTo rows events i
+    → mark_at rows (get_or events i d).0 (get_or events i d).1 ≡ true → MarkedUpTo rows events (i + 1)
 marked_more rows events i d lt so_far here k d' less = by (cases_eq k i)
   where
     by : (k ≡ i) ⊎ (k ≡ i → ⊥) → mark_at rows (get_or events k d').0 (get_or events k d').1 ≡ true

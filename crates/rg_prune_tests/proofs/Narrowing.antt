@@ -15,7 +15,8 @@ use Rattle.rg_net.specs.declared.net.Place.{Place as PlaceOfCode}
 use Rattle.rg_net.proofs.Placing.{weights_of}
 use Rattle.rg_marks.specs.Tokens.{IsNarrow}
 
-pub narrow_places : (lts : System) (net : Net) (places : List PlaceOfCode) → IsInRange lts → IsNetInRange net → Solves net lts → IsBounded net greatest → map shown_place places ≡ net.places → All (λ p. IsNarrow lts (shown_place p)) places
+pub narrow_places : (lts : System) (net : Net) (places : List PlaceOfCode) → IsInRange lts → IsNetInRange net → Solves net lts
+    → IsBounded net greatest → map shown_place places ≡ net.places → All (λ p. IsNarrow lts (shown_place p)) places
 narrow_places lts net places fine range sol bounded are k d lt = record {
   m = λ s. tokens (marking_of sol.markings s) k;
   region = places_are_regions lts net (marking_of sol.markings) is k (shown_place (get_or places k d)) at;

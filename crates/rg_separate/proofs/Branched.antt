@@ -155,7 +155,8 @@ room_after system before forms are = subst (λ fs. system.columns + length syste
 
 pub scales_in_range : (system : LinearSystem) (before : ℕ) (forms : List NamedForm) → AreFormsOf system (forms_after before forms) → All (λ (f : NamedForm). InRange f.scale) forms
 scales_in_range system before forms are =
-    All-weaker (λ f. IsNamedFormOf system (form_after before f)) (λ (f : NamedForm). InRange f.scale) (λ f is. is.scale_in_range) forms (of_mapped (form_after before) (IsNamedFormOf system) forms are.each)
+    All-weaker (λ f. IsNamedFormOf system (form_after before f)) (λ (f : NamedForm). InRange f.scale) (λ f is. is.scale_in_range) forms
+    (of_mapped (form_after before) (IsNamedFormOf system) forms are.each)
 
 pub bounds_after : (system : LinearSystem) (before : ℕ) (forms : List NamedForm) → AreFormsOf system (forms_after before forms) → AreBounded system (map linear_form forms)
 bounds_after system before forms are = subst (AreBounded system) (linear_after before forms) are.bounded

@@ -1,7 +1,7 @@
 -- One case more of which it is told what it comes to, and what the cases come to together.
 use Rattle.std.proofs.Common.{◌≡◌, ◌⊎◌, inl, inr, ℕ, ◌+◌, ◌<◌, ◌≤◌, List, [], ◌∷◌, ◌++◌, map, length, length-append, Option, Some, None, IfSome, option_map, slice_get, unwrap_or, refl, sym, ap, subst, ◌∙◌, arith}
 use Rattle.std.proofs.lemmas.Bool.{cases_lt}
-use Rattle.std.proofs.lemmas.Option.{slice_get-map, slice_get_within}
+use Rattle.std.proofs.lemmas.Option.{slice_get-map}
 use Rattle.std.proofs.lemmas.List.{length-map}
 use Rattle.rg_theory.specs.declared.Problem.{Problem}
 use Rattle.rg_theory.specs.declared.Problem.TheVariants.{Event, States}
@@ -40,32 +40,27 @@ module _ (comes : ℕ → CaseResult → Type 0) (one : (i : ℕ) (r r' : CaseRe
       go (inl less) = before i w less passes_it
       go (inr more) = let e : i ≡ n = omega arith in clash w t (one n (passes w) (refutes t) (subst (λ k. comes k (passes w)) e passes_it) come)
 
-  pub none_come : (tried : Tried) → tried.refuted.items ≡ [] → tried.passed ≡ None → HaveCome comes 0 tried
-  none_come tried empty none = record {
-    none_makes = λ i p lt. absurd (omega arith);
-    none_passes = λ e i w lt. absurd (omega arith);
-    all = λ e. ap length empty;
-    refuted = λ e i case at. absurd (let l = slice_get_within tried.refuted.items i case at in let z = ap length empty in omega arith);
-    passed = subst (λ o. IfSome o (λ w. (i : ℕ) × (i < 0) × comes i (passes (shown_of w)) × NonePasses comes i)) (sym none) tt;
-  }
-
-  pub refuted_more : (n : ℕ) (before after : Tried) (case : Case) → HaveCome comes n before → after.refuted.items ≡ before.refuted.items ++ case ∷ [] → after.passed ≡ before.passed → comes n (refutes (case_tree case)) → HaveCome comes (n + 1) after
+  pub refuted_more : (n : ℕ) (before after : Tried) (case : Case) → HaveCome comes n before → after.refuted.items ≡ before.refuted.items ++ case ∷ []
+      → after.passed ≡ before.passed → comes n (refutes (case_tree case)) → HaveCome comes (n + 1) after
   refuted_more n before after case have items same come = record {
     none_makes = makes_more n (refutes (case_tree case)) come (λ p e. clash p (case_tree case) e) have.none_makes;
     none_passes = λ none. passes_more n (case_tree case) come (have.none_passes (sym same ∙ none));
     all = λ none. ap length items ∙ length-append before.refuted.items (case ∷ []) ∙ (let e = have.all (sym same ∙ none) in omega arith);
-    refuted = λ none i other at. case_more (λ k c. comes k (refutes (case_tree c))) before.refuted.items case (have.refuted (sym same ∙ none)) (subst (λ k. comes k (refutes (case_tree case))) (sym (have.all (sym same ∙ none))) come) i other (subst (λ xs. slice_get xs i ≡ Some other) items at);
+    refuted = λ none i other at. case_more (λ k c. comes k (refutes (case_tree c))) before.refuted.items case (have.refuted (sym same ∙ none))
+        (subst (λ k. comes k (refutes (case_tree case))) (sym (have.all (sym same ∙ none))) come) i other (subst (λ xs. slice_get xs i ≡ Some other) items at);
     passed = subst (λ o. IfSome o (λ w. (i : ℕ) × (i < n + 1) × comes i (passes (shown_of w)) × NonePasses comes i)) (sym same) (later before.passed have.passed);
   }
     where
       clash : (p : Place) (t : Tree) → makes p ≡ refutes t → ⊥
       clash p t e = absurd cc
 
-      later : (o : Option WideAt) → IfSome o (λ w. (i : ℕ) × (i < n) × comes i (passes (shown_of w)) × NonePasses comes i) → IfSome o (λ w. (i : ℕ) × (i < n + 1) × comes i (passes (shown_of w)) × NonePasses comes i)
+      later : (o : Option WideAt) → IfSome o (λ w. (i : ℕ) × (i < n) × comes i (passes (shown_of w)) × NonePasses comes i)
+          → IfSome o (λ w. (i : ℕ) × (i < n + 1) × comes i (passes (shown_of w)) × NonePasses comes i)
       later None h = tt
       later (Some w) (i, lt, come, none) = (i, (let l = lt in omega arith), come, none)
 
-  pub passed_more : (n : ℕ) (before after : Tried) (at : WideAt) → HaveCome comes n before → after.passed ≡ Some (unwrap_or before.passed at) → comes n (passes (shown_of at)) → HaveCome comes (n + 1) after
+  pub passed_more : (n : ℕ) (before after : Tried) (at : WideAt) → HaveCome comes n before → after.passed ≡ Some (unwrap_or before.passed at)
+      → comes n (passes (shown_of at)) → HaveCome comes (n + 1) after
   passed_more n before after at have is come = record {
     none_makes = makes_more n (passes (shown_of at)) come (λ p e. clash p (shown_of at) e) have.none_makes;
     none_passes = λ none. absurd (let e = sym is ∙ none in cc);
@@ -77,7 +72,8 @@ module _ (comes : ℕ → CaseResult → Type 0) (one : (i : ℕ) (r r' : CaseRe
       clash : (p : Place) (w : Shown) → makes p ≡ passes w → ⊥
       clash p w e = absurd cc
 
-      first : (o : Option WideAt) → IfSome o (λ w. (i : ℕ) × (i < n) × comes i (passes (shown_of w)) × NonePasses comes i) → (o ≡ None → NonePasses comes n) → (i : ℕ) × (i < n + 1) × comes i (passes (shown_of (unwrap_or o at))) × NonePasses comes i
+      first : (o : Option WideAt) → IfSome o (λ w. (i : ℕ) × (i < n) × comes i (passes (shown_of w)) × NonePasses comes i)
+          → (o ≡ None → NonePasses comes n) → (i : ℕ) × (i < n + 1) × comes i (passes (shown_of (unwrap_or o at))) × NonePasses comes i
       first None h none = (n, omega arith, come, none refl)
       first (Some w) (i, lt, old, none) other = (i, (let l = lt in omega arith), old, none)
 
@@ -102,11 +98,7 @@ module _ (comes : ℕ → CaseResult → Type 0) (one : (i : ℕ) (r r' : CaseRe
   place_first n total tried p have lt come = first_place n p lt come have.none_makes
 
 -- the cases of a problem whose label has an arc are what it comes to
-pub live_comes : (it : ShownSetting) (problem : Problem) (r : Solved) → IsLive it.lts problem → CasesCome (λ i. CaseComes (case_at it problem i)) (cases_of it.lts it.class problem) r → ProblemComes it problem r
+pub live_comes : (it : ShownSetting) (problem : Problem) (r : Solved) → IsLive it.lts problem
+    → CasesCome (λ i. CaseComes (case_at it problem i)) (cases_of it.lts it.class problem) r → ProblemComes it problem r
 live_comes it (Event s t) r live come = inr (live, come)
 live_comes it (States s s') r live come = come
-
--- the trees of one case
-pub one_case : (cases : List Case) (case : Case) (rest : List Case) → cases ≡ case ∷ rest → length cases ≡ 1 → map case_tree cases ≡ case_tree case ∷ []
-one_case cases case [] is count = ap (map case_tree) is
-one_case cases case (other ∷ rest) is count = absurd (let e = ap length is in omega arith)

@@ -37,7 +37,8 @@ zero_at n s = ⊎_elim
 no_tokens : (n : ℕ) (tokens : List ℕ) → tokens ≡ replicate n 0 → (s : ℕ) → 0 ≡ slice_index tokens s
 no_tokens n tokens e s = sym (ap (λ xs. slice_index xs s) e ∙ zero_at n s)
 
-blocked_in : (lts : System) (class : Class) (t : ℕ) (r : RegionPlace) → t < labels lts → IsDead lts t → shown_place r.place ≡ blocking (labels lts) t → r.tokens.items ≡ replicate (states lts) 0 → RegionIn lts class (shown_place r.place) (region_tokens r)
+blocked_in : (lts : System) (class : Class) (t : ℕ) (r : RegionPlace) → t < labels lts → IsDead lts t → shown_place r.place ≡ blocking (labels lts) t
+    → r.tokens.items ≡ replicate (states lts) 0 → RegionIn lts class (shown_place r.place) (region_tokens r)
 blocked_in lts class t r lt dead place tokens =
     let same : (λ (s : ℕ). 0) ≡ slice_index r.tokens.items = λ i s. no_tokens (states lts) r.tokens.items tokens s i in
     subst (λ p. RegionIn lts class p (region_tokens r)) (sym place) (subst (RegionIn lts class (blocking (labels lts) t)) same (blocking_region lts class t lt dead))
@@ -45,14 +46,16 @@ blocked_in lts class t r lt dead place tokens =
 weights_small : (n t : ℕ) → t < n → (u : ℕ) → (pre_weight (blocking n t) u ≤ 1) × (post_weight (blocking n t) u ≡ 0)
 weights_small n t lt u = (
   ⊎_elim
-      (λ e. (let h : pre_weight (blocking n t) t ≡ 1 = get_or-set_same (replicate n 0) t 1 0 (subst (λ k. t < k) (sym (length-replicate n 0)) lt) in subst (λ v. pre_weight (blocking n t) v ≤ 1) (sym e) (omega arith)))
+      (λ e. (let h : pre_weight (blocking n t) t ≡ 1 = get_or-set_same (replicate n 0) t 1 0 (subst (λ k. t < k) (sym (length-replicate n 0)) lt) in
+      subst (λ v. pre_weight (blocking n t) v ≤ 1) (sym e) (omega arith)))
       (λ differ. (let h : pre_weight (blocking n t) u ≡ slice_index (replicate n 0) u = get_or-set_other (replicate n 0) t u 1 0 differ in let z = zero_at n u in omega arith))
       (cases_eq u t),
   zero_at n u,
 )
 
 -- the place that blocks a dead label is a region of every class
-pub blocked_region : (lts : System) (class : Class) (t : ℕ) (r : RegionPlace) → t < labels lts → IsDead lts t → shown_place r.place ≡ blocking (labels lts) t → r.tokens.items ≡ replicate (states lts) 0 → IsRegionPlace lts class r
+pub blocked_region : (lts : System) (class : Class) (t : ℕ) (r : RegionPlace) → t < labels lts → IsDead lts t
+    → shown_place r.place ≡ blocking (labels lts) t → r.tokens.items ≡ replicate (states lts) 0 → IsRegionPlace lts class r
 blocked_region lts class t r lt dead place tokens =
     record {
       states = ap length tokens ∙ length-replicate (states lts) 0;
@@ -67,7 +70,8 @@ blocked_region lts class t r lt dead place tokens =
       few_tokens = All-from_get_or (λ w. w ≤ greatest) r.tokens.items 0 (λ u lt'. (let h = no_tokens (states lts) r.tokens.items tokens u in omega arith));
     }
 
-pub blocked_separates : (lts : System) (s t : ℕ) (r : RegionPlace) → t < labels lts → shown_place r.place ≡ blocking (labels lts) t → r.tokens.items ≡ replicate (states lts) 0 → PlaceSeparates (Event s t) r
+pub blocked_separates : (lts : System) (s t : ℕ) (r : RegionPlace) → t < labels lts → shown_place r.place ≡ blocking (labels lts) t
+    → r.tokens.items ≡ replicate (states lts) 0 → PlaceSeparates (Event s t) r
 blocked_separates lts s t r lt place tokens =
     let one : pre_weight (blocking (labels lts) t) t ≡ 1 = get_or-set_same (replicate (labels lts) 0) t 1 0 (subst (λ k. t < k) (sym (length-replicate (labels lts) 0)) lt) in
     let none = no_tokens (states lts) r.tokens.items tokens s in

@@ -41,18 +41,24 @@ comes_of s = ProblemComes (shown_setting s)
 
 module _ (s : Setting) (is : IsSetting s) where
   pub places_separate : EachPlaceSeparates s.lts.now (comes_of s)
-  places_separate = record { separate = λ problem p has come. (let (m, region, separates) = placed_separates (shown_setting s) is.in_range is.bound is.reachable is.tree.tree is.basis problem p has come in (m, region.region, separates)) }
+  places_separate = record {
+    separate = λ problem p has come.
+        (let (m, region, separates) = placed_separates (shown_setting s) is.in_range is.bound is.reachable is.tree.tree is.basis problem p has come in
+        (m, region.region, separates));
+  }
 
   pub searched_of : (o : outcome.Separation) → AllComeTo s.lts.now (comes_of s) o → Searched s.lts.now s.class o
   searched_of o come = all_problems s.tree.now.arcs (cycle_of s.basis.now) o is.tree.tree is.basis come
 
   -- the places that are kept are those with which the problems end
-  all_kept : (kept : List Place) (o : outcome.Separation) → AllComeTo s.lts.now (comes_of s) o → ShowsSeparation s.lts.now (comes_of s) kept ended.Separated o → AllComeTo s.lts.now (comes_of s) (places kept)
+  all_kept : (kept : List Place) (o : outcome.Separation) → AllComeTo s.lts.now (comes_of s) o
+      → ShowsSeparation s.lts.now (comes_of s) kept ended.Separated o → AllComeTo s.lts.now (comes_of s) (places kept)
   all_kept kept (places after) come (e, separate) = subst (λ ps. AllComeTo s.lts.now (comes_of s) (places ps)) e come
   all_kept kept (unsolvable problem trees) come shows = absurd shows
   all_kept kept (too_wide w) come shows = absurd shows
 
-  module _ (fine : IsWellFormed s.lts.now) (kept : List Place) (firsts : List Firsts) (separated : Separated) (are : AreKept s.lts.now kept firsts separated) (end : IsSeparationOutcome s.lts.now (comes_of s) kept ended.Separated) where
+  module _ (fine : IsWellFormed s.lts.now) (kept : List Place) (firsts : List Firsts) (separated : Separated)
+      (are : AreKept s.lts.now kept firsts separated) (end : IsSeparationOutcome s.lts.now (comes_of s) kept ended.Separated) where
     all_come : AllComeTo s.lts.now (comes_of s) (places kept)
     all_come = all_kept kept end.o end.comes_to end.shows
 
@@ -106,7 +112,8 @@ module _ (s : Setting) (q : Problem) where
   passed_or_placed w p e = absurd cc
 
   -- a refuted problem has the reason of its trees, and comes to nothing else
-  pub shown_refuted : EndsRefuted s q → (reason : Reason) → ProblemComesTo s q (problem_answer.Refuted reason) → IsSearched s.lts.now s.class (an_unsolvable (record { class = s.class; reason = reason }))
+  pub shown_refuted : EndsRefuted s q → (reason : Reason) → ProblemComesTo s q (problem_answer.Refuted reason)
+      → IsSearched s.lts.now s.class (an_unsolvable (record { class = s.class; reason = reason }))
   shown_refuted ends reason (trees, is, come) =
       let same = same_trees ends.trees trees (one (solved.Solved.refuted ends.trees) (solved.Solved.refuted trees) ends.comes come) in
       record { o = unsolvable q ends.trees; searched = ends.searched; shows = (q, trees, is, ap (unsolvable q) same) }

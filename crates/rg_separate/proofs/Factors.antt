@@ -31,11 +31,13 @@ use Rattle.rg_cert_meaning.specs.declared.Form.TheVariants as split_form
 -- ---- the weights of multipliers
 
 -- what holds of the multipliers of so many rows holds of the weights, as does that their rows are among them
-pub weights_are : (multiplier : ℕ → ℤ) (P : Weight → Type 0) (first n total : ℕ) → first + n ≤ total → ((i : ℕ) → i < total → P (record { row = i; multiplier = multiplier i })) → All P (weights_from multiplier first n)
+pub weights_are : (multiplier : ℕ → ℤ) (P : Weight → Type 0) (first n total : ℕ) → first + n ≤ total
+    → ((i : ℕ) → i < total → P (record { row = i; multiplier = multiplier i })) → All P (weights_from multiplier first n)
 weights_are multiplier P first zero total le each = All-nil P
 weights_are multiplier P first (suc n) total le each = go (int_lt (multiplier first) (pos 0) || int_lt (pos 0) (multiplier first)) (weights_are multiplier P (suc first) n total (omega arith) each)
   where
-    go : (b : Bool) → All P (weights_from multiplier (suc first) n) → All P (if b then (record { row = first; multiplier = multiplier first } ∷ weights_from multiplier (suc first) n) else weights_from multiplier (suc first) n)
+    go : (b : Bool) → All P (weights_from multiplier (suc first) n)
+        → All P (if b then (record { row = first; multiplier = multiplier first } ∷ weights_from multiplier (suc first) n) else weights_from multiplier (suc first) n)
     go true rest = All-cons P _ _ (each first (omega arith)) rest
     go false rest = rest
 
@@ -43,7 +45,9 @@ pub weights_few : (multiplier : ℕ → ℤ) (first n : ℕ) → length (weights
 weights_few multiplier first zero = omega arith
 weights_few multiplier first (suc n) = go (int_lt (multiplier first) (pos 0) || int_lt (pos 0) (multiplier first)) (weights_few multiplier (suc first) n)
   where
-    go : (b : Bool) → length (weights_from multiplier (suc first) n) ≤ n → length (if b then (record { row = first; multiplier = multiplier first } ∷ weights_from multiplier (suc first) n) else weights_from multiplier (suc first) n) ≤ suc n
+    go : (b : Bool) → length (weights_from multiplier (suc first) n) ≤ n
+        → length (if b then (record { row = first; multiplier = multiplier first } ∷ weights_from multiplier (suc first) n) else weights_from
+        multiplier (suc first) n) ≤ suc n
     go true le = omega arith
     go false le = omega arith
 
@@ -85,18 +89,21 @@ module _ (named : NamedRows) (case : CaseSystem) (shows : ShowsCase named case) 
       sym (get_or-map ratio_of named.factors i f (ratio_of f) (let e = factors_many in omega arith))
       ∙ ap (λ rs. get_or rs i (ratio_of f)) shows.factors
       ∙ get_or-map (λ k. k.factor) case.kept i _ (ratio_of f) kept
-      ∙ sym (ap (λ b. if b then (kept_at case i).factor else split_factor (named_at named_above (i - length case.kept)).form (form_at case.forms (side_at sides (i - length case.kept)).form)) (lt-ltb i (length case.kept) kept))
+      ∙ sym (ap (λ b. if b then (kept_at case i).factor else split_factor (named_at named_above (i - length case.kept)).form
+      (form_at case.forms (side_at sides (i - length case.kept)).form)) (lt-ltb i (length case.kept) kept))
 
   -- ---- the row of a split
 
   pub split_name : (i : ℕ) → length named.system.rows ≤ i → row_name.Above (i - length named.system.rows) ≡ name_of case i
-  split_name i le = ap (λ n. row_name.Above (i - n)) rows_are ∙ sym (ap (λ b. if b then (kept_at case i).name else row_name.Above (i - length case.kept)) (not_below i (length case.kept) (let e = rows_are in omega arith)))
+  split_name i le = ap (λ n. row_name.Above (i - n)) rows_are
+      ∙ sym (ap (λ b. if b then (kept_at case i).name else row_name.Above (i - length case.kept)) (not_below i (length case.kept) (let e = rows_are in omega arith)))
 
   abbrev among : List SplitSide → List Side
   among sides = sides_among (map split_of named.forms) sides
 
   -- the form by name of the side
-  form_named : (sides : List SplitSide) (d : ℕ) (side : SplitSide) (f : NamedForm) → d < length sides → side_at sides d ≡ side → side.form < length named.forms → get_or named.forms side.form f ≡ f → (named_at (among sides) d).form ≡ split_of f
+  form_named : (sides : List SplitSide) (d : ℕ) (side : SplitSide) (f : NamedForm) → d < length sides → side_at sides d ≡ side
+      → side.form < length named.forms → get_or named.forms side.form f ≡ f → (named_at (among sides) d).form ≡ split_of f
   form_named sides d side f below at lt form =
       let name : SplitSide → Side = λ s. record { form = get_or (map split_of named.forms) s.form (split_form.Tokens 0); at = s.at; high = s.high } in
       ap (λ (s : Side). s.form) (get_or-map name sides d (record { form = 0; at = pos 0; high = false }) (record { form = split_form.Tokens 0; at = pos 0; high = false }) below)
@@ -113,21 +120,35 @@ module _ (named : NamedRows) (case : CaseSystem) (shows : ShowsCase named case) 
       ∙ factor
       ∙ ap (λ g. split_factor g (linear_form f)) (sym (form_named sides (i - length named.system.rows) side f below at lt form))
       ∙ ap (λ (g : NamedForm). split_factor (named_at (among sides) (i - length named.system.rows)).form (linear_form g)) (sym form)
-      ∙ ap (split_factor (named_at (among sides) (i - length named.system.rows)).form) (sym (get_or-map linear_form named.forms side.form f (record { scale = pos 1; coeffs = []; low = pos 0; high = pos 0 }) lt))
+      ∙ ap (split_factor (named_at (among sides) (i - length named.system.rows)).form)
+      (sym (get_or-map linear_form named.forms side.form f (record { scale = pos 1; coeffs = []; low = pos 0; high = pos 0 }) lt))
       ∙ ap (λ fs. split_factor (named_at (among sides) (i - length named.system.rows)).form (form_at fs side.form)) shows.forms
       ∙ ap (λ (s : SplitSide). split_factor (named_at (among sides) (i - length named.system.rows)).form (form_at case.forms s.form)) (sym at)
       ∙ ap (λ n. split_factor (named_at (among sides) (i - n)).form (form_at case.forms (side_at sides (i - n)).form)) rows_are
-      ∙ sym (ap (λ b. if b then (kept_at case i).factor else split_factor (named_at (among sides) (i - length case.kept)).form (form_at case.forms (side_at sides (i - length case.kept)).form)) (not_below i (length case.kept) (let e = rows_are in omega arith)))
+      ∙ sym (ap (λ b. if b then (kept_at case i).factor else split_factor (named_at (among sides) (i - length case.kept)).form
+      (form_at case.forms (side_at sides (i - length case.kept)).form)) (not_below i (length case.kept) (let e = rows_are in omega arith)))
 
 -- ---- one share
 
 -- the multiplier times the factor
-product_step : (f factor : Fraction) (z : ℤ) (other : Ratio) (r : Result Fraction Wide) → IsValue f z (pos 1) → ratio_of factor ≡ other → IsProduct (numerator_of f) (denominator_of f) (numerator_of factor) (denominator_of factor) r → mul (whole z) other (shown_result ratio_of r)
-product_step f factor z other r is same product = subst (λ x. mul x other (shown_result ratio_of r)) (whole_fraction f z is) (subst (λ x. mul (ratio_of f) x (shown_result ratio_of r)) same (mul_step f factor r product))
+product_step : (f factor : Fraction) (z : ℤ) (other : Ratio) (r : Result Fraction Wide) → IsValue f z (pos 1) → ratio_of factor ≡ other
+    → IsProduct (numerator_of f) (denominator_of f) (numerator_of factor) (denominator_of factor) r → mul (whole z) other (shown_result ratio_of r)
+product_step f factor z other r is same product =
+    subst (λ x. mul x other (shown_result ratio_of r)) (whole_fraction f z is)
+    (subst (λ x. mul (ratio_of f) x (shown_result ratio_of r)) same (mul_step f factor r product))
 
-module _ (case : CaseSystem) (sides : List SplitSide) (above : List Side) (i : ℕ) (z : ℤ) (f factor : Fraction) (is : IsValue f z (pos 1)) (factor_is : ratio_of factor ≡ factor_of case sides above i) where
-  pub share_made : (name : RowName) (share : Fraction) → name ≡ name_of case i → IsProduct (numerator_of f) (denominator_of f) (numerator_of factor) (denominator_of factor) (Ok share) → share_fold case sides above (record { row = i; multiplier = z }) (Ok (share_of (name, share)))
-  share_made name share named product = (ratio_of share, product_step f factor z (factor_of case sides above i) (Ok share) is factor_is product, ap (λ n. record { name = n; multiplier = ratio_of share }) named)
+module _ (case : CaseSystem) (sides : List SplitSide) (above : List Side) (i : ℕ) (z : ℤ) (f factor : Fraction) (is : IsValue f z (pos 1))
+    (factor_is : ratio_of factor ≡ factor_of case sides above i) where
+  pub share_made : (name : RowName) (share : Fraction) → name ≡ name_of case i
+      → IsProduct (numerator_of f) (denominator_of f) (numerator_of factor) (denominator_of factor) (Ok share)
+      → share_fold case sides above (record { row = i; multiplier = z }) (Ok (share_of (name, share)))
+  share_made name share named product = (
+    ratio_of share,
+    product_step f factor z (factor_of case sides above i) (Ok share) is factor_is product,
+    ap
+        (λ n. record { name = n; multiplier = ratio_of share }) named,
+  )
 
-  pub share_fails : (w : Wide) → IsProduct (numerator_of f) (denominator_of f) (numerator_of factor) (denominator_of factor) (Err w) → share_fold case sides above (record { row = i; multiplier = z }) (Err w)
+  pub share_fails : (w : Wide) → IsProduct (numerator_of f) (denominator_of f) (numerator_of factor) (denominator_of factor) (Err w)
+      → share_fold case sides above (record { row = i; multiplier = z }) (Err w)
   share_fails w product = inl (product_step f factor z (factor_of case sides above i) (Err w) is factor_is product)

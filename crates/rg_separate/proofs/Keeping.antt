@@ -59,10 +59,14 @@ notable lts class reachable = record { each = λ r is. (narrow_place lts r (clas
 pub some_kept : (lts : System) (places : List PlaceOfTheory) (firsts : List Firsts) (separated : Separated) → AreKept lts places firsts separated → AreSome lts separated
 some_kept lts places firsts separated are = record { places = places; so_much = are.so_much }
 
-pub none_kept : (lts : System) (places : List PlaceOfTheory) (firsts : List Firsts) (separated : Separated) → places ≡ [] → firsts ≡ [] → IsAllReachable lts → SeparateSoMuch lts [] separated → AreKept lts places firsts separated
-none_kept lts places firsts separated none none' reachable much = subst (λ l. AreKept lts l firsts separated) (sym none) (record { reachable = reachable; each = All-nil (IsKept lts); firsts = no_firsts lts [] firsts refl none'; so_much = much })
+pub none_kept : (lts : System) (places : List PlaceOfTheory) (firsts : List Firsts) (separated : Separated) → places ≡ [] → firsts ≡ []
+    → IsAllReachable lts → SeparateSoMuch lts [] separated → AreKept lts places firsts separated
+none_kept lts places firsts separated none none' reachable much =
+    subst (λ l. AreKept lts l firsts separated) (sym none)
+    (record { reachable = reachable; each = All-nil (IsKept lts); firsts = no_firsts lts [] firsts refl none'; so_much = much })
 
 -- the places that are kept after one more of those that are known
-pub known_next : (known : List PlaceOfTheory) (i : ℕ) (x p : PlaceOfTheory) (kept : List PlaceOfTheory) → i < length known → x ≡ get_or known i x → p ≡ x → kept ≡ take i known → kept ++ p ∷ [] ≡ take (i + 1) known
+pub known_next : (known : List PlaceOfTheory) (i : ℕ) (x p : PlaceOfTheory) (kept : List PlaceOfTheory) → i < length known → x ≡ get_or known i x
+    → p ≡ x → kept ≡ take i known → kept ++ p ∷ [] ≡ take (i + 1) known
 known_next known i x p kept lt e same is =
     ap (λ l. l ++ p ∷ []) is ∙ ap (λ q. take i known ++ q ∷ []) same ∙ sym (take_more known i x lt ∙ ap (λ q. take i known ++ q ∷ []) (sym e))

@@ -40,7 +40,8 @@ use Rattle.rg_case_parts.specs.declared.setting.CaseSetting.{CaseSetting}
 use Rattle.rg_separate.specs.Casing.{IsCase, IsNamedSystem, forms_in, AreRefuting, VisitStands, IsMadeOf, sides_among, SharesFold, LeafPasses}
 use Rattle.rg_separate.specs.Passing.{passed_at}
 use Rattle.rg_separate.proofs.Factors.{weights_are, weights_few}
-use Rattle.rg_separate.proofs.PlaceOfPoint.{asked, case_over}
+use Rattle.rg_separate.proofs.PlaceOfPoint.{case_over}
+use Rattle.rg_outcome.proofs.Inseparable.{asked}
 use Rattle.rg_separate.proofs.Walking.{IsWalk, walk_leaf}
 use Rattle.rg_cert_meaning.specs.declared.RowName.{RowName}
 use Rattle.rg_cert_meaning.specs.declared.Form.TheVariants as split_form
@@ -48,17 +49,21 @@ use Rattle.rg_cert_meaning.specs.declared.Form.TheVariants as split_form
 -- ---- the forms of a class are of the system
 
 pub forms_of_system : (lts : System) (class : Class) (problem : Problem) → All (IsFormOf lts) (split_forms lts class problem)
-forms_of_system lts class problem i d lt = by (get_or (split_forms lts class problem) i d) (split_is lts class problem (get_or (split_forms lts class problem) i d) (i, lt, get_or_default (split_forms lts class problem) i (get_or (split_forms lts class problem) i d) d lt))
+forms_of_system lts class problem i d lt = by (get_or (split_forms lts class problem) i d)
+    (split_is lts class problem (get_or (split_forms lts class problem) i d)
+    (i, lt, get_or_default (split_forms lts class problem) i (get_or (split_forms lts class problem) i d) d lt))
   where
     by : (split : SplitForm) → IsSplitOf lts class problem split → IsFormOf lts split
     by (split_form.Tokens q) (bound, below) = below
     by (split_form.Effect t) (bound, plain, used, below) = below
     by split_form.Start splits = tt
 
-pub sides_of_system : (lts : System) (class : Class) (problem : Problem) (sides : List SplitSide) → All (λ side. side.form < length (split_forms lts class problem)) sides → All (λ s. IsFormOf lts s.form) (named_sides lts class problem sides)
+pub sides_of_system : (lts : System) (class : Class) (problem : Problem) (sides : List SplitSide)
+    → All (λ side. side.form < length (split_forms lts class problem)) sides → All (λ s. IsFormOf lts s.form) (named_sides lts class problem sides)
 sides_of_system lts class problem sides all =
     All-map (λ (s : Side). IsFormOf lts s.form) (named_side lts class problem) sides
-    (All-weaker (λ (side : SplitSide). side.form < length (split_forms lts class problem)) (λ (side : SplitSide). IsFormOf lts (slice_index_or (split_forms lts class problem) side.form (split_form.Tokens 0)))
+    (All-weaker (λ (side : SplitSide). side.form < length (split_forms lts class problem))
+    (λ (side : SplitSide). IsFormOf lts (slice_index_or (split_forms lts class problem) side.form (split_form.Tokens 0)))
     (λ side lt. forms_of_system lts class problem side.form (split_form.Tokens 0) lt) sides all)
 
 -- ---- what is shown where a leaf passes
@@ -98,14 +103,18 @@ leaf_shown c named nodes i above made (split_node f u) w is system walk lt here 
 -- ---- what a leaf is asked for
 
 -- the node of the case, its weights and its sides
-refuting_case : (c : CaseSetting) (named : NamedRows) (system : IsNamedSystem c named) (sides : List SplitSide) (weights : List Weight) → AreRefuting (node_system named.system (forms_in named) sides) weights → AreRefuting (node_system (rows_of system.case) system.case.forms sides) weights
-refuting_case c named system sides weights are = subst (λ s. AreRefuting (node_system s system.case.forms sides) weights) system.shows.system (subst (λ fs. AreRefuting (node_system named.system fs sides) weights) system.shows.forms are)
+refuting_case : (c : CaseSetting) (named : NamedRows) (system : IsNamedSystem c named) (sides : List SplitSide) (weights : List Weight)
+    → AreRefuting (node_system named.system (forms_in named) sides) weights → AreRefuting (node_system (rows_of system.case) system.case.forms sides) weights
+refuting_case c named system sides weights are =
+    subst (λ s. AreRefuting (node_system s system.case.forms sides) weights) system.shows.system
+    (subst (λ fs. AreRefuting (node_system named.system fs sides) weights) system.shows.forms are)
 
 -- the shares with the sides by their names in the class
 pub shares_named : (c : CaseSetting) (named : NamedRows) (system : IsNamedSystem c named) (sides : List SplitSide) (weights : List Weight)
     (result : Result (List Share) Wide) → SharesFold named sides weights result → (case : CaseSystem)
     → ShowsCase named case → each (share_fold case sides (named_sides c.setting.lts.now c.setting.class c.problem sides)) weights result
-shares_named c named system sides weights result fold case shows = subst (λ (ss : List Side). each (share_fold case sides ss) weights result) (ap (λ fs. sides_among fs sides) system.by_name) (fold case shows)
+shares_named c named system sides weights result fold case shows =
+    subst (λ (ss : List Side). each (share_fold case sides ss) weights result) (ap (λ fs. sides_among fs sides) system.by_name) (fold case shows)
 
 pub leaf_asked : (c : CaseSetting) (named : NamedRows) (sides : List SplitSide) (above : List Side) (weights : List Weight)
     (shares : List (RowName × Fraction)) → IsCase c → IsNamedSystem c named
@@ -124,10 +133,14 @@ leaf_asked c named sides above weights shares is system stands by_name count fol
       (sides_of_system lts class problem sides
       (All-weaker (IsSideOf (forms_in named)) (λ (s : SplitSide). s.form < length (split_forms lts class problem))
       (λ s at. (let e = forms_many in let l = at.form in omega arith)) sides stands.sides.each));
-  stand = subst (λ ss. All (λ (s : Share). RowStands lts class problem number ss s.name) (map share_of shares)) (sym by_name) (node_names_stand (shown_case c) system.case over sides within refuting.multiplier (map share_of shares) made);
+  stand = subst (λ ss. All (λ (s : Share). RowStands lts class problem number ss s.name) (map share_of shares)) (sym by_name)
+      (node_names_stand (shown_case c) system.case over sides within refuting.multiplier (map share_of shares) made);
   names = node_names_in_range (shown_case c) system.case over sides within (let f = stands.few in omega arith) refuting.multiplier (map share_of shares) made;
-  refute = subst (λ ss. SharesRefute lts (row_expression lts class problem number ss) (map share_of shares)) (sym by_name) (node_shares_refute (shown_case c) system.case over sides within is.live refuting.multiplier refuting.refute (map share_of shares) made);
-  few_rows = (let w = ap length refuting.weights_are in let f = weights_few refuting.multiplier 0 (length (node_system (rows_of system.case) system.case.forms sides).rows) in let g = refuting.few in let e = count in omega arith);
+  refute = subst (λ ss. SharesRefute lts (row_expression lts class problem number ss) (map share_of shares)) (sym by_name)
+      (node_shares_refute (shown_case c) system.case over sides within is.live refuting.multiplier refuting.refute (map share_of shares) made);
+  few_rows = (let w = ap length refuting.weights_are in
+      let f = weights_few refuting.multiplier 0 (length (node_system (rows_of system.case) system.case.forms sides).rows) in let g = refuting.few in
+      let e = count in omega arith);
   few_sides = (let e = ap length by_name ∙ length-map sides (named_side lts class problem) in let f = stands.few in omega arith);
 }
   where
@@ -155,15 +168,19 @@ leaf_asked c named sides above weights shares is system stands by_name count fol
     within : All (λ side. side.form < length system.case.forms) sides
     within = All-weaker (IsSideOf (forms_in named)) (λ (s : SplitSide). s.form < length system.case.forms) (λ s at. subst (λ fs. s.form < length fs) system.shows.forms at.form) sides stands.sides.each
 
-    made : each (share_fold system.case sides (named_sides lts class problem sides)) (weights_from refuting.multiplier 0 (length (node_system (rows_of system.case) system.case.forms sides).rows)) (Ok (map share_of shares))
-    made = subst (λ ws. each (share_fold system.case sides (named_sides lts class problem sides)) ws (Ok (map share_of shares))) refuting.weights_are (shares_named c named system sides weights (Ok (map share_of shares)) fold system.case system.shows)
+    made : each (share_fold system.case sides (named_sides lts class problem sides))
+        (weights_from refuting.multiplier 0 (length (node_system (rows_of system.case) system.case.forms sides).rows)) (Ok (map share_of shares))
+    made = subst (λ ws. each (share_fold system.case sides (named_sides lts class problem sides)) ws (Ok (map share_of shares))) refuting.weights_are
+        (shares_named c named system sides weights (Ok (map share_of shares)) fold system.case system.shows)
 
 -- ---- the leaf that is made
 
 pub leaf_made : (c : CaseSetting) (named : NamedRows) (sides : List SplitSide) (above : List Side) (weights : List Weight) (shares : List Share) (n : reasons.TreeNode)
     → IsNamedSystem c named → above ≡ named_sides c.setting.lts.now c.setting.class c.problem sides → SharesFold named sides weights (Ok shares)
-    → IsLeafWith (λ rows. leaf_fold c.setting.lts.now c.setting.tree.now.arcs (cycle_of c.setting.basis.now) (row_expression c.setting.lts.now c.setting.class c.problem c.number above) shares (Ok rows)) n
-    → IsLeafWith (LeafRefutes (RowStands c.setting.lts.now c.setting.class c.problem c.number above) (row_expression c.setting.lts.now c.setting.class c.problem c.number above)) n → IsMadeOf c named sides (leaf_node weights) n
+    → IsLeafWith (λ rows. leaf_fold c.setting.lts.now c.setting.tree.now.arcs (cycle_of c.setting.basis.now)
+    (row_expression c.setting.lts.now c.setting.class c.problem c.number above) shares (Ok rows)) n
+    → IsLeafWith (LeafRefutes (RowStands c.setting.lts.now c.setting.class c.problem c.number above)
+    (row_expression c.setting.lts.now c.setting.class c.problem c.number above)) n → IsMadeOf c named sides (leaf_node weights) n
 leaf_made c named sides above weights shares (leaf_node rows) system e fold leaf is = record {
   refutes = subst (λ ss. LeafRefutes (RowStands c.setting.lts.now c.setting.class c.problem c.number ss) (row_expression c.setting.lts.now c.setting.class c.problem c.number ss) rows) e is;
   spreads = λ case shows. (
@@ -188,7 +205,8 @@ lows_of it (s ∷ splits) forms (x, (scaled, made, is), (more, rest, e)) =
     low (split_form.Effect t) = omega (arith, ints)
     low split_form.Start = omega (arith, ints)
 
-pub split_fits : (c : CaseSetting) (named : NamedRows) (f : ℕ) (u : ℤ) (d : NamedForm) → IsNamedSystem c named → f < length (forms_in named) → (form_at (forms_in named) f).low ≤ℤ u → FitsSigned w64 u → IsNodeOf c.setting.lts.now (split_node (get_or named.forms f d).form u)
+pub split_fits : (c : CaseSetting) (named : NamedRows) (f : ℕ) (u : ℤ) (d : NamedForm) → IsNamedSystem c named → f < length (forms_in named)
+    → (form_at (forms_in named) f).low ≤ℤ u → FitsSigned w64 u → IsNodeOf c.setting.lts.now (split_node (get_or named.forms f d).form u)
 split_fits c named f u d system lt le fits = (
   subst (IsFormOf c.setting.lts.now) (ap (λ fs. get_or fs f (split_form.Tokens 0)) (sym system.by_name) ∙ get_or-map split_of named.forms f d (split_form.Tokens 0) within)
       (forms_of_system c.setting.lts.now c.setting.class c.problem f (split_form.Tokens 0)
@@ -211,13 +229,15 @@ split_fits c named f u d system lt le fits = (
     above (negsuc n) fits le = (let e : n ≡ 0 = omega (arith, ints) in omega arith)
 
 -- the weights of a leaf that stands: their rows are those of its node, and their multipliers are in range
-pub leaf_rows : (c : CaseSetting) (named : NamedRows) (sides : List SplitSide) (weights : List Weight) → AreRefuting (node_system named.system (forms_in named) sides) weights → All (λ w. w.row < length named.system.rows + length sides) weights
+pub leaf_rows : (c : CaseSetting) (named : NamedRows) (sides : List SplitSide) (weights : List Weight)
+    → AreRefuting (node_system named.system (forms_in named) sides) weights → All (λ w. w.row < length named.system.rows + length sides) weights
 leaf_rows c named sides weights are = subst (All (λ (w : Weight). w.row < length named.system.rows + length sides)) (sym are.weights_are)
     (weights_are are.multiplier (λ (w : Weight). w.row < length named.system.rows + length sides) 0 (length (node_system named.system (forms_in named) sides).rows)
     (length named.system.rows + length sides)
     (let e = length-append named.system.rows (map (side_row (forms_in named)) sides) in let g = length-map sides (side_row (forms_in named)) in omega arith) (λ i lt. lt))
 
-pub leaf_not_negative : (c : CaseSetting) (named : NamedRows) (sides : List SplitSide) (weights : List Weight) → AreRefuting (node_system named.system (forms_in named) sides) weights → All (λ w. pos 0 ≤ℤ w.multiplier) weights
+pub leaf_not_negative : (c : CaseSetting) (named : NamedRows) (sides : List SplitSide) (weights : List Weight)
+    → AreRefuting (node_system named.system (forms_in named) sides) weights → All (λ w. pos 0 ≤ℤ w.multiplier) weights
 leaf_not_negative c named sides weights are = subst (All (λ (w : Weight). pos 0 ≤ℤ w.multiplier)) (sym are.weights_are)
     (weights_are are.multiplier (λ (w : Weight). pos 0 ≤ℤ w.multiplier) 0 (length (node_system named.system (forms_in named) sides).rows)
     (length (node_system named.system (forms_in named) sides).rows) (omega arith) are.refute.not_negative)

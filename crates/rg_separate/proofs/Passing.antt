@@ -40,7 +40,8 @@ pivot_shown c named sides members at is system stops = record {
   };
   sides = sides;
   at = wide_at members at;
-  stops = subst (λ s. Branching s system.case.forms (stopped sides (wide_at members at))) system.shows.system (subst (λ fs. Branching named.system fs (stopped sides (wide_at members at))) system.shows.forms stops);
+  stops = subst (λ s. Branching s system.case.forms (stopped sides (wide_at members at))) system.shows.system
+      (subst (λ fs. Branching named.system fs (stopped sides (wide_at members at))) system.shows.forms stops);
   above_is = refl;
   stands = record { members = refl; pivot = refl; leaves = refl; target = refl; entry = refl; wide = refl };
 }
@@ -49,7 +50,9 @@ pivot_shown c named sides members at is system stops = record {
 pub pivot_comes : (c : CaseSetting) (named : NamedRows) (sides : List SplitSide) (at : WideAt) → (system : IsNamedSystem c named)
     → Branching named.system (forms_in named) (stopped sides at)
     → CaseComes (shown_case c) (passes (term_at c.problem c.number (named_sides c.setting.lts.now c.setting.class c.problem sides) at))
-pivot_comes c named sides at system stops = pivot_passes system.case sides at system.made (subst (λ s. Branching s system.case.forms (stopped sides at)) system.shows.system (subst (λ fs. Branching named.system fs (stopped sides at)) system.shows.forms stops))
+pivot_comes c named sides at system stops = pivot_passes system.case sides at system.made
+    (subst (λ s. Branching s system.case.forms (stopped sides at)) system.shows.system
+    (subst (λ fs. Branching named.system fs (stopped sides at)) system.shows.forms stops))
 
 -- the step that the rows of the case show
 pub row_shown : (c : CaseSetting) (w : Wide) → IsCase c → system_fold (shown_case c) (Err w) → RowShown c.setting.lts.now c.setting.class (passed_at Row c [] w)
@@ -66,9 +69,11 @@ row_shown c w is fails = record {
 }
 
 -- the term that the walk over the chords shows
-pub cycle_shown : (lts : System) (tree : List Arc) (vectors : List (List ℤ)) (n : ℕ) (w : CycleWide) → IsTree lts tree → vectors ≡ chord_vectors lts tree → n ≡ labels lts → PassesAt n vectors (shown_term w) → CycleShown lts (cycle_passed w)
+pub cycle_shown : (lts : System) (tree : List Arc) (vectors : List (List ℤ)) (n : ℕ) (w : CycleWide) → IsTree lts tree
+    → vectors ≡ chord_vectors lts tree → n ≡ labels lts → PassesAt n vectors (shown_term w) → CycleShown lts (cycle_passed w)
 cycle_shown lts tree vectors n w is are count fails =
-    let at : PassesAt (labels lts) (chord_vectors lts tree) (shown_term w) = subst (λ k. PassesAt k (chord_vectors lts tree) (shown_term w)) count (subst (λ vs. PassesAt n vs (shown_term w)) are fails) in
+    let at : PassesAt (labels lts) (chord_vectors lts tree) (shown_term w) =
+    subst (λ k. PassesAt k (chord_vectors lts tree) (shown_term w)) count (subst (λ vs. PassesAt n vs (shown_term w)) are fails) in
     record {
       arcs = tree;
       kept = at.kept;

@@ -4,10 +4,6 @@ use Rattle.std.specs.Prelude.{pos}
 use Rattle.std.proofs.lemmas.List.{get_or-map}
 use Rattle.rg_theory.specs.System.{System}
 use Rattle.rg_theory.specs.declared.Class.{Class}
-use Rattle.rg_theory.specs.declared.Problem.{Problem}
-use Rattle.rg_theory.specs.declared.Problem.TheVariants.{Event, States}
-use Rattle.rg_theory.specs.Problem.{IsProblem}
-use Rattle.rg_cert_meaning.specs.Refutes.{IsSeparationProblem}
 use Rattle.rg_integers.specs.Value.{SameValue}
 use Rattle.rg_integers.specs.declared.term.Wide.{Wide}
 use Rattle.rg_fraction.specs.declared.fraction.Fraction.{Fraction}
@@ -38,11 +34,7 @@ use Rattle.rg_case_parts.specs.declared.setting.CaseSetting.{CaseSetting}
 use Rattle.rg_separate.specs.Casing.{IsCase, IsNamedSystem, forms_in}
 use Rattle.rg_separate.specs.Passing.{passed_at}
 use Rattle.rg_separate.proofs.PointValues.{value_at}
-
--- a problem of the system is asked
-pub asked : (lts : System) (problem : Problem) → IsProblem lts problem → IsSeparationProblem lts problem
-asked lts (Event s t) h = h
-asked lts (States s s') (less, lt) = ((let l = less in omega arith), lt, λ e. (omega arith))
+use Rattle.rg_outcome.proofs.Inseparable.{asked}
 
 pub case_over : (c : CaseSetting) (named : NamedRows) → IsCase c → (system : IsNamedSystem c named) → IsCaseOver (shown_case c) system.case
 case_over c named is system = record {
@@ -65,7 +57,8 @@ ratio_is [] j P lt each = absurd (omega arith)
 ratio_is (f ∷ point) j P lt each = subst P (sym (get_or-map ratio_of (f ∷ point) j f (whole (pos 0)) lt)) (each f)
 
 -- the point solves the case
-pub solves : (c : CaseSetting) (named : NamedRows) (point : List Fraction) → IsCase c → IsNamedSystem c named → IsWholeSolution named.system (forms_in named) point → SolvesCase (shown_setting c.setting) c.problem point
+pub solves : (c : CaseSetting) (named : NamedRows) (point : List Fraction) → IsCase c → IsNamedSystem c named
+    → IsWholeSolution named.system (forms_in named) point → SolvesCase (shown_setting c.setting) c.problem point
 solves c named point is system at = record {
   number = c.number;
   case = system.case;
@@ -79,7 +72,8 @@ solves c named point is system at = record {
 }
 
 -- the set at which a branching ends has its dictionary
-found_has : (system : LinearSystem) (forms : List Form) (sides : List SplitSide) (members : List ℕ) → Branching system forms (found members sides) → HasDictionary (node_system system forms sides) members
+found_has : (system : LinearSystem) (forms : List Form) (sides : List SplitSide) (members : List ℕ) → Branching system forms (found members sides)
+    → HasDictionary (node_system system forms sides) members
 found_has system forms sides members b =
     let node = node_system system forms sides in
     descent_has node (column_set node) [] (length node.rows) 0 (descent.Outcome.point members) (found_well system forms [] (found members sides) b).descent (columns_have node)
@@ -90,28 +84,37 @@ point_is : (lts : System) (basis : CycleBasis) (class : Class) (node : LinearSys
     (point_value lts basis class point)
 point_is lts basis class node members point has are count =
     point_of lts basis class point (are.one_each ∙ count) node members
-    (λ j lt. ratio_is point j (IsValueAt node members j) lt (λ f. value_at node members has j (get_or point j f) (let e = are.one_each in omega arith) (λ scale v basic. are.each j f lt scale v basic)))
+    (λ j lt. ratio_is point j (IsValueAt node members j) lt
+    (λ f. value_at node members has j (get_or point j f) (let e = are.one_each in omega arith) (λ scale v basic. are.each j f lt scale v basic)))
 
 module _ (c : CaseSetting) (named : NamedRows) (sides : List SplitSide) (point : List Fraction) (system : IsNamedSystem c named) (at : IsFoundPoint named.system (forms_in named) sides point) where
   case_found : Branching (rows_of system.case) system.case.forms (found at.members sides)
   case_found = subst (λ s. Branching s system.case.forms (found at.members sides)) system.shows.system (subst (λ fs. Branching named.system fs (found at.members sides)) system.shows.forms at.outcome)
 
-  case_point : PointOf c.setting.lts.now (cycle_of c.setting.basis.now) c.setting.class (node_system (rows_of system.case) system.case.forms sides) at.members (point_start c.setting.class point) (point_value c.setting.lts.now (cycle_of c.setting.basis.now) c.setting.class point)
-  case_point = subst (λ s. PointOf c.setting.lts.now (cycle_of c.setting.basis.now) c.setting.class (node_system s system.case.forms sides) at.members (point_start c.setting.class point) (point_value c.setting.lts.now (cycle_of c.setting.basis.now) c.setting.class point)) system.shows.system
-      (subst (λ fs. PointOf c.setting.lts.now (cycle_of c.setting.basis.now) c.setting.class (node_system named.system fs sides) at.members (point_start c.setting.class point) (point_value c.setting.lts.now (cycle_of c.setting.basis.now) c.setting.class point)) system.shows.forms
-      (point_is c.setting.lts.now (cycle_of c.setting.basis.now) c.setting.class (node_system named.system (forms_in named) sides) at.members point (found_has named.system (forms_in named) sides at.members at.outcome) at.values_are (case_columns c named system)))
+  case_point : PointOf c.setting.lts.now (cycle_of c.setting.basis.now) c.setting.class
+      (node_system (rows_of system.case) system.case.forms sides) at.members (point_start c.setting.class point)
+      (point_value c.setting.lts.now (cycle_of c.setting.basis.now) c.setting.class point)
+  case_point = subst (λ s. PointOf c.setting.lts.now (cycle_of c.setting.basis.now) c.setting.class
+      (node_system s system.case.forms sides) at.members (point_start c.setting.class point)
+      (point_value c.setting.lts.now (cycle_of c.setting.basis.now) c.setting.class point)) system.shows.system
+      (subst (λ fs. PointOf c.setting.lts.now (cycle_of c.setting.basis.now) c.setting.class (node_system named.system fs sides) at.members
+      (point_start c.setting.class point) (point_value c.setting.lts.now (cycle_of c.setting.basis.now) c.setting.class point)) system.shows.forms
+      (point_is c.setting.lts.now (cycle_of c.setting.basis.now) c.setting.class (node_system named.system (forms_in named) sides) at.members point
+      (found_has named.system (forms_in named) sides at.members at.outcome) at.values_are (case_columns c named system)))
 
   -- the case comes to the place of the point, or to its first step out of range
   pub place_comes : (p : Place) → place_fold (shown_setting c.setting) c.problem
       (point_start c.setting.class point) (point_value c.setting.lts.now (cycle_of c.setting.basis.now) c.setting.class point) (Ok p)
       → CaseComes (shown_case c) (makes p)
-  place_comes p fold = place_is_made system.case at.members sides (point_start c.setting.class point) (point_value c.setting.lts.now (cycle_of c.setting.basis.now) c.setting.class point) p system.made case_found case_point fold
+  place_comes p fold = place_is_made system.case at.members sides (point_start c.setting.class point)
+      (point_value c.setting.lts.now (cycle_of c.setting.basis.now) c.setting.class point) p system.made case_found case_point fold
 
   pub place_fails : (w : Wide) → place_fold (shown_setting c.setting) c.problem
       (point_start c.setting.class point) (point_value c.setting.lts.now (cycle_of c.setting.basis.now) c.setting.class point) (Err w)
       → CaseComes (shown_case c)
       (passes (passed_at PlaceStage c (named_sides c.setting.lts.now c.setting.class c.problem sides) w))
-  place_fails w fold = place_passes system.case at.members sides (point_start c.setting.class point) (point_value c.setting.lts.now (cycle_of c.setting.basis.now) c.setting.class point) w system.made case_found case_point fold
+  place_fails w fold = place_passes system.case at.members sides (point_start c.setting.class point)
+      (point_value c.setting.lts.now (cycle_of c.setting.basis.now) c.setting.class point) w system.made case_found case_point fold
 
 -- the step that the place of the point shows
 pub place_shown : (c : CaseSetting) (named : NamedRows) (sides : List SplitSide) (fractions : List Fraction) (w : Wide) → IsCase c → IsNamedSystem c named

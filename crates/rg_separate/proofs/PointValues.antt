@@ -25,7 +25,8 @@ module _ (system : LinearSystem) (members : List ℕ) (has : HasDictionary syste
       let zero_is : IsValue f (pos 0) scale = subst (λ z. IsValue f z scale) (basic.zero j member) at in
       ratio_one (ratio_of f) (whole (pos 0)) (pos 0) scale (new_step f (pos 0) scale ne zero_is) (whole_ratio (pos 0) (pos 0) scale ne (zero-*ℤ scale))
 
-  value_relation : (j : ℕ) (f : Fraction) (k : Relation) (scale : ℤ) (v : ℕ → ℤ) → IsBasicPoint system members scale v → IsValue f (v j) scale → DictionaryRow system members j k → IsRatio (ratio_of f) k.constant k.d
+  value_relation : (j : ℕ) (f : Fraction) (k : Relation) (scale : ℤ) (v : ℕ → ℤ) → IsBasicPoint system members scale v → IsValue f (v j) scale
+      → DictionaryRow system members j k → IsRatio (ratio_of f) k.constant k.d
   value_relation j f k scale v basic at row =
       let ne = positive_differs scale basic.point.positive in
       new_step f k.constant k.d (positive_differs k.d row.positive)

@@ -1,36 +1,21 @@
 -- A problem whose cases are all refuted is a reason.
-use Rattle.std.proofs.Common.{◌≡◌, ◌≢◌, ◌⊎◌, inl, inr, ℕ, zero, suc, ◌*◌, ◌<◌, Bool, true, false, if◌then◌else◌, List, [], ◌∷◌, length, map, get_or, All, Option, Some, None, option_map, slice_get, Vec, Global, refl, sym, subst, ◌∙◌, arith}
-use Rattle.std.proofs.lemmas.Bool.{cases_eq}
+use Rattle.std.proofs.Common.{◌≡◌, ℕ, zero, suc, ◌*◌, ◌<◌, Bool, true, false, if◌then◌else◌, List, [], ◌∷◌, length, map, get_or, All, Option, Some, None, option_map, slice_get, Vec, Global, refl, sym, subst, ◌∙◌, arith}
 use Rattle.std.proofs.lemmas.Option.{slice_get-get_or, slice_get-map}
 use Rattle.std.proofs.lemmas.List.{length-map}
 use Rattle.std.proofs.lemmas.List.Elements.{All-map}
-use Rattle.rg_theory.specs.System.{System, states, labels, IsInRange, Leads, IsAllReachable}
+use Rattle.rg_theory.specs.System.{System, states, labels, IsInRange, IsAllReachable}
 use Rattle.rg_theory.specs.declared.Class.{Class}
 use Rattle.rg_theory.specs.declared.Problem.{Problem}
 use Rattle.rg_theory.specs.declared.Problem.TheVariants.{Event, States}
 use Rattle.rg_theory.specs.Problem.{IsProblem}
 use Rattle.rg_theory.specs.ClassWords.{HasNumbersInRange}
-use Rattle.rg_theory.proofs.Arcs.{arc_in_range}
 use Rattle.rg_cert_meaning.specs.Row.{cases_of}
 use Rattle.rg_cert_meaning.specs.Refutes.{Tree, TreeRefutes}
 use Rattle.rg_cert_data.specs.declared.certificate.Case.{Case}
 use Rattle.rg_cert_data.specs.declared.certificate.Reason.TheVariants as reason
 use Rattle.rg_cert_data.specs.Certificates.{case_tree, IsTreeOf}
 use Rattle.rg_separate.specs.Deciding.{RefutesCase, IsGoodReason}
-
--- where there are two states, some label leads to the one that isn't initial
-first_label : (lts : System) → IsInRange lts → (ts : List ℕ) (s s' : ℕ) → Leads lts s ts s' → s ≢ s' → 0 < labels lts
-first_label lts fine [] s s' e differ = absurd (differ e)
-first_label lts fine (t ∷ ts) s s' (mid, has, rest) differ = let lt = (arc_in_range lts fine s t mid has).1 in omega arith
-
-pub some_label : (lts : System) (s s' : ℕ) → IsInRange lts → IsAllReachable lts → s < s' → s' < states lts → 0 < labels lts
-some_label lts s s' fine reachable less lt = go (cases_eq lts.initial s')
-  where
-    go : (lts.initial ≡ s') ⊎ (lts.initial ≢ s') → 0 < labels lts
-    go (inr differ) = let (ts, way) = reachable.each s' lt in first_label lts fine ts lts.initial s' way differ
-    go (inl same) =
-        let (ts, way) = reachable.each s (omega arith) in
-        first_label lts fine ts lts.initial s way (λ e. (let both = sym e ∙ same in omega arith))
+use Rattle.rg_outcome.proofs.Inseparable.{some_label}
 
 some_case : (lts : System) (class : Class) (s s' : ℕ) → 0 < labels lts → 0 < cases_of lts class (States s s')
 some_case lts class s s' lt = go class.nonbranching
@@ -47,7 +32,9 @@ tree_at cases i t e = by (slice_get cases i) refl (sym (slice_get-map case_tree 
     by None is e = absurd cc
     by (Some case) is e = (case, is, cc)
 
-each_case : (lts : System) (class : Class) (problem : Problem) (cases : List Case) → ((i : ℕ) (case : Case) → slice_get cases i ≡ Some case → RefutesCase lts class problem i case) → (i : ℕ) (t : Tree) → slice_get (map case_tree cases) i ≡ Some t → TreeRefutes lts class problem i [] t
+each_case : (lts : System) (class : Class) (problem : Problem) (cases : List Case)
+    → ((i : ℕ) (case : Case) → slice_get cases i ≡ Some case → RefutesCase lts class problem i case) → (i : ℕ) (t : Tree)
+    → slice_get (map case_tree cases) i ≡ Some t → TreeRefutes lts class problem i [] t
 each_case lts class problem cases all i t e =
     let (case, at, is) = tree_at cases i t e in
     subst (TreeRefutes lts class problem i []) is (all i case at).refutes
@@ -73,11 +60,13 @@ refuted_all lts class s s' cases fine reachable bounded (less, lt) count all =
       };
     }
 
-one_tree : (lts : System) (class : Class) (problem : Problem) (case : Case) → RefutesCase lts class problem 0 case → (i : ℕ) (t : Tree) → slice_get (case_tree case ∷ []) i ≡ Some t → TreeRefutes lts class problem i [] t
+one_tree : (lts : System) (class : Class) (problem : Problem) (case : Case) → RefutesCase lts class problem 0 case → (i : ℕ) (t : Tree)
+    → slice_get (case_tree case ∷ []) i ≡ Some t → TreeRefutes lts class problem i [] t
 one_tree lts class problem case is zero t e = subst (TreeRefutes lts class problem 0 []) (let f : case_tree case ≡ t = cc in f) is.refutes
 one_tree lts class problem case is (suc i) t e = absurd cc
 
-pub refuted_one : (lts : System) (class : Class) (s t : ℕ) (case : Case) → HasNumbersInRange class → IsProblem lts (Event s t) → RefutesCase lts class (Event s t) 0 case → IsGoodReason lts class (reason.Event s t case)
+pub refuted_one : (lts : System) (class : Class) (s t : ℕ) (case : Case) → HasNumbersInRange class → IsProblem lts (Event s t)
+    → RefutesCase lts class (Event s t) 0 case → IsGoodReason lts class (reason.Event s t case)
 refuted_one lts class s t case bounded asked is =
     record {
       holds = record { asked = asked; cases = refl; some = omega arith; each = one_tree lts class (Event s t) case is };

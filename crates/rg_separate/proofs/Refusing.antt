@@ -73,11 +73,13 @@ pub not_refused : (s : Setting) (is : IsSetting s) (kept : List Place) → s.cla
 not_refused s is kept e are finds o searched =
     found_none s is kept (regions_in s.lts.now s.class kept e are) finds o (subst (λ c. Searched s.lts.now c o) (sym e) searched)
 
-pub refused_by : (s : Setting) (is : IsSetting s) (kept : List Place) (q : Problem) → s.class ≡ no_condition → All (IsKept s.lts.now) kept → FindsRefuted s.lts.now (comes_of s) kept (Some q) → EndsRefuted s q
+pub refused_by : (s : Setting) (is : IsSetting s) (kept : List Place) (q : Problem) → s.class ≡ no_condition → All (IsKept s.lts.now) kept
+    → FindsRefuted s.lts.now (comes_of s) kept (Some q) → EndsRefuted s q
 refused_by s is kept q e are finds = found_refuted s is kept (regions_in s.lts.now s.class kept e are) q finds
 
 -- the certificate and the places that are kept then
-pub refusal_of : (s : Setting) (certificate : Certificate) (found : Vec Place Global) → s.class ≡ no_condition → IsSearched s.lts.now s.class (an_unsolvable certificate) → IsGoodCertificate s.lts.now s.class certificate
+pub refusal_of : (s : Setting) (certificate : Certificate) (found : Vec Place Global) → s.class ≡ no_condition
+    → IsSearched s.lts.now s.class (an_unsolvable certificate) → IsGoodCertificate s.lts.now s.class certificate
     → All (IsKept s.lts.now) found.items → IsRefusedBy s.lts.now (record { certificate = certificate; places = found })
 refusal_of s certificate found e searched good kept = record {
   searched = subst (λ c. IsSearched s.lts.now c (an_unsolvable certificate)) e searched;

@@ -25,7 +25,8 @@ narrow lts class p reachable kept (m, region) = record {
 }
 
 -- the places with which the search ends are regions that separate all problems
-pub separating : (lts : System) (class : Class) (kept : List Place) (firsts : List Firsts) (separated : Separated) → IsInRange lts → HasNumbersInRange class → AreKept lts kept firsts separated → length kept < 4294967296 → Searched lts class (places kept) → AreSeparating lts class kept
+pub separating : (lts : System) (class : Class) (kept : List Place) (firsts : List Firsts) (separated : Separated) → IsInRange lts
+    → HasNumbersInRange class → AreKept lts kept firsts separated → length kept < 4294967296 → Searched lts class (places kept) → AreSeparating lts class kept
 separating lts class kept firsts separated fine numbers are few searched = record {
   regions = λ i d lt. narrow lts class (get_or kept i d) are.reachable (are.each i d lt) (right.0 i d lt);
   in_range = record {

@@ -24,7 +24,8 @@ pub sides_more : (forms : List NamedForm) (above : List SplitSide) (i : ℕ) (d 
     sides_among (map split_of forms) (take (i + 1) above)
 sides_more forms above i d f sides lt within so_far =
     ap (λ xs. xs ++ record { form = split_of (get_or forms (get_or above i d).form f); at = (get_or above i d).at; high = (get_or above i d).high } ∷ []) so_far
-    ∙ ap (λ g. sides_among (map split_of forms) (take i above) ++ record { form = g; at = (get_or above i d).at; high = (get_or above i d).high } ∷ []) (sym (get_or-map split_of forms (get_or above i d).form f (split_form.Tokens 0) within))
+    ∙ ap (λ g. sides_among (map split_of forms) (take i above) ++ record { form = g; at = (get_or above i d).at; high = (get_or above i d).high }
+    ∷ []) (sym (get_or-map split_of forms (get_or above i d).form f (split_form.Tokens 0) within))
     ∙ sym (ap (sides_among (map split_of forms)) (take_more above i d lt) ∙ map-append (named (map split_of forms)) (take i above) (get_or above i d ∷ []))
 
 -- one more side as a triple
@@ -42,7 +43,8 @@ sides_on_forms forms above (side ∷ sides) (here, within) = All-cons (λ (s : S
 
 -- as many as are named
 pub sides_on_named : (forms : List NamedForm) (sides : List SplitSide) → All (λ s. s.form < length (map linear_form forms)) sides → All (λ s. s.form < length forms) sides
-sides_on_named forms sides all = All-weaker (λ (s : SplitSide). s.form < length (map linear_form forms)) (λ (s : SplitSide). s.form < length forms) (λ s lt. (let e = length-map forms linear_form in omega arith)) sides all
+sides_on_named forms sides all = All-weaker (λ (s : SplitSide). s.form < length (map linear_form forms)) (λ (s : SplitSide). s.form < length forms)
+    (λ s lt. (let e = length-map forms linear_form in omega arith)) sides all
 
 -- what holds of the weights holds of each
 pub weight_is : (P : Weight → Type 0) (weights : List (ℕ × ℤ)) (i : ℕ) (d : ℕ × ℤ) → All P (map weight_of weights) → i < length weights → P (weight_of (get_or weights i d))

@@ -14,7 +14,8 @@ use Rattle.rg_separate.specs.View.{shown_of}
 use Rattle.rg_separate.specs.Deciding.{RefutesCase, AreTried}
 
 -- all cases before, and one more
-pub case_more : (P : ℕ → Case → Type 0) (xs : List Case) (x : Case) → ((i : ℕ) (y : Case) → slice_get xs i ≡ Some y → P i y) → P (length xs) x → (i : ℕ) (y : Case) → slice_get (xs ++ x ∷ []) i ≡ Some y → P i y
+pub case_more : (P : ℕ → Case → Type 0) (xs : List Case) (x : Case) → ((i : ℕ) (y : Case) → slice_get xs i ≡ Some y → P i y) → P (length xs) x
+    → (i : ℕ) (y : Case) → slice_get (xs ++ x ∷ []) i ≡ Some y → P i y
 case_more P xs x each here i y at = go (cases_lt i (length xs))
   where
     lt : i < length (xs ++ x ∷ [])
@@ -36,11 +37,13 @@ pub tried_refuted : (lts : System) (class : Class) (problem : Problem) (n : ℕ)
     (n + 1) after
 tried_refuted lts class problem n before after case tried items same refutes = record {
   all = λ none. ap length items ∙ length-append before.refuted.items (case ∷ []) ∙ (let e = tried.all (sym same ∙ none) in omega arith);
-  refuted = λ none i other at. case_more (RefutesCase lts class problem) before.refuted.items case (tried.refuted (sym same ∙ none)) (subst (λ k. RefutesCase lts class problem k case) (sym (tried.all (sym same ∙ none))) refutes) i other (subst (λ xs. slice_get xs i ≡ Some other) items at);
+  refuted = λ none i other at. case_more (RefutesCase lts class problem) before.refuted.items case (tried.refuted (sym same ∙ none))
+      (subst (λ k. RefutesCase lts class problem k case) (sym (tried.all (sym same ∙ none))) refutes) i other (subst (λ xs. slice_get xs i ≡ Some other) items at);
   passed = subst (λ o. IfSome o (λ w. ShownWide lts class (shown_of w))) (sym same) tried.passed;
 }
 
-pub tried_passed : (lts : System) (class : Class) (problem : Problem) (n m : ℕ) (before after : Tried) (at : WideAt) → AreTried lts class problem n before → after.passed ≡ Some (unwrap_or before.passed at) → ShownWide lts class (shown_of at) → AreTried lts class problem m after
+pub tried_passed : (lts : System) (class : Class) (problem : Problem) (n m : ℕ) (before after : Tried) (at : WideAt)
+    → AreTried lts class problem n before → after.passed ≡ Some (unwrap_or before.passed at) → ShownWide lts class (shown_of at) → AreTried lts class problem m after
 tried_passed lts class problem n m before after at tried is shown = record {
   all = λ none. absurd (let e = sym is ∙ none in cc);
   refuted = λ none. absurd (let e = sym is ∙ none in cc);

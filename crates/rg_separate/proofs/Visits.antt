@@ -53,13 +53,17 @@ abbrev pub IsLeafOf : List SplitSide → SplitTree → Visit → Type 0
 IsLeafOf above t v = (weights : List Weight) → v.node ≡ leaf_node weights → HasLeaf above t v.above weights
 
 pub leaves_visited : (above : List SplitSide) (t : SplitTree) → All (IsLeafOf above t) (placed_nodes above t)
-leaves_visited above (leaf weights) = All-cons (IsLeafOf above (leaf weights)) (record { above = above; node = leaf_node weights }) [] (λ out e. (refl, (let same : out ≡ weights = cc in same))) (All-nil (IsLeafOf above (leaf weights)))
+leaves_visited above (leaf weights) = All-cons (IsLeafOf above (leaf weights)) (record { above = above; node = leaf_node weights }) []
+    (λ out e. (refl, (let same : out ≡ weights = cc in same))) (All-nil (IsLeafOf above (leaf weights)))
 leaves_visited above (split f u low high) =
     let t = split f u low high in
-    All-cons (IsLeafOf above t) (record { above = above; node = split_node f u }) (placed_nodes (above ++ low_side f u ∷ []) low ++ placed_nodes (above ++ high_side f u ∷ []) high) (λ out e. absurd cc)
+    All-cons (IsLeafOf above t) (record { above = above; node = split_node f u })
+    (placed_nodes (above ++ low_side f u ∷ []) low ++ placed_nodes (above ++ high_side f u ∷ []) high) (λ out e. absurd cc)
     (All-append (IsLeafOf above t) (placed_nodes (above ++ low_side f u ∷ []) low) (placed_nodes (above ++ high_side f u ∷ []) high)
-    (All-weaker (IsLeafOf (above ++ low_side f u ∷ []) low) (IsLeafOf above t) (λ v is out e. inl (is out e)) (placed_nodes (above ++ low_side f u ∷ []) low) (leaves_visited (above ++ low_side f u ∷ []) low))
-    (All-weaker (IsLeafOf (above ++ high_side f u ∷ []) high) (IsLeafOf above t) (λ v is out e. inr (is out e)) (placed_nodes (above ++ high_side f u ∷ []) high) (leaves_visited (above ++ high_side f u ∷ []) high)))
+    (All-weaker (IsLeafOf (above ++ low_side f u ∷ []) low) (IsLeafOf above t) (λ v is out e. inl (is out e))
+    (placed_nodes (above ++ low_side f u ∷ []) low) (leaves_visited (above ++ low_side f u ∷ []) low))
+    (All-weaker (IsLeafOf (above ++ high_side f u ∷ []) high) (IsLeafOf above t) (λ v is out e. inr (is out e))
+    (placed_nodes (above ++ high_side f u ∷ []) high) (leaves_visited (above ++ high_side f u ∷ []) high)))
 
 -- ---- the splits on a form stay between its bounds
 
@@ -102,7 +106,8 @@ module _ (system : LinearSystem) (forms : List Form) (bounded : AreBounded syste
   few_above above asked = let few = asked.few in omega arith
 
   -- a split has its number between the form's bounds, and the sides below it stand
-  module _ (above : List SplitSide) (within : Within system forms above) (asked : AreSidesOf forms above) (members : List ℕ) (f : ℕ) (u : ℤ) (d : DescentFromStart (node_system system forms above) (point members)) (first : FirstFraction system forms above members f u) where
+  module _ (above : List SplitSide) (within : Within system forms above) (asked : AreSidesOf forms above) (members : List ℕ) (f : ℕ) (u : ℤ)
+      (d : DescentFromStart (node_system system forms above) (point members)) (first : FirstFraction system forms above members f u) where
     interval : (low_at forms above f ≤ℤ u) × (u <ℤ high_at forms above f)
     interval = split_within system forms above members f u bounded.positive within d first
 

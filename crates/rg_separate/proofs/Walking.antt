@@ -71,7 +71,8 @@ module _ (c : CaseSetting) (named : NamedRows) where
   made_more (w ∷ vs) (m ∷ nodes) v n (here, made) is = (here, made_more vs nodes v n made is)
 
   -- the nodes of two lists of visits
-  made_apart : (xs ys : List Visit) (nodes : List reasons.TreeNode) → AreMadeOf (xs ++ ys) nodes → (front : List reasons.TreeNode) × (back : List reasons.TreeNode) × (nodes ≡ front ++ back) × AreMadeOf xs front × AreMadeOf ys back
+  made_apart : (xs ys : List Visit) (nodes : List reasons.TreeNode) → AreMadeOf (xs ++ ys) nodes
+      → (front : List reasons.TreeNode) × (back : List reasons.TreeNode) × (nodes ≡ front ++ back) × AreMadeOf xs front × AreMadeOf ys back
   made_apart [] ys nodes made = ([], nodes, refl, tt, made)
   made_apart (v ∷ xs) ys [] made = absurd made
   made_apart (v ∷ xs) ys (n ∷ nodes) (here, made) =
@@ -87,7 +88,8 @@ module _ (c : CaseSetting) (named : NamedRows) where
 
   pub tree_made : (above : List SplitSide) (t : SplitTree) (nodes : List reasons.TreeNode) → AreMadeOf (placed_nodes above t) nodes → IsTreeMade above t nodes
   tree_made above (leaf weights) [] made = absurd made
-  tree_made above (leaf weights) (leaf_node rows ∷ []) (here, made) = record { made = leaf rows; nodes_are = refl; refutes = here.refutes; spreads = λ case shows. (rows, here.spreads case shows, refl) }
+  tree_made above (leaf weights) (leaf_node rows ∷ []) (here, made) =
+      record { made = leaf rows; nodes_are = refl; refutes = here.refutes; spreads = λ case shows. (rows, here.spreads case shows, refl) }
   tree_made above (leaf weights) (split_node form at ∷ []) (here, made) = absurd here
   tree_made above (leaf weights) (n ∷ m ∷ nodes) (here, made) = absurd made
   tree_made above (split f u low high) [] made = absurd made
@@ -117,13 +119,16 @@ module _ (c : CaseSetting) (named : NamedRows) where
           side_by : Form → ℤ → Bool → Side
           side_by form at high = record { form = form; at = at; high = high }
 
-          same : (x : ℕ) (y : ℤ) (z : Bool) → x ≡ f → y ≡ u → z ≡ is_high → side_by (slice_index_or (split_forms c.setting.lts.now c.setting.class c.problem) x (split_form.Tokens 0)) y z ≡ side_by form at is_high
-          same x y z e g h = ap (λ k. side_by (slice_index_or (split_forms c.setting.lts.now c.setting.class c.problem) k (split_form.Tokens 0)) y z) e ∙ ap (λ g. side_by g y z) (sym by_name) ∙ ap (λ k. side_by form k z) (g ∙ sym number_is) ∙ ap (side_by form at) h
+          same : (x : ℕ) (y : ℤ) (z : Bool) → x ≡ f → y ≡ u → z ≡ is_high
+              → side_by (slice_index_or (split_forms c.setting.lts.now c.setting.class c.problem) x (split_form.Tokens 0)) y z ≡ side_by form at is_high
+          same x y z e g h = ap (λ k. side_by (slice_index_or (split_forms c.setting.lts.now c.setting.class c.problem) k (split_form.Tokens 0)) y z)
+              e ∙ ap (λ g. side_by g y z) (sym by_name) ∙ ap (λ k. side_by form k z) (g ∙ sym number_is) ∙ ap (side_by form at) h
 
   -- ---- the first leaf that passes
 
   -- one of two lists has what stands behind the first ones
-  list_apart : (xs ys front : List Visit) (v : Visit) (rest : List Visit) → xs ++ ys ≡ front ++ v ∷ rest → ((more : List Visit) × (xs ≡ front ++ v ∷ more)) ⊎ ((further : List Visit) × (front ≡ xs ++ further) × (ys ≡ further ++ v ∷ rest))
+  list_apart : (xs ys front : List Visit) (v : Visit) (rest : List Visit) → xs ++ ys ≡ front ++ v ∷ rest
+      → ((more : List Visit) × (xs ≡ front ++ v ∷ more)) ⊎ ((further : List Visit) × (front ≡ xs ++ further) × (ys ≡ further ++ v ∷ rest))
   list_apart [] ys front v rest e = inr (front, refl, e)
   list_apart (x ∷ xs) ys [] v rest e = inl (xs, ap (λ y. y ∷ xs) (let h : x ≡ v = cc in h))
   list_apart (x ∷ xs) ys (y ∷ front) v rest e = ⊎_elim
@@ -132,7 +137,8 @@ module _ (c : CaseSetting) (named : NamedRows) where
       (list_apart xs ys front v rest (let t : xs ++ ys ≡ front ++ v ∷ rest = cc in t))
 
   -- the leaves before it are made, so it is the first whose step is shown
-  pub tree_fails : (above : List SplitSide) (t : SplitTree) (front : List Visit) (nodes : List reasons.TreeNode) (v : Visit) (rest : List Visit) (w : Wide) → placed_nodes above t ≡ front ++ v ∷ rest → AreMadeOf front nodes → LeafPasses c named v.above v.node w
+  pub tree_fails : (above : List SplitSide) (t : SplitTree) (front : List Visit) (nodes : List reasons.TreeNode) (v : Visit) (rest : List Visit)
+      (w : Wide) → placed_nodes above t ≡ front ++ v ∷ rest → AreMadeOf front nodes → LeafPasses c named v.above v.node w
       → (case : CaseSystem) → ShowsCase named case → spread_tree (shown_case c) case above t (Err (record { above = v.above; wide = w }))
   tree_fails above (leaf weights) [] nodes v rest w e made fails case shows =
       let is : record { above = above; node = leaf_node weights } ≡ v = cc in
@@ -149,7 +155,8 @@ module _ (c : CaseSetting) (named : NamedRows) where
       (λ (further, is, left). (let (before, behind, same, a, b) = made_apart (placed_nodes (above ++ low_side f u ∷ []) low) further nodes (subst (λ vs. AreMadeOf vs nodes) is made) in
       let one = tree_made (above ++ low_side f u ∷ []) low before a in
       inr (one.made, one.spreads case shows, tree_fails (above ++ high_side f u ∷ []) high further behind v rest w left b fails case shows)))
-      (list_apart (placed_nodes (above ++ low_side f u ∷ []) low) (placed_nodes (above ++ high_side f u ∷ []) high) front v rest (let t : placed_nodes (above ++ low_side f u ∷ []) low ++ placed_nodes (above ++ high_side f u ∷ []) high ≡ front ++ v ∷ rest = cc in t))
+      (list_apart (placed_nodes (above ++ low_side f u ∷ []) low) (placed_nodes (above ++ high_side f u ∷ []) high) front v rest
+      (let t : placed_nodes (above ++ low_side f u ∷ []) low ++ placed_nodes (above ++ high_side f u ∷ []) high ≡ front ++ v ∷ rest = cc in t))
 
 -- ---- the loop
 
@@ -194,7 +201,8 @@ module _ (c : CaseSetting) (named : NamedRows) (nodes : List TreeNode) where
     visit_here n lt here = go w.left refl w.follows
       where
         go : (left : List Visit) → w.left ≡ left → Follows above left [] → HasVisit n
-        go [] e f = absurd (let l = ap length (w.nodes_are ∙ ap (λ xs. map (λ v. v.node) w.done ++ map (λ v. v.node) xs) e ∙ append-nil (map (λ (v : Visit). v.node) w.done)) ∙ length-map w.done (λ v. v.node) ∙ w.count in omega arith)
+        go [] e f = absurd (let l = ap length (w.nodes_are ∙ ap (λ xs. map (λ v. v.node) w.done ++ map (λ v. v.node) xs) e
+            ∙ append-nil (map (λ (v : Visit). v.node) w.done)) ∙ length-map w.done (λ v. v.node) ∙ w.count in omega arith)
         go (v ∷ rest) e (s, f) = record {
           v = v;
           rest = rest;
@@ -219,13 +227,16 @@ module _ (c : CaseSetting) (named : NamedRows) (nodes : List TreeNode) where
         within : length w.done < length (placed_nodes [] w.whole)
         within = let e = ap length is ∙ length-append w.done (h.v ∷ h.rest) in omega arith
 
-    pub walk_stands : AreBounded named.system (forms_in named) → named.system.columns + length named.system.rows + room (forms_in named) [] < 4294967296 → (n : TreeNode) → i < length nodes → get_or nodes i n ≡ n → VisitStands named.system (forms_in named) (record { above = above; node = n })
+    pub walk_stands : AreBounded named.system (forms_in named)
+        → named.system.columns + length named.system.rows + room (forms_in named) [] < 4294967296 → (n : TreeNode) → i < length nodes
+        → get_or nodes i n ≡ n → VisitStands named.system (forms_in named) (record { above = above; node = n })
     walk_stands bounded small n lt here = held (VisitStands named.system (forms_in named)) n (visits_stand named.system (forms_in named) bounded small w.whole w.outcome) (visit_here n lt here)
 
     pub walk_leaf : (weights : List Weight) → i < length nodes → get_or nodes i (leaf_node weights) ≡ leaf_node weights → HasLeaf [] w.whole above weights
     walk_leaf weights lt here = held (IsLeafOf [] w.whole) (leaf_node weights) (leaves_visited [] w.whole) (visit_here (leaf_node weights) lt here) weights refl
 
-    pub walk_next : (n : TreeNode) (m : reasons.TreeNode) → i < length nodes → get_or nodes i n ≡ n → IsMadeOf c named above n m → IsNodeOf c.setting.lts.now m → IsWalk c named nodes (i + 1) (next_sides above n) (made ++ m ∷ [])
+    pub walk_next : (n : TreeNode) (m : reasons.TreeNode) → i < length nodes → get_or nodes i n ≡ n → IsMadeOf c named above n m
+        → IsNodeOf c.setting.lts.now m → IsWalk c named nodes (i + 1) (next_sides above n) (made ++ m ∷ [])
     walk_next n m lt here is fits =
         let h = visit_here n lt here in
         let follows : (h.v.above ≡ above) × Follows (next_sides h.v.above h.v.node) h.rest [] = subst (λ vs. Follows above vs []) h.left_is w.follows in
@@ -249,7 +260,8 @@ module _ (c : CaseSetting) (named : NamedRows) (nodes : List TreeNode) where
       where
         go : (left : List Visit) → w.left ≡ left → IsTreeMade c named [] w.whole made
         go [] e = tree_made c named [] w.whole made (subst (λ vs. AreMadeOf c named vs made) (sym (w.visits_are ∙ ap (λ vs. w.done ++ vs) e ∙ append-nil w.done)) w.made_are)
-        go (v ∷ rest) e = absurd (let l = ap length (w.nodes_are ∙ ap (λ xs. map (λ v. v.node) w.done ++ map (λ v. v.node) xs) e) ∙ length-append (map (λ (v : Visit). v.node) w.done) (v.node ∷ map (λ v. v.node) rest) in let k = length-map w.done (λ v. v.node) ∙ w.count in omega arith)
+        go (v ∷ rest) e = absurd (let l = ap length (w.nodes_are ∙ ap (λ xs. map (λ v. v.node) w.done ++ map (λ v. v.node) xs) e)
+            ∙ length-append (map (λ (v : Visit). v.node) w.done) (v.node ∷ map (λ v. v.node) rest) in let k = length-map w.done (λ v. v.node) ∙ w.count in omega arith)
 
     pub walk_fails : (n : TreeNode) (wide : Wide) → i < length nodes → get_or nodes i n ≡ n → LeafPasses c named above n wide → (case : CaseSystem)
         → ShowsCase named case → spread_tree (shown_case c) case [] w.whole
@@ -257,10 +269,12 @@ module _ (c : CaseSetting) (named : NamedRows) (nodes : List TreeNode) where
     walk_fails n wide lt here fails case shows =
         let h = visit_here n lt here in
         subst (λ sides. spread_tree (shown_case c) case [] w.whole (Err (record { above = sides; wide = wide }))) h.sides
-        (tree_fails c named [] w.whole w.done made h.v h.rest wide (w.visits_are ∙ ap (λ vs. w.done ++ vs) h.left_is) w.made_are (subst (λ sides. LeafPasses c named sides h.v.node wide) (sym h.sides) (subst (λ m. LeafPasses c named above m wide) (sym h.node) fails)) case shows)
+        (tree_fails c named [] w.whole w.done made h.v h.rest wide (w.visits_are ∙ ap (λ vs. w.done ++ vs) h.left_is) w.made_are
+        (subst (λ sides. LeafPasses c named sides h.v.node wide) (sym h.sides) (subst (λ m. LeafPasses c named above m wide) (sym h.node) fails)) case shows)
 
 -- the case of the nodes that are made
-pub walk_refutes : (c : CaseSetting) (named : NamedRows) (nodes : List TreeNode) (i : ℕ) (above : List SplitSide) (case : Case) → IsWalk c named nodes i above (nodes_of case) → length nodes ≤ i → RefutesCase c.setting.lts.now c.setting.class c.problem c.number case
+pub walk_refutes : (c : CaseSetting) (named : NamedRows) (nodes : List TreeNode) (i : ℕ) (above : List SplitSide) (case : Case)
+    → IsWalk c named nodes i above (nodes_of case) → length nodes ≤ i → RefutesCase c.setting.lts.now c.setting.class c.problem c.number case
 walk_refutes c named nodes i above case w past =
     let end = walk_end c named nodes i above (nodes_of case) w past in
     let same = tree_is (nodes_of case) end.made end.nodes_are in
@@ -286,4 +300,5 @@ module _ (c : CaseSetting) (named : NamedRows) (system : IsNamedSystem c named) 
   pub walk_passes : (made : List reasons.TreeNode) (n : TreeNode) (wide : Wide) → IsWalk c named nodes i above made → i < length nodes → get_or nodes i n ≡ n
       → LeafPasses c named above n wide → CaseComes (shown_case c)
       (passes (passed_at Spread c (named_sides c.setting.lts.now c.setting.class c.problem above) wide))
-  walk_passes made n wide w lt here fails = leaf_passes system.case w.whole (record { above = above; wide = wide }) system.made (case_branching w.whole w.outcome) (walk_fails c named nodes i above made w n wide lt here fails system.case system.shows)
+  walk_passes made n wide w lt here fails = leaf_passes system.case w.whole (record { above = above; wide = wide }) system.made
+      (case_branching w.whole w.outcome) (walk_fails c named nodes i above made w n wide lt here fails system.case system.shows)

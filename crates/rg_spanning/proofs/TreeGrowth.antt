@@ -1,12 +1,11 @@
 -- A growing tree goes on growing when an arc joins, and is complete when no arc is left.
 use Rattle.std.proofs.Common.{◌≡◌, ◌≢◌, ◌⊎◌, ◌↔◌, ℕ, zero, suc, ◌+◌, ◌<◌, ◌≤◌, true, cond, List, [], ◌∷◌, ◌++◌, length, map, Option, None, Some, get_or, set, slice_get}
-use Rattle.std.proofs.Common.{slice_index_or, slice_set, Contains, AllPairs, is_some, is_none, count_by, inl, inr, sym, subst, ap, ◌∙◌, refl, arith, append_assoc}
-use Rattle.std.proofs.Common.{length-append, replicate}
+use Rattle.std.proofs.Common.{slice_index_or, slice_set, Contains, AllPairs, is_some, is_none, count_by, inl, inr, sym, subst, ap, ◌∙◌, refl, arith, append_assoc, length-append, replicate}
 use Rattle.std.proofs.lemmas.Bool.{cases_order, cases_eq, cases_lt}
 use Rattle.std.proofs.lemmas.Option.{none-some, same_Some, slice_get-get_or, get_or_from_slice_get, slice_get_within}
-use Rattle.std.proofs.lemmas.List.{get_or-set_same, get_or-set_other, get_or_append_left, length-map, length-set, length-replicate, get_or-replicate, get_or_past, get_or_default, map-append}
+use Rattle.std.proofs.lemmas.List.{get_or-set_same, get_or-set_other, get_or_append_left, length-set, length-replicate, get_or-replicate, get_or_past, get_or_default, map-append}
 use Rattle.std.proofs.lemmas.List.Elements.{Contains-push, Contains-push_cases, Contains-append_left, All-contains, Contains-get_or}
-use Rattle.std.proofs.lemmas.List.Sums.{sum_by-set, get_or-le-sum_by}
+use Rattle.std.proofs.lemmas.List.Sums.{sum_by-set}
 use Rattle.std.proofs.lemmas.List.Folds.{sum_by-replicate}
 use Rattle.rg_theory.specs.declared.Arc.{Arc}
 use Rattle.rg_theory.specs.System.{System, states, IsArcInRange, IsArcBefore}
@@ -74,19 +73,6 @@ module _ (lts : System) (order : List ℕ) (tree : List Arc) (entries : List (Op
       back : (lts.initial ≡ s) ⊎ Contains (targets tree) s → is_some (get_or entries s None) ≡ true
       back (inl e) = absurd (other (sym e))
       back (inr has) = let (a, there, to) = arc_to tree s has in ap is_some (subst (λ k. get_or entries k None ≡ Some a) to (g.enters a there))
-
-  root_lacks : lack (get_or entries lts.initial None) ≡ 1
-  root_lacks = ap lack g.root
-
-  -- fewer arcs than states have joined
-  pub order_short : length order ≤ states lts
-  order_short =
-      let in_range : lts.initial < length entries = (let e = g.one_each in let r = g.well_formed.in_range.initial in omega arith) in
-      let one : lack (get_or entries lts.initial None) ≤ count_by is_none entries = get_or-le-sum_by lack entries lts.initial None in_range in
-      let len = ap length g.order_is in
-      let len' = length-map tree (λ (a : Arc). a.to) in
-      let count = g.count in
-      omega (arith, root_lacks)
 
   arc_in_range : (a : Arc) → Contains lts.arcs a → IsArcInRange lts a
   arc_in_range a has = All-contains (IsArcInRange lts) lts.arcs a g.well_formed.in_range.arcs has

@@ -32,7 +32,7 @@ same_is a b e =
     let to = (Decides-eqb a.to b.to).0 g.1 in
     λ i. record { from = from i; label = label i; to = to i }
 
-is_same : (a : Arc) → same_arc a a ≡ true
+pub is_same : (a : Arc) → same_arc a a ≡ true
 is_same a =
     let from = eq-eqb a.from a.from refl in
     let label = eq-eqb a.label a.label refl in

@@ -51,7 +51,8 @@ told_itself lts well = record {
 name_of_label : (lts : System) (now : Labelling) (t : ℕ) → IsWellFormed lts → Erases now.system now.old lts → t < labels now.system → IsName (first_name lts now.old t)
 name_of_label lts now t well erases lt = well.label_names.each (old_label now.old t) [] (erases.within t 0 (let e = erases.each in omega arith))
 
-pub told_next : (lts : System) (reason : Reason) (now next : Labelling) → IsWellFormed lts → IsToldApart lts now → (is : IsNext lts reason now next) → is.label < labels now.system → labels now.system < most_labels → IsToldApart lts next
+pub told_next : (lts : System) (reason : Reason) (now next : Labelling) → IsWellFormed lts → IsToldApart lts now → (is : IsNext lts reason now next)
+    → is.label < labels now.system → labels now.system < most_labels → IsToldApart lts next
 told_next lts reason now next well told is below room = record {
   erases = erases_next lts reason now next is below room told.formed told.erases named;
   formed = formed_next lts reason now next is below room told.formed told.erases named;
@@ -78,7 +79,8 @@ told_next lts reason now next well told is below room = record {
     old_stays : (t : ℕ) → t < labels now.system → old_label next.old t ≡ old_label now.old t
     old_stays t lt = ap (λ l. get_or l t 0) is.old ∙ get_or_append_left now.old (old_label now.old is.label ∷ []) 0 t (let e = told.erases.each in omega arith)
 
-pub some_next : (lts : System) (reason : Reason) (now : Labelling) → IsToldApart lts now → labels now.system < most_labels → (s : IsToSplit now.system reason) → (next : Labelling) × ((is : IsNext lts reason now next) × (is.label ≡ s.label))
+pub some_next : (lts : System) (reason : Reason) (now : Labelling) → IsToldApart lts now → labels now.system < most_labels
+    → (s : IsToSplit now.system reason) → (next : Labelling) × ((is : IsNext lts reason now next) × (is.label ≡ s.label))
 some_next lts reason now told room s =
     let (name, new) = new_name now.system.label_names (first_name lts now.old s.label) room in
     let (system, is) = some_with now.system.state_names (now.system.label_names ++ name ∷ []) (map (relabelled reason s.label (labels now.system)) now.system.arcs) now.system.initial in
@@ -108,7 +110,8 @@ module _ (some_out : (system : System) → IsInRange system → (a : Answer) × 
       stepped : (reason : Reason) (next : Labelling) → Out now.system no_condition (of_reason reason) → HasLabel reason → IsNext lts reason now next → Comes next → Comes now
       stepped reason next out has is (r, d) = (r, goes_on reason next out has less is d)
 
-      goes : (reason : Reason) → Out now.system no_condition (of_reason reason) → HasLabel reason → ((next : Labelling) → IsToldApart lts next → labels next.system + room ≡ most_labels → Comes next) → Comes now
+      goes : (reason : Reason) → Out now.system no_condition (of_reason reason) → HasLabel reason
+          → ((next : Labelling) → IsToldApart lts next → labels next.system + room ≡ most_labels → Comes next) → Comes now
       goes reason out has go =
           let s = to_split now.system reason told.formed out has in
           let (next, (is, same)) = some_next lts reason now told less s in

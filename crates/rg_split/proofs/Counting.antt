@@ -25,7 +25,8 @@ use Rattle.rg_case_folds.specs.Spreading.{arc_name}
 use Rattle.rg_decided.proofs.Deciding.{Decided, find_number}
 use Rattle.rg_split.specs.Parts.{arc_multiplier, Counts}
 use Rattle.rg_split.proofs.ArcSums.{is_arc, IsArcOf, parted, others, sum_of_others, others_have}
-use Rattle.rg_split.proofs.Signs.{is_zero, some_positive, some_negative}
+use Rattle.rg_split.proofs.Signs.{some_positive, some_negative}
+use Rattle.rg_integers.proofs.Order.{is_zero_or_not as is_zero}
 use Rattle.rg_cert_meaning.specs.declared.RowName.TheVariants as row_name
 use Rattle.rg_cert_meaning.specs.declared.Variable.TheVariants.{Effect}
 
@@ -64,7 +65,8 @@ shared_fine lts low consumer (row_name.Full q) stands other = absurd stands
 shared_fine lts low consumer row_name.Keep stands other = absurd stands
 shared_fine lts low consumer row_name.Apart stands other = absurd stands
 
-event_fine : (lts : System) (s t : ℕ) (name : RowName) → IsSeparationProblem lts (Event s t) → EventStands lts no_condition s t [] name → is_arc name ≡ false → IsFine s (event_expression lts no_condition s t [] name)
+event_fine : (lts : System) (s t : ℕ) (name : RowName) → IsSeparationProblem lts (Event s t) → EventStands lts no_condition s t [] name
+    → is_arc name ≡ false → IsFine s (event_expression lts no_condition s t [] name)
 event_fine lts s t (row_name.Stop q) asked (not_pure, not_plain, (q', has)) other = record {
   no_effect = λ u. (omega (arith, ints));
   holds = one_more (q == s) (s == s) (ne_eqb q s (λ same. asked.2 q' (subst (λ x. HasArc lts x t q') same has))) (eq-eqb s s refl);
@@ -75,7 +77,8 @@ event_fine lts s t (row_name.Full q) asked (plain, not_pure, has) other = absurd
 event_fine lts s t row_name.Keep asked (plain, not_pure) other = absurd cc
 event_fine lts s t name asked stands other = shared_fine lts s t name stands other
 
-states_fine : (lts : System) (s s' : ℕ) (name : RowName) → IsSeparationProblem lts (States s s') → RowStands lts no_condition (States s s') 0 [] name → is_arc name ≡ false → IsFine s (row_expression lts no_condition (States s s') 0 [] name)
+states_fine : (lts : System) (s s' : ℕ) (name : RowName) → IsSeparationProblem lts (States s s') → RowStands lts no_condition (States s s') 0 [] name
+    → is_arc name ≡ false → IsFine s (row_expression lts no_condition (States s s') 0 [] name)
 states_fine lts s s' row_name.Apart asked stands other = record {
   no_effect = λ u. (omega (arith, ints));
   holds = one_more (s' == s) (s == s) (ne_eqb s' s (λ same. asked.2 (sym same))) (eq-eqb s s refl);
@@ -87,7 +90,8 @@ abbrev low_state : Problem → ℕ
 low_state (Event s t) = s
 low_state (States s s') = s
 
-row_fine : (lts : System) (problem : Problem) (name : RowName) → IsSeparationProblem lts problem → RowStands lts no_condition problem 0 [] name → is_arc name ≡ false → IsFine (low_state problem) (row_expression lts no_condition problem 0 [] name)
+row_fine : (lts : System) (problem : Problem) (name : RowName) → IsSeparationProblem lts problem → RowStands lts no_condition problem 0 [] name
+    → is_arc name ≡ false → IsFine (low_state problem) (row_expression lts no_condition problem 0 [] name)
 row_fine lts (Event s t) name asked stands other = event_fine lts s t name asked stands other
 row_fine lts (States s s') name asked stands other = states_fine lts s s' name asked stands other
 
@@ -128,7 +132,8 @@ module _ (lts : System) (problem : Problem) (rows : List NamedRow) (ordered : Or
   none_left : (f : RowName → ℤ) → ((a : Arc) → Contains lts.arcs a → arc_multiplier rows a ≡ pos 0) → sum_over (λ a. arc_multiplier rows a *ℤ f (arc_name a)) lts.arcs ≡ pos 0
   none_left f none = sum_over-zero (λ a. arc_multiplier rows a *ℤ f (arc_name a)) lts.arcs (λ a has. ap (λ z. z *ℤ f (arc_name a)) (none a has) ∙ zero-*ℤ (f (arc_name a)))
 
-  same_without : (f : RowName → ℤ) → ((a : Arc) → Contains lts.arcs a → arc_multiplier rows a ≡ pos 0) → sum_over (λ r. r.multiplier *ℤ f r.name) (others rows) ≡ sum_over (λ r. r.multiplier *ℤ f r.name) rows
+  same_without : (f : RowName → ℤ) → ((a : Arc) → Contains lts.arcs a → arc_multiplier rows a ≡ pos 0)
+      → sum_over (λ r. r.multiplier *ℤ f r.name) (others rows) ≡ sum_over (λ r. r.multiplier *ℤ f r.name) rows
   same_without f none = let whole = parts f in let left = none_left f none in omega (arith, ints)
 
   not_all_zero : ((a : Arc) → Contains lts.arcs a → arc_multiplier rows a ≡ pos 0) → ⊥
@@ -156,7 +161,8 @@ module _ (lts : System) (problem : Problem) (rows : List NamedRow) (ordered : Or
       all_zero : ((a : Arc) → Contains lts.arcs a → (arc_multiplier rows a ≢ pos 0) → ⊥) → (a : Arc) → Contains lts.arcs a → arc_multiplier rows a ≡ pos 0
       all_zero none a has = ⊎_elim (λ nothing. nothing) (λ differ. absurd (none a has differ)) (is_zero (arc_multiplier rows a))
 
-      by : Any (λ a. arc_multiplier rows a ≢ pos 0) lts.arcs ⊎ ((a : Arc) → Contains lts.arcs a → (arc_multiplier rows a ≢ pos 0) → ⊥) → (a : Arc) × Contains lts.arcs a × (arc_multiplier rows a ≢ pos 0)
+      by : Any (λ a. arc_multiplier rows a ≢ pos 0) lts.arcs ⊎ ((a : Arc) → Contains lts.arcs a → (arc_multiplier rows a ≢ pos 0) → ⊥)
+          → (a : Arc) × Contains lts.arcs a × (arc_multiplier rows a ≢ pos 0)
       by (inl (k, a, lt, e, p)) = (a, (k, lt, e), p)
       by (inr none) = absurd (not_all_zero (all_zero none))
 
@@ -213,7 +219,8 @@ module _ (lts : System) (problem : Problem) (rows : List NamedRow) (ordered : Or
       let whole = parts (effect_at t) in
       let none : sum_over (λ r. r.multiplier *ℤ effect_at t r.name) (others rows) ≡ pos 0 = sum_over-zero (λ r. r.multiplier *ℤ effect_at t r.name) (others rows) no_effect in
       let sum : sum_over (λ r. r.multiplier *ℤ effect_at t r.name) rows ≡ pos 0 = refutes.cancels (Effect t) in
-      let same : sum_over (λ a. arc_multiplier rows a *ℤ effect_at t (arc_name a)) lts.arcs ≡ sum_over (at_label t) lts.arcs = sum_over-same (λ a. arc_multiplier rows a *ℤ effect_at t (arc_name a)) (at_label t) lts.arcs (λ a has. effect_of_arc t a) in
+      let same : sum_over (λ a. arc_multiplier rows a *ℤ effect_at t (arc_name a)) lts.arcs ≡ sum_over (at_label t) lts.arcs =
+      sum_over-same (λ a. arc_multiplier rows a *ℤ effect_at t (arc_name a)) (at_label t) lts.arcs (λ a has. effect_of_arc t a) in
       omega (arith, ints)
     where
       no_effect : (r : NamedRow) → Contains (others rows) r → r.multiplier *ℤ effect_at t r.name ≡ pos 0

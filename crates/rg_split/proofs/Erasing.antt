@@ -1,9 +1,8 @@
 -- A round keeps a system well formed, and its arcs those of the file's system.
-use Rattle.std.proofs.Common.{◌≡◌, ◌≢◌, ℕ, ◌+◌, ◌<◌, ◌≤◌, ◌==◌, ◌&&◌, Bool, true, false, if◌then◌else◌, List, [], ◌∷◌, ◌++◌, length, map, get_or, All, Contains, refl, sym, ap, subst, ◌∙◌, arith, eqb-true}
+use Rattle.std.proofs.Common.{◌≡◌, ℕ, ◌+◌, ◌<◌, ◌≤◌, ◌==◌, Bool, true, false, if◌then◌else◌, [], ◌∷◌, ◌++◌, length, map, get_or, All, Contains, refl, sym, ap, subst, ◌∙◌, arith, eqb-true}
 use Rattle.std.proofs.lemmas.List.{length-append, length-map, get_or_append_left}
 use Rattle.std.proofs.Math.Seq.{get_or-append_seam}
 use Rattle.std.proofs.lemmas.List.Elements.{All-push, All-contains, Contains-get_or}
-use Rattle.std.proofs.lemmas.List.Quantifiers.{all_pairs_push}
 use Rattle.rg_text.specs.Byte.{IsName}
 use Rattle.rg_theory.specs.declared.Arc.{Arc}
 use Rattle.rg_theory.specs.System.{System, states, labels, arc, HasArc, IsArcInRange, IsArcBefore}
@@ -18,12 +17,10 @@ use Rattle.rg_split.specs.Parts.{SplitsLabel, is_moved}
 use Rattle.rg_split.specs.Rounds.{Labelling, relabelled, first_name, IsNext}
 use Rattle.rg_split.proofs.OneArc.{same_arc_is}
 use Rattle.rg_split.proofs.Names.{new_is_name}
+use Rattle.rg_theory.proofs.ClassTold.{and_left as both_left}
+use Rattle.rg_lts.proofs.Drafts.{names_push as names_more}
 
 -- ---- the label of an arc that is moved
-
-both_left : (a b : Bool) → (a && b) ≡ true → a ≡ true
-both_left true b e = refl
-both_left false b e = absurd cc
 
 pub moved_label : (system : System) (reason : Reason) (t : ℕ) (a : Arc) → SplitsLabel system reason t → is_moved reason t a ≡ true → a.label ≡ t
 moved_label system (fork s u s₁ s₂) t a splits e = ap (λ (x : Arc). x.label) (same_arc_is a (arc s u s₂) e) ∙ sym splits
@@ -31,14 +28,6 @@ moved_label system (refuted problem (leaf rows ∷ more)) t a splits e = eqb-tru
 moved_label system (refuted problem []) t a splits e = absurd splits
 moved_label system (refuted problem (split form at low high ∷ more)) t a splits e = absurd splits
 moved_label system (unreachable s) t a splits e = absurd splits
-
--- ---- names
-
-names_more : (names : List (List ℕ)) (name : List ℕ) → AreNames names → IsName name → (Contains names name → ⊥) → AreNames (names ++ name ∷ [])
-names_more names name are is absent = record {
-  each = All-push IsName names name are.each is;
-  differ = all_pairs_push (λ a b. a ≢ b) names name are.differ (λ k d lt same. absent (subst (Contains names) same (Contains-get_or names k d lt)));
-}
 
 -- ---- one round
 
@@ -106,13 +95,16 @@ module _ (lts : System) (reason : Reason) (now next : Labelling) (is : IsNext lt
     state_names = is.system.state_names ∙ erases.state_names;
     initial = is.system.initial ∙ erases.initial;
     each = ap length is.old ∙ length-append now.old (old_label now.old is.label ∷ []) ∙ ap (λ n. n + 1) erases.each ∙ sym labels_more;
-    within = subst (All (λ t. t < labels lts)) (sym is.old) (All-push (λ t. t < labels lts) now.old (old_label now.old is.label) erases.within (erases.within is.label 0 (let e = erases.each in omega (arith, below))));
+    within = subst (All (λ t. t < labels lts)) (sym is.old)
+        (All-push (λ t. t < labels lts) now.old (old_label now.old is.label) erases.within (erases.within is.label 0 (let e = erases.each in omega (arith, below))));
     there = λ s t s' has. (let c = comes (arc s t s') has in
         let k = kept c.a c.has in
         let from : c.a.from ≡ s = sym k.from ∙ ap (λ (x : Arc). x.from) c.is_it in
         let to : c.a.to ≡ s' = sym k.to ∙ ap (λ (x : Arc). x.to) c.is_it in
         let label : old_label now.old c.a.label ≡ old_label next.old t = sym k.old ∙ ap (λ (x : Arc). old_label next.old x.label) c.is_it in
-        subst (λ q. HasArc lts q (old_label next.old t) s') from (subst (λ q. HasArc lts c.a.from (old_label next.old t) q) to (subst (λ u. HasArc lts c.a.from u c.a.to) label (erases.there c.a.from c.a.label c.a.to c.has))));
+        subst (λ q. HasArc lts q (old_label next.old t) s') from
+        (subst (λ q. HasArc lts c.a.from (old_label next.old t) q) to
+        (subst (λ u. HasArc lts c.a.from u c.a.to) label (erases.there c.a.from c.a.label c.a.to c.has))));
     back = λ s u s' has. (let (t, there, e) = erases.back s u s' has in
         let k = kept (arc s t s') there in
         let same : moves (arc s t s') ≡ arc s (moves (arc s t s')).label s' = λ i. record { from = k.from i; label = (moves (arc s t s')).label; to = k.to i } in
@@ -150,7 +142,9 @@ module _ (lts : System) (reason : Reason) (now next : Labelling) (is : IsNext lt
       arcs = λ k d lt. in_range (get_or next.system.arcs k d) (Contains-get_or next.system.arcs k d lt);
     };
     state_names = subst AreNames (sym is.system.state_names) formed.state_names;
-    label_names = subst AreNames (sym is.system.label_names) (names_more now.system.label_names is.name formed.label_names (new_is_name now.system.label_names (first_name lts now.old is.label) is.name name_is room is.new) is.new.free);
+    label_names = subst AreNames (sym is.system.label_names)
+        (names_more now.system.label_names is.name formed.label_names
+        (new_is_name now.system.label_names (first_name lts now.old is.label) is.name name_is room is.new) is.new.free);
     arc_order = is.system.in_order;
     few_states = (let many = ap length is.system.state_names in let few = formed.few_states in omega arith);
     few_labels = omega (arith, labels_more, room);
@@ -158,4 +152,6 @@ module _ (lts : System) (reason : Reason) (now next : Labelling) (is : IsNext lt
   }
     where
       fewer : length next.system.arcs ≤ length (map moves now.system.arcs)
-      fewer = pigeons next.system.arcs (map moves now.system.arcs) (λ i j d less lt same. before_itself (get_or next.system.arcs j d) (subst (λ a. IsArcBefore a (get_or next.system.arcs j d)) same (is.system.in_order i j d less lt))) (λ a has. (is.system.members a).0 has)
+      fewer = pigeons next.system.arcs (map moves now.system.arcs)
+          (λ i j d less lt same. before_itself (get_or next.system.arcs j d)
+          (subst (λ a. IsArcBefore a (get_or next.system.arcs j d)) same (is.system.in_order i j d less lt))) (λ a has. (is.system.members a).0 has)

@@ -93,7 +93,8 @@ module _ (lts : System) (fine : IsInRange lts) where
   shared_unit consumer row_name.Keep stands names = absurd stands
   shared_unit consumer row_name.Apart stands names = absurd stands
 
-  event_unit : (s t : ℕ) (name : RowName) → IsSeparationProblem lts (Event s t) → EventStands lts no_condition s t [] name → IsRowNameOf lts name → HasUnit lts (event_expression lts no_condition s t [] name)
+  event_unit : (s t : ℕ) (name : RowName) → IsSeparationProblem lts (Event s t) → EventStands lts no_condition s t [] name → IsRowNameOf lts name
+      → HasUnit lts (event_expression lts no_condition s t [] name)
   event_unit s t (row_name.Stop q) asked (not_pure, not_plain, (q', has)) names = record {
     variable = Tokens q;
     within = (arc_in_range lts fine q t q' has).0;
@@ -105,11 +106,13 @@ module _ (lts : System) (fine : IsInRange lts) where
   event_unit s t row_name.Keep asked (plain, not_pure) names = absurd cc
   event_unit s t name asked stands names = shared_unit t name stands names
 
-  states_unit : (s s' : ℕ) (name : RowName) → IsSeparationProblem lts (States s s') → RowStands lts no_condition (States s s') 0 [] name → IsRowNameOf lts name → HasUnit lts (row_expression lts no_condition (States s s') 0 [] name)
+  states_unit : (s s' : ℕ) (name : RowName) → IsSeparationProblem lts (States s s') → RowStands lts no_condition (States s s') 0 [] name
+      → IsRowNameOf lts name → HasUnit lts (row_expression lts no_condition (States s s') 0 [] name)
   states_unit s s' row_name.Apart asked stands names = record { variable = Tokens s'; within = asked.1; once = first_of_two s' s (λ same. asked.2 (sym same)) }
   states_unit s s' name asked stands names = shared_unit (consumer_of lts 0) name stands names
 
-  row_unit : (problem : Problem) (name : RowName) → IsSeparationProblem lts problem → RowStands lts no_condition problem 0 [] name → IsRowNameOf lts name → HasUnit lts (row_expression lts no_condition problem 0 [] name)
+  row_unit : (problem : Problem) (name : RowName) → IsSeparationProblem lts problem → RowStands lts no_condition problem 0 [] name
+      → IsRowNameOf lts name → HasUnit lts (row_expression lts no_condition problem 0 [] name)
   row_unit (Event s t) name asked stands names = event_unit s t name asked stands names
   row_unit (States s s') name asked stands names = states_unit s s' name asked stands names
 
@@ -118,25 +121,37 @@ module _ (lts : System) (fine : IsInRange lts) where
 named_have : (P : RowName → Type 0) (names : List RowName) (zs : List ℤ) → All P names → All (λ (r : NamedRow). P r.name) (named_from names zs)
 named_have P [] zs all = All-nil (λ (r : NamedRow). P r.name)
 named_have P (n ∷ names) [] all = All-nil (λ (r : NamedRow). P r.name)
-named_have P (n ∷ names) (z ∷ zs) all = All-cons (λ (r : NamedRow). P r.name) (record { multiplier = z; name = n }) (named_from names zs) (All-head P n names all) (named_have P names zs (All-tail P n names all))
+named_have P (n ∷ names) (z ∷ zs) all = All-cons (λ (r : NamedRow). P r.name) (record { multiplier = z; name = n }) (named_from names zs)
+    (All-head P n names all) (named_have P names zs (All-tail P n names all))
 
-arcs_have : (P : RowName → Type 0) (f : Arc → ℤ) (arcs : List Arc) → ((a : Arc) → Contains arcs a → P (arc_name a)) → All (λ (r : NamedRow). P r.name) (map (λ a. record { multiplier = f a; name = arc_name a }) arcs)
+arcs_have : (P : RowName → Type 0) (f : Arc → ℤ) (arcs : List Arc) → ((a : Arc) → Contains arcs a → P (arc_name a))
+    → All (λ (r : NamedRow). P r.name) (map (λ a. record { multiplier = f a; name = arc_name a }) arcs)
 arcs_have P f [] each = All-nil (λ (r : NamedRow). P r.name)
 arcs_have P f (a ∷ arcs) each =
     All-cons (λ (r : NamedRow). P r.name) (record { multiplier = f a; name = arc_name a }) (map (λ a. record { multiplier = f a; name = arc_name a }) arcs) (each a (0, omega arith, refl))
     (arcs_have P f arcs (λ b (k, lt, e). each b (suc k, omega arith, e)))
 
-leaf_have : (lts : System) (tree : List Arc) (basis : CycleBasis) (expression : RowName → Expression) (shares : List Share) (rows : List NamedRow) (P : RowName → Type 0) → All (λ s. P s.name) shares → ((a : Arc) → Contains lts.arcs a → P (arc_name a))
+leaf_have : (lts : System) (tree : List Arc) (basis : CycleBasis) (expression : RowName → Expression) (shares : List Share) (rows : List NamedRow)
+    (P : RowName → Type 0) → All (λ s. P s.name) shares → ((a : Arc) → Contains lts.arcs a → P (arc_name a))
     → leaf_fold lts tree basis expression shares (Ok rows) → All (λ (r : NamedRow). P r.name) rows
 leaf_have lts tree basis expression shares rows P names arcs_are (xs, folds, (scaled, scales, (arcs, treed, (parts, parted, checked)))) =
     subst (All (λ (r : NamedRow). P r.name)) (sym checked.2.2)
-    (not_zero_all (λ r. P r.name) (named_from (map (λ r. r.name) shares) parts ++ map (λ a. record { multiplier = multiplier_among (chord_arcs lts tree basis ++ map (λ x. x.arc) arcs) (drop (length shares) parts) a; name = arc_name a }) lts.arcs)
-    (All-append (λ r. P r.name) (named_from (map (λ r. r.name) shares) parts) (map (λ a. record { multiplier = multiplier_among (chord_arcs lts tree basis ++ map (λ x. x.arc) arcs) (drop (length shares) parts) a; name = arc_name a }) lts.arcs)
+    (not_zero_all (λ r. P r.name) (named_from (map (λ r. r.name) shares) parts
+    ++ map (λ a. record {
+      multiplier = multiplier_among (chord_arcs lts tree basis ++ map (λ x. x.arc) arcs) (drop (length shares) parts) a;
+      name = arc_name a;
+    }) lts.arcs)
+    (All-append (λ r. P r.name) (named_from (map (λ r. r.name) shares) parts)
+    (map (λ a. record {
+      multiplier = multiplier_among (chord_arcs lts tree basis ++ map (λ x. x.arc) arcs) (drop (length shares) parts) a;
+      name = arc_name a;
+    }) lts.arcs)
     (named_have P (map (λ r. r.name) shares) parts (All-map P (λ r. r.name) shares names))
     (arcs_have P (multiplier_among (chord_arcs lts tree basis ++ map (λ x. x.arc) arcs) (drop (length shares) parts)) lts.arcs arcs_are)))
 
 -- the multiplier of a row of a leaf that was checked is in range, where the row has a variable once
-range_of : (lts : System) (expression : RowName → Expression) (rows all : List NamedRow) → checked_leaf lts expression rows (Ok all) → (r : NamedRow) → Contains rows r → HasUnit lts (expression r.name) → InRange r.multiplier
+range_of : (lts : System) (expression : RowName → Expression) (rows all : List NamedRow) → checked_leaf lts expression rows (Ok all) → (r : NamedRow)
+    → Contains rows r → HasUnit lts (expression r.name) → InRange r.multiplier
 range_of lts expression rows all (sums, each_is, (sum, constants, e)) r has unit =
     let (y, sizes) = each_made (λ v. sizes_fold (λ name. coefficient_in (expression name).terms v) rows) (variables_of lts) sums unit.variable each_is (has_variable lts unit.variable unit.within) in
     let (z, made) = joined_made (λ (x : NamedRow). and_then (whole_product x.multiplier (coefficient_in (expression x.name).terms unit.variable)) (λ w. gives (size w))) y rows r sizes has in
@@ -146,7 +161,8 @@ range_of lts expression rows all (sums, each_is, (sum, constants, e)) r has unit
     times_one m c e = rw e (omega (arith, ints))
 
 -- the multipliers of a leaf that was checked are in range, where each row has a variable once
-leaf_in_range : (lts : System) (tree : List Arc) (basis : CycleBasis) (expression : RowName → Expression) (shares : List Share) (rows : List NamedRow) → All (λ (r : NamedRow). HasUnit lts (expression r.name)) rows
+leaf_in_range : (lts : System) (tree : List Arc) (basis : CycleBasis) (expression : RowName → Expression) (shares : List Share)
+    (rows : List NamedRow) → All (λ (r : NamedRow). HasUnit lts (expression r.name)) rows
     → leaf_fold lts tree basis expression shares (Ok rows) → All (λ r. InRange r.multiplier) rows
 leaf_in_range lts tree basis expression shares rows units (xs, folds, (scaled, scales, (arcs, treed, (parts, parted, checked)))) k d lt =
     range_of lts expression rows rows (subst (λ l. checked_leaf lts expression l (Ok rows)) (sym checked.2.2) checked) (get_or rows k d)
@@ -158,7 +174,8 @@ leaf_in_range lts tree basis expression shares rows units (xs, folds, (scaled, s
 abbrev pub of_all : System → List Arc → CycleBasis → Setting
 of_all lts arcs basis = setting_at lts arcs basis no_condition
 
-module _ (lts : System) (well : IsWellFormed lts) (reachable : IsAllReachable lts) (arcs : List Arc) (basis : CycleBasis) (is_tree : IsTree lts arcs) (is_basis : IsBasis lts arcs basis) (problem : Problem) (asked : IsSeparationProblem lts problem) (live : IsLive lts problem) where
+module _ (lts : System) (well : IsWellFormed lts) (reachable : IsAllReachable lts) (arcs : List Arc) (basis : CycleBasis) (is_tree : IsTree lts arcs)
+    (is_basis : IsBasis lts arcs basis) (problem : Problem) (asked : IsSeparationProblem lts problem) (live : IsLive lts problem) where
   no_sides : (case : CaseSystem) → All (λ (side : SplitSide). side.form < length case.forms) []
   no_sides case = All-nil (λ (side : SplitSide). side.form < length case.forms)
 
@@ -169,7 +186,8 @@ module _ (lts : System) (well : IsWellFormed lts) (reachable : IsAllReachable lt
 
   pub leaf_holds : (case : CaseSystem) → system_fold (case_at (of_all lts arcs basis) problem 0) (Ok case) → (multiplier : ℕ → ℤ)
       → AreFarkasMultipliers (node_system (rows_of case) case.forms []) multiplier → (rows : List NamedRow)
-      → spread_fold (case_at (of_all lts arcs basis) problem 0) case [] [] (weights_from multiplier 0 (length (node_system (rows_of case) case.forms []).rows)) (Ok rows) → RefutesFirst lts problem rows
+      → spread_fold (case_at (of_all lts arcs basis) problem 0) case [] []
+      (weights_from multiplier 0 (length (node_system (rows_of case) case.forms []).rows)) (Ok rows) → RefutesFirst lts problem rows
   leaf_holds case made multiplier farkas rows (shares, shares_are, leaf) =
       leaf_refutes lts arcs basis (RowStands lts no_condition problem 0 []) (row_expression lts no_condition problem 0 []) shares rows well reachable is_tree is_basis
       (says_arcs lts no_condition problem 0 []) (arcs_stand lts no_condition problem 0 []) stand within over_zero refute leaf in_range
@@ -193,7 +211,8 @@ module _ (lts : System) (well : IsWellFormed lts) (reachable : IsAllReachable lt
       refute = node_shares_refute (case_at (of_all lts arcs basis) problem 0) case over [] (no_sides case) live multiplier farkas shares shares_are
 
       units : All (λ (r : NamedRow). HasUnit lts (row_expression lts no_condition problem 0 [] r.name)) rows
-      units = All-weaker (λ (r : NamedRow). RowStands lts no_condition problem 0 [] r.name × IsRowNameOf lts r.name) (λ (r : NamedRow). HasUnit lts (row_expression lts no_condition problem 0 [] r.name))
+      units = All-weaker (λ (r : NamedRow). RowStands lts no_condition problem 0 [] r.name × IsRowNameOf lts r.name)
+          (λ (r : NamedRow). HasUnit lts (row_expression lts no_condition problem 0 [] r.name))
           (λ r p. row_unit lts well.in_range problem r.name asked p.0 p.1) rows
           (leaf_have lts arcs basis (row_expression lts no_condition problem 0 []) shares rows (λ name. RowStands lts no_condition problem 0 [] name × IsRowNameOf lts name)
           (λ k d lt. (stand k d lt, names k d lt)) (λ a has. (arcs_stand lts no_condition problem 0 [] a has, arc_in_range lts well.in_range a.from a.label a.to has)) leaf)

@@ -22,10 +22,10 @@ use Rattle.rg_case_folds.specs.Rewriting.{CaseSystem, rows_of, system_fold}
 use Rattle.rg_case_folds.specs.Spreading.{spread_fold}
 use Rattle.rg_case_folds.specs.Shown.{Shown, IsLive}
 use Rattle.rg_outcome.specs.Casing.{CaseResult, spread_tree, CaseComes, CaseComes.row_passes, CaseComes.pivot_passes, CaseComes.place_passes, CaseComes.place_is_made, CaseComes.leaf_passes, CaseComes.is_refuted}
-use Rattle.rg_outcome.specs.Solving.{Solved, Solved.placed, Solved.refuted, Solved.passed, CasesCome, CasesCome.first_place, CasesCome.all_refuted, CasesCome.first_term, ProblemComes}
+use Rattle.rg_outcome.specs.Solving.{Solved, Solved.refuted, CasesCome, CasesCome.first_place, CasesCome.all_refuted, CasesCome.first_term, ProblemComes}
 use Rattle.rg_outcome.specs.Coming.{Separation, Separation.places as of_places, Separation.unsolvable as of_problem, Separation.too_wide as of_term, Says}
 use Rattle.rg_outcome.specs.Outcome.{Answer, Answer.unsolvable, Gives, Searched, Searched.a_cycle, Searched.all_problems, Out, Out.a_state, Out.a_fork, Out.a_search}
-use Rattle.rg_outcome.proofs.Inseparable.{asked}
+use Rattle.rg_outcome.proofs.Inseparable.{asked, placed_or_refuted, passed_or_refuted, same_refuted as same_trees}
 use Rattle.rg_outcome.proofs.Placed.{refuted_stay}
 use Rattle.rg_outcome.proofs.Saying.{says}
 use Rattle.rg_outcome.proofs.Solvings.{same_solved}
@@ -47,7 +47,8 @@ same_split_tree t u e = cc
 tree_not_end : (o : BranchOutcome) (t : SplitTree) → o ≡ tree t → IsEnd o → ⊥
 tree_not_end o t e is = subst IsEnd e is
 
-branch_leaf : (system : LinearSystem) (forms : List Form) (above : List SplitSide) (o : BranchOutcome) (t : SplitTree) → forms ≡ [] → BranchFrom system forms above o → o ≡ tree t → IsLeafOf (node_system system forms above) t
+branch_leaf : (system : LinearSystem) (forms : List Form) (above : List SplitSide) (o : BranchOutcome) (t : SplitTree) → forms ≡ []
+    → BranchFrom system forms above o → o ≡ tree t → IsLeafOf (node_system system forms above) t
 branch_leaf system forms above o t none (branch_passes w d) e = absurd cc
 branch_leaf system forms above o t none (branch_refutes members fixed i k d row) e = record {
   multiplier = multiplier_of (node_system system forms above) k i;
@@ -93,7 +94,8 @@ passes_or_refutes w t e = cc
 same_tree : (t u : Tree) → CaseResult.refutes t ≡ CaseResult.refutes u → t ≡ u
 same_tree t u e = cc
 
-case_leaf : (lts : System) (arcs : List Arc) (basis : CycleBasis) (problem : Problem) (r : CaseResult) (t : Tree) → CaseComes (case_at (of_all lts arcs basis) problem 0) r → r ≡ CaseResult.refutes t → IsSpread lts arcs basis problem t
+case_leaf : (lts : System) (arcs : List Arc) (basis : CycleBasis) (problem : Problem) (r : CaseResult) (t : Tree)
+    → CaseComes (case_at (of_all lts arcs basis) problem 0) r → r ≡ CaseResult.refutes t → IsSpread lts arcs basis problem t
 case_leaf lts arcs basis problem r t (row_passes w is) e = absurd (passes_or_refutes _ t e)
 case_leaf lts arcs basis problem r t (pivot_passes case sides at made b) e = absurd (passes_or_refutes _ t e)
 case_leaf lts arcs basis problem r t (place_passes case members sides start value w made b point is) e = absurd (passes_or_refutes _ t e)
@@ -113,26 +115,19 @@ record Begin (lts : System) (arcs : List Arc) (basis : CycleBasis) (problem : Pr
   pub spread : IsSpread lts arcs basis problem first
   pub live : IsLive lts problem
 
-placed_or_refuted : (p : Place) (trees : List Tree) → placed p ≡ refuted trees → ⊥
-placed_or_refuted p trees e = cc
-
-passed_or_refuted : (w : Shown) (trees : List Tree) → passed w ≡ refuted trees → ⊥
-passed_or_refuted w trees e = cc
-
-same_trees : (trees trees' : List Tree) → refuted trees ≡ refuted trees' → trees ≡ trees'
-same_trees trees trees' e = cc
-
 cases_leaf : (lts : System) (arcs : List Arc) (basis : CycleBasis) (problem : Problem) (n : ℕ) (r : Solved) (trees : List Tree) → IsLive lts problem → 0 < n
     → CasesCome (λ i. CaseComes (case_at (of_all lts arcs basis) problem i)) n r → r ≡ refuted trees → Begin lts arcs basis problem trees
 cases_leaf lts arcs basis problem n r trees live some (first_place i p lt has none) e = absurd (placed_or_refuted p trees e)
 cases_leaf lts arcs basis problem n r trees live some (first_term i w lt has none makes_none) e = absurd (passed_or_refuted w trees e)
 cases_leaf lts arcs basis problem n r trees live some (all_refuted trees' long each) e = subst (Begin lts arcs basis problem) (same_trees trees' trees e) (begins trees' long each)
   where
-    begins : (ts : List Tree) → length ts ≡ n → ((i : ℕ) (t : Tree) → slice_get ts i ≡ Some t → CaseComes (case_at (of_all lts arcs basis) problem i) (CaseResult.refutes t)) → Begin lts arcs basis problem ts
+    begins : (ts : List Tree) → length ts ≡ n → ((i : ℕ) (t : Tree) → slice_get ts i ≡ Some t
+        → CaseComes (case_at (of_all lts arcs basis) problem i) (CaseResult.refutes t)) → Begin lts arcs basis problem ts
     begins [] long each = absurd (omega arith)
     begins (t ∷ more) long each = record { first = t; more = more; are = refl; spread = case_leaf lts arcs basis problem (CaseResult.refutes t) t (each 0 t refl) refl; live = live }
 
-problem_leaf : (lts : System) (arcs : List Arc) (basis : CycleBasis) (problem : Problem) (trees : List Tree) → ProblemComes (of_all lts arcs basis) problem (refuted trees) → Begin lts arcs basis problem trees
+problem_leaf : (lts : System) (arcs : List Arc) (basis : CycleBasis) (problem : Problem) (trees : List Tree)
+    → ProblemComes (of_all lts arcs basis) problem (refuted trees) → Begin lts arcs basis problem trees
 problem_leaf lts arcs basis (Event s t) trees (inl (dead, e)) = absurd (placed_or_refuted _ trees (sym e))
 problem_leaf lts arcs basis (Event s t) trees (inr (live, c)) = cases_leaf lts arcs basis (Event s t) 1 (refuted trees) trees live (omega arith) c refl
 problem_leaf lts arcs basis (States s s') trees c = cases_leaf lts arcs basis (States s s') 2 (refuted trees) trees tt (omega arith) c refl
@@ -153,7 +148,8 @@ same_problem p q ts us e = cc
 same_list : (p q : Problem) (ts us : List Tree) → of_trees p ts ≡ of_trees q us → ts ≡ us
 same_list p q ts us e = cc
 
-searched_leaf : (lts : System) (o : Separation) (problem : Problem) (trees : List Tree) → IsWellFormed lts → IsAllReachable lts → Searched lts no_condition o → Gives lts o (unsolvable (of_trees problem trees)) → HasLeaf lts problem trees
+searched_leaf : (lts : System) (o : Separation) (problem : Problem) (trees : List Tree) → IsWellFormed lts → IsAllReachable lts
+    → Searched lts no_condition o → Gives lts o (unsolvable (of_trees problem trees)) → HasLeaf lts problem trees
 searched_leaf lts o problem trees well reachable (a_cycle w stage h) g = absurd g
 searched_leaf lts o problem trees well reachable (all_problems arcs basis _ is_tree is_basis d) g =
     by o (says lts (ProblemComes (of_all lts arcs basis)) (same_solved (of_all lts arcs basis)) (refuted_stay (of_all lts arcs basis) well.in_range no_numbers reachable is_tree is_basis) o d) g
@@ -164,7 +160,8 @@ searched_leaf lts o problem trees well reachable (all_problems arcs basis _ is_t
       rows = b.spread.rows;
       more = b.more;
       are = b.are ∙ ap (λ t. t ∷ b.more) b.spread.is;
-      refutes = leaf_holds lts well reachable arcs basis is_tree is_basis other (asked lts other is) b.live b.spread.case b.spread.made b.spread.multiplier b.spread.farkas b.spread.rows b.spread.spread;
+      refutes = leaf_holds lts well reachable arcs basis is_tree is_basis other
+          (asked lts other is) b.live b.spread.case b.spread.made b.spread.multiplier b.spread.farkas b.spread.rows b.spread.spread;
     }
 
     by : (o : Separation) → Says lts (ProblemComes (of_all lts arcs basis)) o → Gives lts o (unsolvable (of_trees problem trees)) → HasLeaf lts problem trees

@@ -84,7 +84,8 @@ module _ (lts : System) (reason : Reason) (now next : Labelling) (is : IsNext lt
   lifted_region p m each region = record {
     start = ap m is.system.initial ∙ region.start;
     enabled = λ s u s' has. (let c = comes_from p each s u s' has in subst (λ n. n ≤ m s) (sym c.pre) (region.enabled s c.t s' c.has));
-    moved = λ s u s' has. (let c = comes_from p each s u s' has in region.moved s c.t s' c.has ∙ sym (ap (λ n. m s - n + post_weight (with_copy is.label p) u) c.pre ∙ ap (λ n. m s - pre_weight p c.t + n) c.post));
+    moved = λ s u s' has. (let c = comes_from p each s u s' has in
+        region.moved s c.t s' c.has ∙ sym (ap (λ n. m s - n + post_weight (with_copy is.label p) u) c.pre ∙ ap (λ n. m s - pre_weight p c.t + n) c.post));
   }
 
   lifted_kept : (p : Place) → IsKept now.system p → IsKept next.system (with_copy is.label p)

@@ -1,10 +1,8 @@
 -- What a round of the code comes to.
-use Rattle.std.proofs.Common.{◌≡◌, ◌≢◌, ℕ, zero, suc, ◌+◌, ◌<◌, ◌≤◌, List, [], ◌∷◌, ◌++◌, length, map, take, get_or, Some, slice_get, All, Contains, Bool, true, false, if◌then◌else◌, refl, sym, ap, ap₂, subst, ◌∙◌, arith}
+use Rattle.std.proofs.Common.{◌≡◌, ℕ, zero, suc, ◌+◌, ◌<◌, ◌≤◌, List, [], ◌∷◌, ◌++◌, length, map, take, get_or, Some, slice_get, All, Bool, true, false, if◌then◌else◌, refl, sym, ap, ap₂, subst, ◌∙◌, arith}
 use Rattle.std.specs.List.{range_with_len}
 use Rattle.std.proofs.lemmas.Option.{slice_get_within, get_or_from_slice_get}
 use Rattle.std.proofs.lemmas.List.{length-append, map-append, take_more, map-id}
-use Rattle.std.proofs.lemmas.List.Elements.{All-push, Contains-get_or}
-use Rattle.std.proofs.lemmas.List.Quantifiers.{all_pairs_push}
 use Rattle.std.proofs.lemmas.List.FromFn.{map-range_with_len_more}
 use Rattle.rg_text.specs.Byte.{IsName}
 use Rattle.rg_theory.specs.declared.Arc.{Arc}
@@ -25,7 +23,7 @@ use Rattle.rg_split.specs.Parts.{SplitsLabel, is_moved}
 use Rattle.rg_split.specs.Building.{arcs_with}
 use Rattle.rg_split.specs.Round.{IsToldApart}
 use Rattle.rg_split.specs.Rounds as rounds
-use Rattle.rg_split.specs.Rounds.{Labelling, labelling, itself, relabelled, first_name, IsNext, HasLabel, RoundsCome, RoundsCome.goes_on, SplitsTo}
+use Rattle.rg_split.specs.Rounds.{Labelling, labelling, itself, relabelled, first_name, IsNext, HasLabel, RoundsCome.goes_on, SplitsTo}
 use Rattle.rg_split.specs.declared.splitting.Splitting.{Splitting}
 use Rattle.rg_split.specs.declared.splitting.Splitting.TheVariants.{Done, Unreachable, Full, TooWide}
 use Rattle.rg_split.specs.Answer.{splitting_of, Says, SaysInRound, LeadsTo}
@@ -47,7 +45,8 @@ first_is lts system names ts old fine are_names are_labels made is =
     let whole : IsSystemWith lts.state_names lts.label_names lts.arcs lts.initial system =
     subst (λ l. IsSystemWith lts.state_names lts.label_names l lts.initial system) (ap (λ l. arcs_with l lts.arcs) are_labels ∙ arcs_same lts.arcs)
     (subst (λ l. IsSystemWith lts.state_names l (arcs_with ts lts.arcs) lts.initial system) are_names made) in
-    let own : IsSystemWith lts.state_names lts.label_names lts.arcs lts.initial lts = record { state_names = refl; label_names = refl; initial = refl; members = λ a. (λ h. h, λ h. h); in_order = fine.arc_order } in
+    let own : IsSystemWith lts.state_names lts.label_names lts.arcs lts.initial lts =
+    record { state_names = refl; label_names = refl; initial = refl; members = λ a. (λ h. h, λ h. h); in_order = fine.arc_order } in
     let same = one_with lts.state_names lts.label_names lts.arcs lts.initial system lts whole own in
     λ i. record { system = same i; old = is i }
 
@@ -59,10 +58,12 @@ labels_in_range lts ts n fine are le = subst (All (λ t. t < n)) (sym are) (each
     each (a ∷ arcs) all zero d lt = (let l = all 0 a (omega arith) in omega arith)
     each (a ∷ arcs) all (suc k) d lt = each arcs (λ j e less. all (suc j) e (omega arith)) k d (omega arith)
 
-pub names_taken : {S : Type 0} (view : S → List ℕ) (from : List (List ℕ)) (k : ℕ) (items new : List S) (s : S) (name : List ℕ) → slice_get from k ≡ Some name → view s ≡ name → new ≡ items ++ s ∷ [] → map view items ≡ take k from
+pub names_taken : {S : Type 0} (view : S → List ℕ) (from : List (List ℕ)) (k : ℕ) (items new : List S) (s : S) (name : List ℕ)
+    → slice_get from k ≡ Some name → view s ≡ name → new ≡ items ++ s ∷ [] → map view items ≡ take k from
     → map view new ≡ take (k + 1) from
 names_taken view from k items new s name at is made so_far =
-    ap (map view) made ∙ map-append view items (s ∷ []) ∙ ap₂ (λ ys y. ys ++ y ∷ []) so_far (is ∙ sym (get_or_from_slice_get from k name name at)) ∙ sym (take_more from k name (slice_get_within from k name at))
+    ap (map view) made ∙ map-append view items (s ∷ []) ∙ ap₂ (λ ys y. ys ++ y ∷ []) so_far (is ∙ sym (get_or_from_slice_get from k name name at))
+    ∙ sym (take_more from k name (slice_get_within from k name at))
 
 pub range_more : (n : ℕ) → range_with_len 0 (n + 1) ≡ range_with_len 0 n ++ n ∷ []
 range_more n =
@@ -84,7 +85,8 @@ first_below lts now t first apart below is =
 pub name_is_name : (names : List (List ℕ)) (k : ℕ) (name : List ℕ) → AreNames names → slice_get names k ≡ Some name → IsName name
 name_is_name names k name are at = subst IsName (get_or_from_slice_get names k name name at) (are.each k name (slice_get_within names k name at))
 
-pub pushed_name : {S : Type 0} (view : S → List ℕ) (names : List (List ℕ)) (items new : List S) (s : S) (name : List ℕ) → view s ≡ name → map view items ≡ names → new ≡ items ++ s ∷ [] → map view new ≡ names ++ name ∷ []
+pub pushed_name : {S : Type 0} (view : S → List ℕ) (names : List (List ℕ)) (items new : List S) (s : S) (name : List ℕ) → view s ≡ name
+    → map view items ≡ names → new ≡ items ++ s ∷ [] → map view new ≡ names ++ name ∷ []
 pushed_name view names items new s name is are made = ap (map view) made ∙ map-append view items (s ∷ []) ∙ ap₂ (λ ys y. ys ++ y ∷ []) are is
 
 -- the reason is no state
@@ -98,12 +100,6 @@ has_label (of_code.States s s' cases) none = tt
 pub first_name_is : (lts : System) (old : List ℕ) (t first : ℕ) (name : List ℕ) → first ≡ old_label old t → slice_get lts.label_names first ≡ Some name → name ≡ first_name lts old t
 first_name_is lts old t first name is at = sym (get_or_from_slice_get lts.label_names first name [] at) ∙ ap (λ k. get_or lts.label_names k []) is
 
-pub names_more : (names : List (List ℕ)) (name : List ℕ) → AreNames names → IsName name → (Contains names name → ⊥) → AreNames (names ++ name ∷ [])
-names_more names name are is absent = record {
-  each = All-push IsName names name are.each is;
-  differ = all_pairs_push (λ a b. a ≢ b) names name are.differ (λ k d lt same. absent (subst (Contains names) same (Contains-get_or names k d lt)));
-}
-
 relabelled_below : (reason : Reason) (t new n : ℕ) (a : Arc) → new < n → a.label < n → (relabelled reason t new a).label < n
 relabelled_below reason t new n a lt lt' = by (is_moved reason t a)
   where
@@ -111,7 +107,8 @@ relabelled_below reason t new n a lt lt' = by (is_moved reason t a)
     by true = lt
     by false = lt'
 
-pub labels_below : (system : System) (reason : Reason) (t n : ℕ) (ts : List ℕ) → IsInRange system → n ≡ labels system + 1 → ts ≡ map (λ a. (relabelled reason t (labels system) a).label) system.arcs → All (λ u. u < n) ts
+pub labels_below : (system : System) (reason : Reason) (t n : ℕ) (ts : List ℕ) → IsInRange system → n ≡ labels system + 1
+    → ts ≡ map (λ a. (relabelled reason t (labels system) a).label) system.arcs → All (λ u. u < n) ts
 labels_below system reason t n ts fine more are = subst (All (λ u. u < n)) (sym are) (each system.arcs (λ k d lt. (fine.arcs k d lt).1))
   where
     each : (arcs : List Arc) → ((k : ℕ) (d : Arc) → k < length arcs → (get_or arcs k d).label < labels system) → All (λ u. u < n) (map (λ a. (relabelled reason t (labels system) a).label) arcs)
@@ -136,7 +133,8 @@ next_is lts reason now system t first names name ts old splits are is new are_na
 
 -- ---- the rounds
 
-pub leads : (lts : System) (reason : Reason) (now next : Labelling) → IsWellFormed lts → IsToldApart lts now → Out now.system no_condition (of_reason reason) → HasLabel reason → labels now.system < most_labels → IsNext lts reason now next
+pub leads : (lts : System) (reason : Reason) (now next : Labelling) → IsWellFormed lts → IsToldApart lts now
+    → Out now.system no_condition (of_reason reason) → HasLabel reason → labels now.system < most_labels → IsNext lts reason now next
     → LeadsTo lts now next
 leads lts reason now next fine apart out has room is = record {
   comes = λ r come. goes_on reason next out has room is come;

@@ -53,7 +53,8 @@ all_reached system (refuted problem trees) has out = out_states system (of_reaso
 
 module _ (lts : System) (well : IsWellFormed lts) where
   -- the label of a round is one of the system
-  below : (reason : Reason) (now next : Labelling) → IsToldApart lts now → Out now.system no_condition (of_reason reason) → HasLabel reason → (is : IsNext lts reason now next) → is.label < labels now.system
+  below : (reason : Reason) (now next : Labelling) → IsToldApart lts now → Out now.system no_condition (of_reason reason) → HasLabel reason
+      → (is : IsNext lts reason now next) → is.label < labels now.system
   below reason now next told out has is =
       let s = to_split now.system reason told.formed out has in
       subst (λ t. t < labels now.system) (one_label now.system reason s.label is.label s.splits is.splits) s.below
@@ -89,7 +90,8 @@ module _ (lts : System) (well : IsWellFormed lts) where
   no_reason : (net : Net) → Solves net lts → (reason : Reason) → Out lts no_condition (of_reason reason) → ⊥
   no_reason net solves reason out = (answer_right lts no_condition (of_reason reason) well.in_range no_numbers out).none net solves (any_class net)
 
-  pub solved_at_once : (net : Net) (r : Splitting) → Solves net lts → RoundsCome lts (itself lts) r → ((places : List Place) × (r ≡ done (itself lts) places)) ⊎ ((w : Shown) × (r ≡ too_wide (itself lts) w))
+  pub solved_at_once : (net : Net) (r : Splitting) → Solves net lts → RoundsCome lts (itself lts) r
+      → ((places : List Place) × (r ≡ done (itself lts) places)) ⊎ ((w : Shown) × (r ≡ too_wide (itself lts) w))
   solved_at_once net r solves (solved places out) = inl (places, refl)
   solved_at_once net r solves (not_reached s out) = absurd (no_reason net solves (of_state s) out)
   solved_at_once net r solves (passed w out) = inr (w, refl)

@@ -117,6 +117,7 @@ unrefused lts flawless none _ (a_fork s t s₁ s₂ reachable least) =
 unrefused lts flawless none reason (a_search o _ reachable fork_free searched gives) = none o searched (gives_none lts o reason gives)
 
 -- an answer that is a reason
-pub flaw_refusal : (lts : System) (certificate : Certificate) (found : Vec Place Global) → Out lts no_condition (of_reason (reason_of certificate.reason)) → IsRightCertificate lts no_condition certificate → found.items ≡ []
+pub flaw_refusal : (lts : System) (certificate : Certificate) (found : Vec Place Global)
+    → Out lts no_condition (of_reason (reason_of certificate.reason)) → IsRightCertificate lts no_condition certificate → found.items ≡ []
     → IsRightRefusal lts (record { certificate = certificate; places = found })
 flaw_refusal lts certificate found out is none = record { out = out; right = is; places = subst (All (IsKept lts)) (sym none) (All-nil (IsKept lts)) }

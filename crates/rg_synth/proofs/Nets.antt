@@ -28,11 +28,13 @@ narrow_markings lts class net fine sol each m reached i p at =
     let (s, lt, e) = is.only m reached in
     let narrow = subst (IsNarrowRegion lts class) (get_or_from_slice_get net.places i p p at) (each i p (slice_get_within net.places i p at)) in
     let reach = solved_reachable lts net (marking_of sol.markings) fine sol.transitions is in
-    let same : tokens (marking_of sol.markings s) i ≡ narrow.m s = region_unique lts p _ narrow.m (places_are_regions lts net (marking_of sol.markings) is i p at) narrow.region.region s (reach.each s lt) in
+    let same : tokens (marking_of sol.markings s) i ≡ narrow.m s =
+    region_unique lts p _ narrow.m (places_are_regions lts net (marking_of sol.markings) is i p at) narrow.region.region s (reach.each s lt) in
     subst (λ n. n ≤ greatest) (sym same ∙ ap (λ m. tokens m i) e) (narrow.narrow s lt)
 
 -- what is left of places that separate makes a net that solves
-pub solving_net : (lts : System) (class : Class) (places : List Place) (net : Net) → IsInRange lts → IsAllReachable lts → AreSeparating lts class places → net.labels ≡ labels lts → IsNetInRange net → IsPruned lts places net.places → IsSolvingNet lts class net
+pub solving_net : (lts : System) (class : Class) (places : List Place) (net : Net) → IsInRange lts → IsAllReachable lts
+    → AreSeparating lts class places → net.labels ≡ labels lts → IsNetInRange net → IsPruned lts places net.places → IsSolvingNet lts class net
 solving_net lts class places net fine reachable are transitions numbers pruned =
     let regions = all_left lts places net.places (IsNarrowRegion lts class) pruned are.regions in
     let separate = left_separates lts [] places net.places pruned are.separate in

@@ -15,7 +15,8 @@ pub all_left : (lts : System) (places left : List Place) (P : Place → Type 0) 
 all_left lts places left P pruned all k d lt = All-contains P places _ all (left_among lts [] places left pruned _ (Contains-get_or left k d lt))
 
 -- a net in range stays so
-pub left_in_range : (lts : System) (n : ℕ) (places left : List Place) → IsPruned lts places left → IsNetInRange (record { labels = n; places = places }) → IsNetInRange (record { labels = n; places = left })
+pub left_in_range : (lts : System) (n : ℕ) (places left : List Place) → IsPruned lts places left
+    → IsNetInRange (record { labels = n; places = places }) → IsNetInRange (record { labels = n; places = left })
 left_in_range lts n places left pruned are = record {
   weights = all_left lts places left (λ p. (length p.pre ≡ n) × (length p.post ≡ n)) pruned are.weights;
   places = all_left lts places left IsPlaceInRange pruned are.places;

@@ -39,7 +39,8 @@ unasked_all class (b ∷ cs) c e =
 pub asked_among : (class : Class) (cs : List Condition) (c : Condition) → asks_for (with_conditions class cs) c ≡ true
     → (asks_for class c ≡ true) ⊎ Any (λ b. is_like b c ≡ true) cs
 asked_among class [] c e = inl e
-asked_among class (b ∷ cs) c e = ⊎_elim (λ earlier. by (or_cases (is_like b c) (asks_for class c) (sym (asked_with class b c) ∙ earlier))) (λ more. inr (there more)) (asked_among (with_condition class b) cs c e)
+asked_among class (b ∷ cs) c e = ⊎_elim (λ earlier. by (or_cases (is_like b c) (asks_for class c) (sym (asked_with class b c) ∙ earlier)))
+    (λ more. inr (there more)) (asked_among (with_condition class b) cs c e)
   where
     there : Any (λ b. is_like b c ≡ true) cs → Any (λ b. is_like b c ≡ true) (b ∷ cs)
     there more = (suc more.0, more.1, omega (arith, more.2), more.3, more.4)

@@ -52,7 +52,8 @@ LacksComma word = All (λ b. (b == 44) ≡ false) word
 
 pub word_lacks : (c : Condition) (word : List ℕ) → IsWordOf c word → LacksComma word
 word_lacks c word is =
-    All-weaker (λ b. is_word_byte b ≡ true) (λ b. (b == 44) ≡ false) (λ b e. not_true (b == 44) (and_parts (is_shown b) (not (b == 44)) e).1) word (AllPass-from_list_all is_word_byte word (word_bytes c word is))
+    All-weaker (λ b. is_word_byte b ≡ true) (λ b. (b == 44) ≡ false) (λ b e. not_true (b == 44) (and_parts (is_shown b) (not (b == 44)) e).1) word
+    (AllPass-from_list_all is_word_byte word (word_bytes c word is))
   where
     not_true : (a : Bool) → not a ≡ true → a ≡ false
     not_true true e = absurd cc
@@ -84,7 +85,7 @@ bound_with class (Bounded k) word given (inr (some, few, spelled)) = record { bo
 bound_with class (Multiple n) word given (some, few, spelled) = record { bound = given.bound; marking = (some, few) }
 bound_with class Nonbranching word given is = record { bound = given.bound; marking = given.marking }
 
-no_numbers : HasNumbersInRange no_condition
+pub no_numbers : HasNumbersInRange no_condition
 no_numbers = record { bound = tt; marking = tt }
 
 bound_with_all : (class : Class) (cs : List Condition) (words : List (List ℕ)) → HasNumbersInRange class → AreWordsOf cs words → HasNumbersInRange (with_conditions class cs)

@@ -15,11 +15,11 @@ use Rattle.rg_theory.specs.ClassParts.{IsOther}
 use Rattle.rg_theory.proofs.ClassAsked.{asked_among}
 use Rattle.std.proofs.lemmas.Fmt.{first_decimal, decimal_digit, decimal_nonempty, digits_decimal, parse-decimal, decimal-digits_value}
 
-same_test : (ds : List ℕ) → list_all is_ascii_digit ds ≡ all_ascii_digits ds
+pub same_test : (ds : List ℕ) → list_all is_ascii_digit ds ≡ all_ascii_digits ds
 same_test [] = refl
 same_test (c ∷ cs) = ap (λ b. is_ascii_digit c && b) (same_test cs)
 
-digits_test : IsDigitsTest (λ ds. list_all is_ascii_digit ds ≡ true)
+pub digits_test : IsDigitsTest (λ ds. list_all is_ascii_digit ds ≡ true)
 digits_test = record {
   empty = refl;
   parts = λ c cs e. let told = tells_all_ascii_digits.parts c cs (sym (same_test (c ∷ cs)) ∙ e) in (told.0, same_test cs ∙ told.1);

@@ -38,7 +38,7 @@ one_class text a b (inr x) (inl y) = absurd (none_alone text a y.0 x)
 one_class text a b (inr x) (inr y) =
     x.made ∙ ap (with_conditions no_condition) (same_conditions x.conditions y.conditions (class_words text) x.words y.words) ∙ sym y.made
 
-and_left : (a b : Bool) → (a && b) ≡ true → a ≡ true
+pub and_left : (a b : Bool) → (a && b) ≡ true → a ≡ true
 and_left true b e = refl
 and_left false b e = absurd cc
 

@@ -63,7 +63,8 @@ adds_none class = record {
 adds_one : (class : Class) (c : Condition) (cs : List Condition) (whole : Class) → InRange c → asks_for class c ≡ false → Adds (with_condition class c) cs whole → Adds class (c ∷ cs) whole
 adds_one class c cs whole here fresh rest = record {
   in_range = All-cons InRange c cs here rest.in_range;
-  unasked = All-cons (λ d. asks_for class d ≡ false) c cs fresh (All-weaker (λ d. asks_for (with_condition class c) d ≡ false) (λ d. asks_for class d ≡ false) (λ d e. (unasked_with class c d e).1) cs rest.unasked);
+  unasked = All-cons (λ d. asks_for class d ≡ false) c cs fresh
+      (All-weaker (λ d. asks_for (with_condition class c) d ≡ false) (λ d. asks_for class d ≡ false) (λ d e. (unasked_with class c d e).1) cs rest.unasked);
   unlike = AllPairs-cons (λ a b. is_like a b ≡ false) c cs
       (All-weaker (λ d. asks_for (with_condition class c) d ≡ false) (λ d. is_like c d ≡ false) (λ d e. (unasked_with class c d e).0) cs rest.unasked) rest.unlike;
   made = rest.made;

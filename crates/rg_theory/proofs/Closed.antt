@@ -4,7 +4,8 @@ use Rattle.rg_theory.specs.System.{System, HasArc, Leads, IsReachable}
 use Rattle.rg_theory.proofs.Trees.{leads_more}
 
 -- arcs don't lead out of a closed set
-pub stays_inside : (lts : System) (inside : ℕ → Bool) → ((q t q' : ℕ) → HasArc lts q t q' → IsTrue (inside q) → IsTrue (inside q')) → (q : ℕ) (ts : List ℕ) (q' : ℕ) → Leads lts q ts q' → IsTrue (inside q)
+pub stays_inside : (lts : System) (inside : ℕ → Bool) → ((q t q' : ℕ) → HasArc lts q t q' → IsTrue (inside q) → IsTrue (inside q'))
+    → (q : ℕ) (ts : List ℕ) (q' : ℕ) → Leads lts q ts q' → IsTrue (inside q)
     → IsTrue (inside q')
 stays_inside lts inside closed q [] q' e is = subst (λ k. IsTrue (inside k)) e is
 stays_inside lts inside closed q (t ∷ ts) q' (mid, has, rest) is = stays_inside lts inside closed mid ts q' rest (closed q t mid has is)

@@ -43,7 +43,8 @@ left_needed lts front [] left e i lt sep = absurd (let none : i < 0 = subst (λ 
 left_needed lts front (p ∷ places) left (behind, leaves, decides) i lt sep =
     go (left_needed lts (front ++ p ∷ []) places behind leaves) decides
   where
-    at : ((j : ℕ) → j < length behind → ¬ SeparateAll ((front ++ p ∷ []) ++ others behind j) lts) → (i : ℕ) → i < length (p ∷ behind) → ¬ SeparateAll (front ++ behind) lts → ¬ SeparateAll (front ++ others (p ∷ behind) i) lts
+    at : ((j : ℕ) → j < length behind → ¬ SeparateAll ((front ++ p ∷ []) ++ others behind j) lts) → (i : ℕ) → i < length (p ∷ behind)
+        → ¬ SeparateAll (front ++ behind) lts → ¬ SeparateAll (front ++ others (p ∷ behind) i) lts
     at rest zero lt not sep = not sep
     at rest (suc j) lt not sep = rest j (omega arith) (subst (λ l. SeparateAll l lts) (sym (put_between front p (others behind j))) sep)
 
@@ -65,7 +66,8 @@ left_among lts front (p ∷ places) left (behind, leaves, decides) q has =
 
     go : (Contains behind q → Contains places q) → Decides lts front p behind left → Contains (p ∷ places) q
     go later (inl (sep, e)) = behind_it places (later (subst (λ l. Contains l q) e has))
-    go later (inr (not, e)) = ⊎_elim (λ is. subst (Contains (p ∷ places)) is (0, omega arith, refl)) (λ has'. behind_it places (later has')) (Contains-cons_cases p q behind (subst (λ l. Contains l q) e has))
+    go later (inr (not, e)) = ⊎_elim (λ is. subst (Contains (p ∷ places)) is (0, omega arith, refl)) (λ has'. behind_it places (later has'))
+        (Contains-cons_cases p q behind (subst (λ l. Contains l q) e has))
 
 -- no more are left than were given
 pub left_no_more : (lts : System) (front places left : List Place) → LeavesBehind lts front places left → length left ≤ length places
@@ -85,5 +87,6 @@ left_solves lts class places left fine reach each sep pruned =
     (λ k d lt. All-contains (IsRegionIn lts class) places _ each (left_among lts [] places left pruned _ (Contains-get_or left k d lt)))
     (left_separates lts [] places left pruned sep)
 
-pub left_lacks_none : (lts : System) (places left : List Place) → IsInRange lts → IsPruned lts places left → (i : ℕ) → i < length left → ¬ Solves (net_without (record { labels = labels lts; places = left }) i) lts
+pub left_lacks_none : (lts : System) (places left : List Place) → IsInRange lts → IsPruned lts places left → (i : ℕ) → i < length left
+    → ¬ Solves (net_without (record { labels = labels lts; places = left }) i) lts
 left_lacks_none lts places left fine pruned i lt sol = left_needed lts [] places left pruned i lt (solved_separates lts _ fine sol)

@@ -60,9 +60,11 @@ not_same met s s' has lacks e = lacks (subst (Contains met) e has)
 -- a state that is met keeps its way
 pub way_kept : (lts : System) (way : ℕ → List ℕ) (met : List ℕ) (tree : List Arc) (s : ℕ) → Grows lts met tree → Contains met s → ways_from way tree s ≡ way s
 way_kept lts way met [] s g has = refl
-way_kept lts way met (a ∷ tree) s (j, rest) has = way_kept lts (longer way a) (met ++ a.to ∷ []) tree s rest (Contains-append_left met (a.to ∷ []) s has) ∙ longer_other way a s (not_same met s a.to has j.fresh)
+way_kept lts way met (a ∷ tree) s (j, rest) has =
+    way_kept lts (longer way a) (met ++ a.to ∷ []) tree s rest (Contains-append_left met (a.to ∷ []) s has) ∙ longer_other way a s (not_same met s a.to has j.fresh)
 
-pub way_joins : (lts : System) (way : ℕ → List ℕ) (met : List ℕ) (tree : List Arc) (a : Arc) → Grows lts met tree → Contains tree a → ways_from way tree a.to ≡ ways_from way tree a.from ++ a.label ∷ []
+pub way_joins : (lts : System) (way : ℕ → List ℕ) (met : List ℕ) (tree : List Arc) (a : Arc) → Grows lts met tree → Contains tree a
+    → ways_from way tree a.to ≡ ways_from way tree a.from ++ a.label ∷ []
 way_joins lts way met [] a g (k, lt, e) = absurd (omega arith)
 way_joins lts way met (b ∷ tree) a (j, rest) has = go (Contains-cons_cases b a tree has) (λ there. way_joins lts (longer way b) (met ++ b.to ∷ []) tree a rest there)
   where
@@ -70,10 +72,12 @@ way_joins lts way met (b ∷ tree) a (j, rest) has = go (Contains-cons_cases b a
     here =
         let met_from = source_met lts met b j in
         let at_to = way_kept lts (longer way b) (met ++ b.to ∷ []) tree b.to rest (Contains-push met b.to) ∙ longer_here way b b.to refl in
-        let at_from = way_kept lts (longer way b) (met ++ b.to ∷ []) tree b.from rest (Contains-append_left met (b.to ∷ []) b.from met_from) ∙ longer_other way b b.from (not_same met b.from b.to met_from j.fresh) in
+        let at_from = way_kept lts (longer way b) (met ++ b.to ∷ []) tree b.from rest (Contains-append_left met (b.to ∷ []) b.from met_from)
+        ∙ longer_other way b b.from (not_same met b.from b.to met_from j.fresh) in
         at_to ∙ ap (λ w. w ++ b.label ∷ []) (sym at_from)
 
-    go : (b ≡ a) ⊎ Contains tree a → (Contains tree a → ways_from (longer way b) tree a.to ≡ ways_from (longer way b) tree a.from ++ a.label ∷ []) → ways_from (longer way b) tree a.to ≡ ways_from (longer way b) tree a.from ++ a.label ∷ []
+    go : (b ≡ a) ⊎ Contains tree a → (Contains tree a → ways_from (longer way b) tree a.to ≡ ways_from (longer way b) tree a.from ++ a.label ∷ [])
+        → ways_from (longer way b) tree a.to ≡ ways_from (longer way b) tree a.from ++ a.label ∷ []
     go (inl e) next = subst (λ (x : Arc). ways_from (longer way b) tree x.to ≡ ways_from (longer way b) tree x.from ++ x.label ∷ []) e here
     go (inr there) next = next there
 
@@ -107,12 +111,14 @@ pub still_met : (met : List ℕ) (tree : List Arc) (s : ℕ) → Contains met s 
 still_met met [] s has = has
 still_met met (a ∷ tree) s has = still_met (met ++ a.to ∷ []) tree s (Contains-append_left met (a.to ∷ []) s has)
 
-pub led_is_met : (lts : System) (met : List ℕ) (tree : List Arc) (s : ℕ) (ts : List ℕ) (s' : ℕ) → Grows lts met tree → Contains (met_after met tree) s → Leads lts s ts s' → Contains (met_after met tree) s'
+pub led_is_met : (lts : System) (met : List ℕ) (tree : List Arc) (s : ℕ) (ts : List ℕ) (s' : ℕ) → Grows lts met tree
+    → Contains (met_after met tree) s → Leads lts s ts s' → Contains (met_after met tree) s'
 led_is_met lts met tree s [] s' g has e = subst (Contains (met_after met tree)) e has
 led_is_met lts met tree s (t ∷ ts) s' g has (mid, step, rest) = led_is_met lts met tree mid ts s' g (closed lts met tree (arc s t mid) g step has) rest
 
 pub reachable_is_met : (lts : System) (tree : List Arc) (s : ℕ) → IsTree lts tree → IsReachable lts s → Contains (tree_order lts tree) s
-reachable_is_met lts tree s g (ts, leads) = subst (λ xs. Contains xs s) (met_after_is (lts.initial ∷ []) tree) (led_is_met lts (lts.initial ∷ []) tree lts.initial ts s g (still_met (lts.initial ∷ []) tree lts.initial (0, omega arith, refl)) leads)
+reachable_is_met lts tree s g (ts, leads) = subst (λ xs. Contains xs s) (met_after_is (lts.initial ∷ []) tree)
+    (led_is_met lts (lts.initial ∷ []) tree lts.initial ts s g (still_met (lts.initial ∷ []) tree lts.initial (0, omega arith, refl)) leads)
 
 -- one step more
 pub leads_more : (lts : System) (s : ℕ) (ts : List ℕ) (mid t s' : ℕ) → Leads lts s ts mid → HasArc lts mid t s' → Leads lts s (ts ++ t ∷ []) s'
@@ -120,7 +126,8 @@ leads_more lts s [] mid t s' e has = (s', subst (λ x. HasArc lts x t s') (sym e
 leads_more lts s (u ∷ ts) mid t s' (next, step, rest) has = (next, step, leads_more lts next ts mid t s' rest has)
 
 -- the ways of the states met lead to them
-pub ways_lead : (lts : System) (way : ℕ → List ℕ) (met : List ℕ) (tree : List Arc) → Grows lts met tree → ((s : ℕ) → Contains met s → Leads lts lts.initial (way s) s) → (s : ℕ) → Contains (met_after met tree) s → Leads lts lts.initial (ways_from way tree s) s
+pub ways_lead : (lts : System) (way : ℕ → List ℕ) (met : List ℕ) (tree : List Arc) → Grows lts met tree
+    → ((s : ℕ) → Contains met s → Leads lts lts.initial (way s) s) → (s : ℕ) → Contains (met_after met tree) s → Leads lts lts.initial (ways_from way tree s) s
 ways_lead lts way met [] g lead s has = lead s has
 ways_lead lts way met (a ∷ tree) (j, rest) lead s' has' = ways_lead lts (longer way a) (met ++ a.to ∷ []) tree rest next s' has'
   where

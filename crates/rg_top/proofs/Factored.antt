@@ -1,9 +1,9 @@
 -- How `factor` ends for what comes of a system.
-use Rattle.std.proofs.Common.{◌≡◌, ℕ, ◌<◌, List, ◌++◌, length, map, get_or, All, Option, None, Some, refl, sym, ap, ap₂, subst, ◌∙◌, arith}
+use Rattle.std.proofs.Common.{◌≡◌, ℕ, List, ◌++◌, length, map, get_or, All, Option, None, Some, refl, sym, ap, ap₂, subst, ◌∙◌}
 use Rattle.std.proofs.Math.ListN.{get_or-map}
 use Rattle.std.proofs.lemmas.List.{length-map}
 use Rattle.std.proofs.lemmas.List.Elements.{Contains-get_or}
-use Rattle.std.proofs.lemmas.Option.{slice_get_within, get_or_from_slice_get}
+use Rattle.std.proofs.lemmas.Option.{get_or_from_slice_get}
 use Rattle.rg_integers.specs.Range.{greatest}
 use Rattle.rg_theory.specs.System.{System, states, IsInRange}
 use Rattle.rg_theory.specs.Net.{Net}
@@ -73,13 +73,6 @@ factors_end lts class fs tuples none are = subst (λ o. FactorEnds lts o (says_y
 -- there is a tuple for each state, where the tuples are seen as lists
 pub tuples_long : {V : Type 0} (view : V → List ℕ) (lts : System) (fs : List Factor) (tuples : List V) → AreFactorsOf lts fs (map view tuples) → length tuples ≡ states lts
 tuples_long view lts fs tuples are = sym (length-map tuples view) ∙ are.product.one_each
-
--- a factor of the code, seen as it is in the definitions, is the one that they have at its place
-pub factor_within : {V : Type 0} (view : V → Factor) (all : List V) (i : ℕ) (f : Factor) → IsFactorAt (map view all) i f → i < length all
-factor_within view all i f at =
-    let lt = slice_get_within (map view all) i f at in
-    let long = length-map all view in
-    omega arith
 
 pub factor_here : {V : Type 0} (view : V → Factor) (all : List V) (i : ℕ) (d : V) (f : Factor) → IsFactorAt (map view all) i f → f ≡ view (get_or all i d)
 factor_here view all i d f at = sym (get_or_from_slice_get (map view all) i f (view d) at) ∙ get_or-map view all i d

@@ -5,7 +5,7 @@ use Rattle.std.proofs.lemmas.List.Elements.{Contains-get_or}
 use Rattle.std.proofs.lemmas.Option.{slice_get_within}
 use Rattle.rg_theory.specs.declared.Arc.{Arc}
 use Rattle.rg_theory.specs.System.{System, states, labels, IsArcInRange, IsInRange}
-use Rattle.rg_theory.specs.ClassWords.{no_condition, HasNumbersInRange}
+use Rattle.rg_theory.specs.ClassWords.{HasNumbersInRange}
 use Rattle.rg_line_formats.specs.First.{number_of}
 use Rattle.rg_line_formats.proofs.Numbers.{number_at}
 use Rattle.rg_line_formats.proofs.Parts.{some_with}
@@ -21,6 +21,7 @@ use Rattle.rg_top.specs.SelfTest.{Trial, most_users, lock_class, grid_trial, dou
 use Rattle.rg_top.specs.declared.status.Status.{Status}
 use Rattle.rg_top.specs.declared.status.Status.TheVariants.{Done}
 use Rattle.rg_top.proofs.SomeNets.{SomeOut}
+use Rattle.rg_theory.proofs.ClassBytes.{no_numbers}
 
 -- what is drawn for a family's number is sound; a system in range and a class have an answer
 pub record SomeTrials : Type 0 where
@@ -64,9 +65,6 @@ trial_told some t number numbers =
     by lts is (of_term w, out) = inr (w, record { lts = lts; of_family = is; answer = out })
 
 -- ---- the three trials
-
-no_numbers : HasNumbersInRange no_condition
-no_numbers = record { bound = tt; marking = tt }
 
 lock_numbers : HasNumbersInRange lock_class
 lock_numbers = record { bound = (omega arith, omega arith); marking = tt }

@@ -8,14 +8,13 @@ use Rattle.rg_integers.proofs.ListSums.{sum_over-append}
 use Rattle.rg_integers.proofs.Ring.{mul-add}
 use Rattle.rg_cert_meaning.specs.Expression as linear
 use Rattle.rg_cert_meaning.specs.Expression.{same_variable, coefficient_in}
-use Rattle.rg_integers.specs.Range.{greatest}
 use Rattle.rg_cert_data.specs.declared.term.Term.{Term}
 use Rattle.rg_verify.specs.declared.sums.Sum.{Sum}
 use Rattle.rg_verify.specs.declared.sums.Sums.{Sums}
 use Rattle.rg_verify.specs.Terms.{size_in}
 use Rattle.rg_cert_data.specs.Sums.{terms_in, term_of}
 use Rattle.rg_verify.specs.Sums.{signed_of, size_of, entry_of, signed_at, size_at, HasEntry, HasSameEntries, AddsTerms, PassesByTerms}
-use Rattle.rg_cert_meaning.proofs.Sums.{same_variable_is, same_variable_refl}
+use Rattle.rg_cert_meaning.proofs.Sums.{same_variable_is}
 use Rattle.rg_verify.proofs.Tables.{same_entry}
 use Rattle.rg_cert_meaning.specs.declared.Variable.{Variable}
 
@@ -35,8 +34,11 @@ size_in-append ts us v = sum_by-append (λ t. if same_variable t.variable v then
 -- ---- one term
 
 -- the entry of the term's variable is another, and all else stays
-pub adds_term : (k : ℤ) (t : linear.Term) (number : ℤ) (old mid new : Sums) (before after : Sum) → number ≡ k *ℤ t.coefficient → entry_of old t.variable ≡ Some before → after.signed ≡ before.signed +ℤ number → after.size ≡ before.size + nat_abs number
-    → HasSameEntries old mid → mid.constant ≡ old.constant → ((w : Variable) → entry_of new w ≡ (if same_variable t.variable w then Some after else entry_of mid w)) → new.constant ≡ mid.constant → AddsTerms k (t ∷ []) old new
+pub adds_term : (k : ℤ) (t : linear.Term) (number : ℤ) (old mid new : Sums) (before after : Sum) → number ≡ k *ℤ t.coefficient
+    → entry_of old t.variable ≡ Some before → after.signed ≡ before.signed +ℤ number → after.size ≡ before.size + nat_abs number
+    → HasSameEntries old mid → mid.constant ≡ old.constant
+    → ((w : Variable) → entry_of new w ≡ (if same_variable t.variable w then Some after else entry_of mid w)) → new.constant ≡ mid.constant
+    → AddsTerms k (t ∷ []) old new
 adds_term k t number old mid new before after is was signed size same kept entries constant = record {
   signed = λ w. signed_by w (same_variable t.variable w) refl;
   sizes = λ w. size_by w (same_variable t.variable w) refl;
@@ -68,13 +70,6 @@ adds_term k t number old mid new before after is was signed size same kept entri
     size_by w false e =
         let p = ap size_of (at w false e) in
         rw (e, p) (omega arith)
-
-pub passes_by_term : (k : ℤ) (t : linear.Term) (number : ℤ) (old : Sums) (before : Sum) → number ≡ k *ℤ t.coefficient → entry_of old t.variable ≡ Some before → greatest < before.size + nat_abs number → PassesByTerms k (t ∷ []) old
-passes_by_term k t number old before is was more =
-    let q = ap size_of was in
-    let m = ap nat_abs is ∙ unsigned_abs-mul k t.coefficient in
-    let r = same_variable_refl t.variable in
-    (t.variable, rw r (omega arith))
 
 -- ---- more terms
 
@@ -115,13 +110,15 @@ parted : (places : List (Option Term)) (i : ℕ) (d : Option Term) (t : Term) �
     → terms_in places ≡ terms_in (take i places) ++ (term_of t ∷ terms_in (drop (i + 1) places))
 parted places i d t lt is = terms_around places i d lt ∙ ap (λ (o : Option Term). terms_in (take i places) ++ (terms_in (o ∷ []) ++ terms_in (drop (i + 1) places))) is
 
-pub term_entry : (sums : Sums) (places : List (Option Term)) (i : ℕ) (d : Option Term) (t : Term) → i < length places → get_or places i d ≡ Some t → All (λ u. HasEntry sums u.variable) (terms_in places)
+pub term_entry : (sums : Sums) (places : List (Option Term)) (i : ℕ) (d : Option Term) (t : Term) → i < length places → get_or places i d ≡ Some t
+    → All (λ u. HasEntry sums u.variable) (terms_in places)
     → HasEntry sums (term_of t).variable
 term_entry sums places i d t lt is each =
     let there = Contains-append_right (terms_in (take i places)) (term_of t ∷ terms_in (drop (i + 1) places)) (term_of t) (0, omega arith, refl) in
     All-contains (λ (u : linear.Term). HasEntry sums u.variable) _ (term_of t) each (subst (λ us. Contains us (term_of t)) (sym (parted places i d t lt is)) there)
 
-pub adds_at : (k : ℤ) (places : List (Option Term)) (i : ℕ) (d : Option Term) (t : Term) (a b c : Sums) → i < length places → get_or places i d ≡ Some t → AddsTerms k (terms_in (take i places)) a b → AddsTerms k (term_of t ∷ []) b c
+pub adds_at : (k : ℤ) (places : List (Option Term)) (i : ℕ) (d : Option Term) (t : Term) (a b c : Sums) → i < length places
+    → get_or places i d ≡ Some t → AddsTerms k (terms_in (take i places)) a b → AddsTerms k (term_of t ∷ []) b c
     → AddsTerms k (terms_in (take (i + 1) places)) a c
 adds_at k places i d t a b c lt is first second =
     let more : terms_in (take (i + 1) places) ≡ terms_in (take i places) ++ (term_of t ∷ []) = terms_more places i d lt ∙ ap (λ (o : Option Term). terms_in (take i places) ++ terms_in (o ∷ [])) is in
@@ -133,7 +130,8 @@ adds_past k places i d a b lt is first =
     let more : terms_in (take (i + 1) places) ≡ terms_in (take i places) ++ [] = terms_more places i d lt ∙ ap (λ (o : Option Term). terms_in (take i places) ++ terms_in (o ∷ [])) is in
     subst (λ ts. AddsTerms k ts a b) (sym (more ∙ append-nil (terms_in (take i places)))) first
 
-pub passes_at : (k : ℤ) (places : List (Option Term)) (i : ℕ) (d : Option Term) (t : Term) (a b : Sums) → i < length places → get_or places i d ≡ Some t → AddsTerms k (terms_in (take i places)) a b → PassesByTerms k (term_of t ∷ []) b
+pub passes_at : (k : ℤ) (places : List (Option Term)) (i : ℕ) (d : Option Term) (t : Term) (a b : Sums) → i < length places
+    → get_or places i d ≡ Some t → AddsTerms k (terms_in (take i places)) a b → PassesByTerms k (term_of t ∷ []) b
     → PassesByTerms k (terms_in places) a
 passes_at k places i d t a b lt is first passes =
     subst (λ ts. PassesByTerms k ts a) (sym (parted places i d t lt is)) (passes_with_all k (terms_in (take i places)) (term_of t ∷ []) (terms_in (drop (i + 1) places)) a b first passes)

@@ -8,6 +8,7 @@ use Rattle.std.proofs.lemmas.Option.{slice_get-get_or}
 use Rattle.rg_theory.specs.declared.Arc.{Arc}
 use Rattle.rg_theory.specs.System.{System, IsArcBefore, HasArc}
 use Rattle.rg_cert_meaning.specs.Row.{HasArcAt}
+use Rattle.rg_lts.proofs.OrderedArcs.{before_trans as trans}
 
 -- by from, label and to
 abbrev arc_cmp : Arc → Arc → Ordering
@@ -57,15 +58,6 @@ in_order x y = by_from (cases_order x.from y.from)
     by_from (inl e) = by_label e (cases_order x.label y.label)
     by_from (inr (inl p)) = inl (inl p)
     by_from (inr (inr p)) = inr (inr (inl p))
-
-trans : (a b c : Arc) → IsArcBefore a b → IsArcBefore b c → IsArcBefore a c
-trans a b c (inl p) (inl q) = inl (omega arith)
-trans a b c (inl p) (inr q) = let e = q.0 in inl (omega arith)
-trans a b c (inr p) (inl q) = let e = p.0 in inl (omega arith)
-trans a b c (inr (e, inl p)) (inr (f, inl q)) = inr (e ∙ f, inl (omega arith))
-trans a b c (inr (e, inl p)) (inr (f, inr q)) = inr (e ∙ f, let g = q.0 in inl (omega arith))
-trans a b c (inr (e, inr p)) (inr (f, inl q)) = inr (e ∙ f, let g = p.0 in inl (omega arith))
-trans a b c (inr (e, inr (g, p))) (inr (f, inr (h, q))) = inr (e ∙ f, inr (g ∙ h, omega arith))
 
 -- the answers rise along arcs in order
 index_most : (o : Ordering) → ordering_index o ≤ 2

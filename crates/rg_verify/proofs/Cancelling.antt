@@ -153,7 +153,8 @@ module _ (a b c : Option Term) where
   all_stay ab ac bc = record {
     within = λ states labels all. all;
     coefficients = λ v. refl;
-    sizes = λ v. size_three a b c v ∙ three_alike (here a v) (here b v) (here c v) (others_are_alike a b v ab) (others_are_alike a c v ac) (others_are_alike b c v bc) ∙ sym (ap nat_abs (coefficient_three a b c v));
+    sizes = λ v. size_three a b c v ∙ three_alike (here a v) (here b v) (here c v) (others_are_alike a b v ab) (others_are_alike a c v ac)
+        (others_are_alike b c v bc) ∙ sym (ap nat_abs (coefficient_three a b c v));
   }
 
 -- ---- an array of three

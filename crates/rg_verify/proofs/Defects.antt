@@ -36,7 +36,8 @@ in_range lts sums (Tokens q) table has = let e = table.tokens in omega arith
 in_range lts sums (Effect t) table has = let e = table.effects in omega arith
 
 -- what is wrong with the sums is what is wrong with the rows
-pub leaf_judged : (lts : System) (stands : RowName → Type 0) (expression : RowName → linear.Expression) (rows : List NamedRow) (sums : Sums) (o : Option Defect) → All (IsRightRow stands) rows → All (IsRowOf lts) rows → IsTableOf lts sums → AreSumsOf expression rows sums
+pub leaf_judged : (lts : System) (stands : RowName → Type 0) (expression : RowName → linear.Expression) (rows : List NamedRow) (sums : Sums)
+    (o : Option Defect) → All (IsRightRow stands) rows → All (IsRowOf lts) rows → IsTableOf lts sums → AreSumsOf expression rows sums
     → MatchOption o (HasNoDefect sums) (IsSumDefect sums) → MatchOption o (LeafRefutes stands expression rows) (IsDefectOf lts stands expression rows)
 leaf_judged lts stands expression rows sums None right each table are none = record {
   stand = λ k d lt. (right k d lt).0;

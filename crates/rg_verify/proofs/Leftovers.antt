@@ -1,5 +1,5 @@
 -- The first variable whose sum isn't 0.
-use Rattle.std.proofs.Common.{◌≡◌, ◌≢◌, ◌⊎◌, ℕ, ◌<◌, List, [], ◌∷◌, ◌++◌, Option, Some, None, MatchOption, length, get_or, All, Contains, inl, inr, sym, subst, arith, pos}
+use Rattle.std.proofs.Common.{◌≡◌, ◌≢◌, ◌⊎◌, ℕ, ◌<◌, List, [], ◌∷◌, ◌++◌, Option, Some, None, MatchOption, length, get_or, All, Contains, inl, inr, sym, subst, pos}
 use Rattle.std.proofs.lemmas.List.Elements.{Contains-push_cases}
 use Rattle.rg_verify.specs.declared.sums.Sums.{Sums}
 use Rattle.rg_verify.specs.Judged.{IsVariableBefore}
@@ -17,9 +17,6 @@ pub record IsFirstAmong (sums : Sums) (vs : List Variable) (v : Variable) : Type
 -- it is the one found, if there is one
 abbrev pub TellsFirst : Sums → List Variable → Option Variable → Type 0
 TellsFirst sums vs o = MatchOption o ((v : Variable) → Contains vs v → signed_at sums v ≡ pos 0) (λ v. IsFirstAmong sums vs v)
-
-pub tells_none : (sums : Sums) → TellsFirst sums [] None
-tells_none sums v (k, lt, at) = absurd (omega arith)
 
 cases_more : (vs : List Variable) (u : Variable) (w : Variable) → Contains (vs ++ u ∷ []) w → Contains vs w ⊎ (u ≡ w)
 cases_more vs u w has = Contains-push_cases vs u w has
@@ -63,7 +60,8 @@ tells_left sums vs (Some v) u r told has left (inr (is, not_earlier)) = rw is (r
     by w before (inr same) = absurd (not_before_itself w (subst (IsVariableBefore w) same before))
 
 -- the first among the listed variables is the first of all, since the others have the sum 0
-pub first_of_all : (sums : Sums) (vs : List Variable) (o : Option Variable) → IsTidy sums → vs ≡ sums.touched.items → TellsFirst sums vs o → MatchOption o ((v : Variable) → signed_at sums v ≡ pos 0) (λ v. IsLeftFirst sums v)
+pub first_of_all : (sums : Sums) (vs : List Variable) (o : Option Variable) → IsTidy sums → vs ≡ sums.touched.items → TellsFirst sums vs o
+    → MatchOption o ((v : Variable) → signed_at sums v ≡ pos 0) (λ v. IsLeftFirst sums v)
 first_of_all sums vs None tidy is told = λ v. by v (tidy.others v)
   where
     by : (v : Variable) → Contains sums.touched.items v ⊎ (size_at sums v ≡ 0) → signed_at sums v ≡ pos 0

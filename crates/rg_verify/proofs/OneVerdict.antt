@@ -55,9 +55,11 @@ not_all P xs i x reached not each = not (subst P (get_or_from_slice_get xs i x x
 -- ---- leaves
 
 -- a leaf with a defect doesn't refute
-no_defect : (lts : System) (stands : RowName → Type 0) (expression : RowName → Expression) (rows : List NamedRow) (d : Defect) → IsDefectOf lts stands expression rows d → LeafRefutes stands expression rows → ⊥
+no_defect : (lts : System) (stands : RowName → Type 0) (expression : RowName → Expression) (rows : List NamedRow) (d : Defect)
+    → IsDefectOf lts stands expression rows d → LeafRefutes stands expression rows → ⊥
 no_defect lts stands expression rows WrongRow (i, r, reached, not) good = not_all (IsRightRow stands) rows i r reached (λ right. not right.0) (λ k x lt. (good.stand k x lt, good.positive k x lt))
-no_defect lts stands expression rows NotPositive (i, r, reached, stand, not) good = not_all (IsRightRow stands) rows i r reached (λ right. not right.1) (λ k x lt. (good.stand k x lt, good.positive k x lt))
+no_defect lts stands expression rows NotPositive (i, r, reached, stand, not) good =
+    not_all (IsRightRow stands) rows i r reached (λ right. not right.1) (λ k x lt. (good.stand k x lt, good.positive k x lt))
 no_defect lts stands expression rows SumPasses (right, not) good = not good.small
 no_defect lts stands expression rows (LeftOver v) (summed, left) good = left.left (good.cancels v)
 no_defect lts stands expression rows NoContradiction (summed, cancels, not) good = not good.contradicts
@@ -77,14 +79,17 @@ first_once lts expression rows v w one other = by (before_or_not v w)
 wrong_row : (lts : System) (stands : RowName → Type 0) (expression : RowName → Expression) (rows : List NamedRow) → IsDefectOf lts stands expression rows WrongRow → All (IsRightRow stands) rows → ⊥
 wrong_row lts stands expression rows (i, r, reached, not) each = not_all (IsRightRow stands) rows i r reached (λ right. not right.0) each
 
-not_positive : (lts : System) (stands : RowName → Type 0) (expression : RowName → Expression) (rows : List NamedRow) → IsDefectOf lts stands expression rows NotPositive → All (IsRightRow stands) rows → ⊥
+not_positive : (lts : System) (stands : RowName → Type 0) (expression : RowName → Expression) (rows : List NamedRow)
+    → IsDefectOf lts stands expression rows NotPositive → All (IsRightRow stands) rows → ⊥
 not_positive lts stands expression rows (i, r, reached, stand, not) each = not_all (IsRightRow stands) rows i r reached (λ right. not right.1) each
 
-one_kind : (lts : System) (stands : RowName → Type 0) (expression : RowName → Expression) (rows : List NamedRow) → IsDefectOf lts stands expression rows WrongRow → IsDefectOf lts stands expression rows NotPositive → ⊥
+one_kind : (lts : System) (stands : RowName → Type 0) (expression : RowName → Expression) (rows : List NamedRow)
+    → IsDefectOf lts stands expression rows WrongRow → IsDefectOf lts stands expression rows NotPositive → ⊥
 one_kind lts stands expression rows (i, r, reached, not) (j, q, reached', stand, not') =
     not (subst (λ (x : NamedRow). stands x.name) (reached_once (IsRightRow stands) rows j i q r reached' (λ right. not' right.1) reached (λ right. not right.0)) stand)
 
-one_defect : (lts : System) (stands : RowName → Type 0) (expression : RowName → Expression) (rows : List NamedRow) (d e : Defect) → IsDefectOf lts stands expression rows d → IsDefectOf lts stands expression rows e → d ≡ e
+one_defect : (lts : System) (stands : RowName → Type 0) (expression : RowName → Expression) (rows : List NamedRow) (d e : Defect)
+    → IsDefectOf lts stands expression rows d → IsDefectOf lts stands expression rows e → d ≡ e
 one_defect lts stands expression rows WrongRow WrongRow h k = refl
 one_defect lts stands expression rows WrongRow NotPositive h k = absurd (one_kind lts stands expression rows h k)
 one_defect lts stands expression rows WrongRow SumPasses h k = absurd (wrong_row lts stands expression rows h k.0)
@@ -120,7 +125,8 @@ one_defect lts stands expression rows d NotSo h k = absurd k
 -- ---- trees
 
 -- the nodes of a tree that refutes
-nodes_hold : (lts : System) (class : Class) (problem : Problem) (number : ℕ) (above : List Side) (tree : Tree) → TreeRefutes lts class problem number above tree → All (NodeHolds lts class problem number) (placed_nodes above tree)
+nodes_hold : (lts : System) (class : Class) (problem : Problem) (number : ℕ) (above : List Side) (tree : Tree)
+    → TreeRefutes lts class problem number above tree → All (NodeHolds lts class problem number) (placed_nodes above tree)
 nodes_hold lts class problem number above (leaf rows) good = All-cons (NodeHolds lts class problem number) (record { above = above; node = leaf_node rows }) [] good (All-nil _)
 nodes_hold lts class problem number above (split form at low high) (form_stands, left, right) =
     All-cons (NodeHolds lts class problem number) (record { above = above; node = split_node form at })
@@ -129,19 +135,23 @@ nodes_hold lts class problem number above (split form at low high) (form_stands,
     (nodes_hold lts class problem number (above ++ low_side form at ∷ []) low left)
     (nodes_hold lts class problem number (above ++ high_side form at ∷ []) high right))
 
-not_holding : (lts : System) (class : Class) (problem : Problem) (number : ℕ) (above : List Side) (node : TreeNode) (d : Defect) → IsNodeDefect lts class problem number above node d → HoldsAt lts class problem number above node → ⊥
+not_holding : (lts : System) (class : Class) (problem : Problem) (number : ℕ) (above : List Side) (node : TreeNode) (d : Defect)
+    → IsNodeDefect lts class problem number above node d → HoldsAt lts class problem number above node → ⊥
 not_holding lts class problem number above (leaf_node rows) d wrong good = no_defect lts (RowStands lts class problem number above) (row_expression lts class problem number above) rows d wrong good
 not_holding lts class problem number above (split_node form at) d (is, none) good = none good
 
-no_defect_in : (lts : System) (class : Class) (problem : Problem) (number : ℕ) (tree : Tree) (n : ℕ) (d : Defect) → IsDefectIn lts class problem number tree n d → TreeRefutes lts class problem number [] tree → ⊥
+no_defect_in : (lts : System) (class : Class) (problem : Problem) (number : ℕ) (tree : Tree) (n : ℕ) (d : Defect)
+    → IsDefectIn lts class problem number tree n d → TreeRefutes lts class problem number [] tree → ⊥
 no_defect_in lts class problem number tree n d (v, reached, wrong) good =
     not_all (NodeHolds lts class problem number) (placed_nodes [] tree) n v reached (not_holding lts class problem number v.above v.node d wrong) (nodes_hold lts class problem number [] tree good)
 
-one_node_defect : (lts : System) (class : Class) (problem : Problem) (number : ℕ) (above : List Side) (node : TreeNode) (d e : Defect) → IsNodeDefect lts class problem number above node d → IsNodeDefect lts class problem number above node e → d ≡ e
+one_node_defect : (lts : System) (class : Class) (problem : Problem) (number : ℕ) (above : List Side) (node : TreeNode) (d e : Defect)
+    → IsNodeDefect lts class problem number above node d → IsNodeDefect lts class problem number above node e → d ≡ e
 one_node_defect lts class problem number above (leaf_node rows) d e h k = one_defect lts (RowStands lts class problem number above) (row_expression lts class problem number above) rows d e h k
 one_node_defect lts class problem number above (split_node form at) d e (is, none) (is', none') = is ∙ sym is'
 
-one_in_tree : (lts : System) (class : Class) (problem : Problem) (number : ℕ) (tree : Tree) (n m : ℕ) (d e : Defect) → IsDefectIn lts class problem number tree n d → IsDefectIn lts class problem number tree m e → (n ≡ m) × (d ≡ e)
+one_in_tree : (lts : System) (class : Class) (problem : Problem) (number : ℕ) (tree : Tree) (n m : ℕ) (d e : Defect)
+    → IsDefectIn lts class problem number tree n d → IsDefectIn lts class problem number tree m e → (n ≡ m) × (d ≡ e)
 one_in_tree lts class problem number tree n m d e (v, reached, wrong) (w, reached', wrong') =
     let not_v = not_holding lts class problem number v.above v.node d wrong in
     let not_w = not_holding lts class problem number w.above w.node e wrong' in
@@ -152,13 +162,15 @@ one_in_tree lts class problem number tree n m d e (v, reached, wrong) (w, reache
 
 -- ---- cases
 
-one_among : (lts : System) (class : Class) (problem : Problem) (trees : List Tree) (c n b m : ℕ) (d e : Defect) → IsDefectAmong lts class problem trees c n d → IsDefectAmong lts class problem trees b m e → Refused c n d ≡ Refused b m e
+one_among : (lts : System) (class : Class) (problem : Problem) (trees : List Tree) (c n b m : ℕ) (d e : Defect)
+    → IsDefectAmong lts class problem trees c n d → IsDefectAmong lts class problem trees b m e → Refused c n d ≡ Refused b m e
 one_among lts class problem trees c n b m d e one other = by (cases_order c b)
   where
     by : (c ≡ b) ⊎ ((c < b) ⊎ (b < c)) → Refused c n d ≡ Refused b m e
     by (inl same) =
         let tree = same_Some one.tree other.tree (sym one.here ∙ ap (slice_get trees) same ∙ other.here) in
-        let there : IsDefectIn lts class problem c one.tree m e = subst (λ k. IsDefectIn lts class problem k one.tree m e) (sym same) (subst (λ t. IsDefectIn lts class problem b t m e) (sym tree) other.found) in
+        let there : IsDefectIn lts class problem c one.tree m e =
+        subst (λ k. IsDefectIn lts class problem k one.tree m e) (sym same) (subst (λ t. IsDefectIn lts class problem b t m e) (sym tree) other.found) in
         let both = one_in_tree lts class problem c one.tree n m d e one.found there in
         let f = both.0 in let g = both.1 in cc
     by (inr (inl l)) = absurd (no_defect_in lts class problem c one.tree n d one.found (other.before c one.tree l one.here))
@@ -171,7 +183,8 @@ IsOfKind lts class problem trees case node defect =
     ⊎ (((case ≡ 0) × (node ≡ 0) × (defect ≡ CaseMissing) × IsSeparationProblem lts problem × (HasAllCases lts class problem trees → ⊥))
     ⊎ IsDefectAmong lts class problem trees case node defect)
 
-kind_of : (lts : System) (class : Class) (problem : Problem) (trees : List Tree) (case node : ℕ) (defect : Defect) → IsDefectFor lts class problem trees case node defect → IsOfKind lts class problem trees case node defect
+kind_of : (lts : System) (class : Class) (problem : Problem) (trees : List Tree) (case node : ℕ) (defect : Defect)
+    → IsDefectFor lts class problem trees case node defect → IsOfKind lts class problem trees case node defect
 kind_of lts class problem trees case node NotSo (c, n, not) = inl (c, n, refl, not)
 kind_of lts class problem trees case node CaseMissing (c, n, asked, not) = inr (inl (c, n, refl, asked, not))
 kind_of lts class problem trees case node WrongRow h = inr (inr h)
@@ -184,7 +197,8 @@ kind_of lts class problem trees case node WrongForm h = inr (inr h)
 same_refusal : (c n b m : ℕ) (d e : Defect) → c ≡ b → n ≡ m → d ≡ e → Refused c n d ≡ Refused b m e
 same_refusal c n b m d e p q r = cc
 
-one_of_kind : (lts : System) (class : Class) (problem : Problem) (trees : List Tree) (c n b m : ℕ) (d e : Defect) → IsOfKind lts class problem trees c n d → IsOfKind lts class problem trees b m e → Refused c n d ≡ Refused b m e
+one_of_kind : (lts : System) (class : Class) (problem : Problem) (trees : List Tree) (c n b m : ℕ) (d e : Defect)
+    → IsOfKind lts class problem trees c n d → IsOfKind lts class problem trees b m e → Refused c n d ≡ Refused b m e
 one_of_kind lts class problem trees c n b m d e (inl (p, q, r, not)) (inl (p', q', r', not')) = same_refusal c n b m d e (p ∙ sym p') (q ∙ sym q') (r ∙ sym r')
 one_of_kind lts class problem trees c n b m d e (inl (p, q, r, not)) (inr (inl (p', q', r', asked, missing))) = absurd (not asked)
 one_of_kind lts class problem trees c n b m d e (inl (p, q, r, not)) (inr (inr among)) = absurd (not among.asked)
@@ -207,10 +221,12 @@ no_first lts class (refutes.unreachable s) c n d good (p, q, r, not) = not good
 no_first lts class (refutes.fork s t s₁ s₂) c n d good (p, q, r, not) = not good
 no_first lts class (refutes.refuted problem trees) c n d good h = none_of_kind lts class problem trees c n d good (kind_of lts class problem trees c n d h)
 
-one_first : (lts : System) (class : Class) (reason : refutes.Reason) (c n b m : ℕ) (d e : Defect) → IsFirstDefect lts class reason c n d → IsFirstDefect lts class reason b m e → Refused c n d ≡ Refused b m e
+one_first : (lts : System) (class : Class) (reason : refutes.Reason) (c n b m : ℕ) (d e : Defect) → IsFirstDefect lts class reason c n d
+    → IsFirstDefect lts class reason b m e → Refused c n d ≡ Refused b m e
 one_first lts class (refutes.unreachable s) c n b m d e (p, q, r, not) (p', q', r', not') = same_refusal c n b m d e (p ∙ sym p') (q ∙ sym q') (r ∙ sym r')
 one_first lts class (refutes.fork s t s₁ s₂) c n b m d e (p, q, r, not) (p', q', r', not') = same_refusal c n b m d e (p ∙ sym p') (q ∙ sym q') (r ∙ sym r')
-one_first lts class (refutes.refuted problem trees) c n b m d e h k = one_of_kind lts class problem trees c n b m d e (kind_of lts class problem trees c n d h) (kind_of lts class problem trees b m e k)
+one_first lts class (refutes.refuted problem trees) c n b m d e h k =
+    one_of_kind lts class problem trees c n b m d e (kind_of lts class problem trees c n d h) (kind_of lts class problem trees b m e k)
 
 pub one_verdict : (lts : System) (claim : Claim) (v w : Verdict) → Judges lts claim v → Judges lts claim w → v ≡ w
 one_verdict lts claim Accepted Accepted h k = refl

@@ -36,7 +36,8 @@ pub all_forms : (lts : System) (above : List Side) → All (IsSideOf lts) above 
 all_forms lts above each = All-weaker (IsSideOf lts) (λ s. IsFormOf lts s.form) (λ s is. is.0) above each
 
 -- an expression without opposite terms is that of its row
-pub reduced_row : (lts : System) (e new : Expression) (row : linear.Expression) → expression_of e ≡ row → IsReducedSum (terms_in e.terms) (terms_in new.terms) → new.constant ≡ e.constant → All (IsTermWithin (states lts) (labels lts)) row.terms
+pub reduced_row : (lts : System) (e new : Expression) (row : linear.Expression) → expression_of e ≡ row
+    → IsReducedSum (terms_in e.terms) (terms_in new.terms) → new.constant ≡ e.constant → All (IsTermWithin (states lts) (labels lts)) row.terms
     → IsExpressionOf lts new row
 reduced_row lts e new row is reduced constant within =
     let terms : terms_in e.terms ≡ row.terms = ap (λ (x : linear.Expression). x.terms) is in record {
@@ -47,11 +48,13 @@ reduced_row lts e new row is reduced constant within =
     }
 
 -- what a row adds to a sum of absolute values
-added_size : (lts : System) (e : Expression) (row : linear.Expression) (k : ℤ) (v : Variable) → IsExpressionOf lts e row → nat_abs k * size_in (terms_in e.terms) v ≡ nat_abs (k *ℤ coefficient_in row.terms v)
+added_size : (lts : System) (e : Expression) (row : linear.Expression) (k : ℤ) (v : Variable) → IsExpressionOf lts e row
+    → nat_abs k * size_in (terms_in e.terms) v ≡ nat_abs (k *ℤ coefficient_in row.terms v)
 added_size lts e row k v is = ap (λ n. nat_abs k * n) (is.sizes v) ∙ sym (unsigned_abs-mul k (coefficient_in row.terms v))
 
 -- the sums with one row more
-pub sums_more : (lts : System) (expression : RowName → linear.Expression) (rows : List NamedRow) (r : NamedRow) (e : Expression) (old new : Sums) → AreSumsOf expression rows old → IsExpressionOf lts e (expression r.name)
+pub sums_more : (lts : System) (expression : RowName → linear.Expression) (rows : List NamedRow) (r : NamedRow) (e : Expression) (old new : Sums)
+    → AreSumsOf expression rows old → IsExpressionOf lts e (expression r.name)
     → AddsRow r.multiplier (terms_in e.terms) e.constant old new → AreSumsOf expression (rows ++ r ∷ []) new
 sums_more lts expression rows r e old new sums is adds = record {
   coefficients = λ v.
@@ -72,7 +75,8 @@ sums_more lts expression rows r e old new sums is adds = record {
 }
 
 -- where a sum passes with one row more, the sums of all rows aren't small
-passes_more : (lts : System) (expression : RowName → linear.Expression) (rows rest : List NamedRow) (r : NamedRow) (e : Expression) (old : Sums) → AreSumsOf expression rows old → IsExpressionOf lts e (expression r.name)
+passes_more : (lts : System) (expression : RowName → linear.Expression) (rows rest : List NamedRow) (r : NamedRow) (e : Expression) (old : Sums)
+    → AreSumsOf expression rows old → IsExpressionOf lts e (expression r.name)
     → PassesByRow r.multiplier (terms_in e.terms) e.constant old → IsSmall expression (rows ++ (r ∷ rest)) → ⊥
 passes_more lts expression rows rest r e old sums is (inl (v, more)) small =
     let a = sums.sizes v in let d = added_size lts e (expression r.name) r.multiplier v is in
@@ -88,7 +92,8 @@ passes_more lts expression rows rest r e old sums is (inr more) small =
     omega (arith, a, d, s, t, u, more)
 
 -- the same for rows of the code, at a place among all
-pub passes_among : {X : Type 0} (lts : System) (expression : RowName → linear.Expression) (named : X → NamedRow) (rows : List X) (i : ℕ) (d : X) (e : Expression) (old : Sums) → i < length rows → AreSumsOf expression (map named (take i rows)) old
+pub passes_among : {X : Type 0} (lts : System) (expression : RowName → linear.Expression) (named : X → NamedRow) (rows : List X) (i : ℕ) (d : X)
+    (e : Expression) (old : Sums) → i < length rows → AreSumsOf expression (map named (take i rows)) old
     → IsExpressionOf lts e (expression (named (get_or rows i d)).name) → PassesByRow (named (get_or rows i d)).multiplier (terms_in e.terms) e.constant old → IsSmall expression (map named rows) → ⊥
 passes_among lts expression named rows i d e old lt sums is passes small =
     let around : map named rows ≡ map named (take i rows) ++ (named (get_or rows i d) ∷ map named (drop (i + 1) rows)) =

@@ -2,7 +2,7 @@
 use Rattle.std.proofs.Common.{◌≡◌, ◌≢◌, ◌⊎◌, inl, inr, ℕ, zero, suc, ◌<◌, ◌≤◌, Bool, true, false, true≢false, Option, None, Some, IsSome, IsTrue, IsFalse, refl, sym, arith}
 use Rattle.std.specs.Prelude.{List, ℤ, pos, negsuc, ◌≤ℤ◌, ◌<ℤ◌, slice_get}
 use Rattle.std.proofs.lemmas.Int.{ints}
-use Rattle.std.proofs.lemmas.Bool.{cases_lt, cases_eq}
+use Rattle.std.proofs.lemmas.Bool.{cases_eq}
 use Rattle.rg_theory.specs.System.{System, states, labels, HasArc}
 use Rattle.rg_theory.specs.declared.Class.{Class}
 use Rattle.rg_theory.specs.declared.Problem.{Problem}
@@ -16,17 +16,7 @@ use Rattle.rg_cert_meaning.specs.declared.Form.{Form}
 use Rattle.rg_cert_meaning.specs.declared.Form.TheVariants as split_form
 use Rattle.rg_cert_meaning.specs.Row.{Side, FormStands, SideStands, SharedStands, HasArcAt, EventStands, consumer_of, RowStands}
 use Rattle.rg_cert_meaning.specs.Refutes.{IsMultiplier}
-
-less_decided : (m n : ℕ) → Decided (m < n)
-less_decided m n = by (cases_lt m n)
-  where
-    by : (m < n) ⊎ (n ≤ m) → Decided (m < n)
-    by (inl less) = inl less
-    by (inr more) = inr (λ less. (omega arith))
-
-true_decided : (b : Bool) → Decided (IsTrue b)
-true_decided true = inl refl
-true_decided false = inr (λ e. true≢false (sym e))
+use Rattle.rg_net_verdict.proofs.BreakOrNone.{less_or_not as less_decided, true_or_not as true_decided}
 
 false_decided : (b : Bool) → Decided (IsFalse b)
 false_decided true = inr (λ e. true≢false e)

@@ -92,8 +92,11 @@ tidy_popped old mid new v sum tidy first second popped entries none listed =
     let names : old.touched.items ≡ mid.touched.items ++ v ∷ [] = popped in
     let within = subst (All (HasEntry old)) names tidy.listed in
     record {
-      listed = subst (λ (vs : List Variable). All (HasEntry new) vs) (sym listed) (λ k d lt. has_entry mid new _ second (has_entry old mid _ (same_lengths old mid first) (All-contains (HasEntry old) _ _ within (Contains-append_left _ _ _ (Contains-get_or _ k d lt)))));
-      others = λ w. subst (λ (vs : List Variable). Contains vs w ⊎ (size_at new w ≡ 0)) (sym listed) (by w (same_variable v w) refl (subst (λ vs. Contains vs w ⊎ (size_at old w ≡ 0)) names (tidy.others w)));
+      listed = subst (λ (vs : List Variable). All (HasEntry new) vs) (sym listed)
+          (λ k d lt. has_entry mid new _ second (has_entry old mid _ (same_lengths old mid first)
+          (All-contains (HasEntry old) _ _ within (Contains-append_left _ _ _ (Contains-get_or _ k d lt)))));
+      others = λ w. subst (λ (vs : List Variable). Contains vs w ⊎ (size_at new w ≡ 0)) (sym listed)
+          (by w (same_variable v w) refl (subst (λ vs. Contains vs w ⊎ (size_at old w ≡ 0)) names (tidy.others w)));
     }
   where
     at : (w : Variable) (b : Bool) → same_variable v w ≡ b → entry_of new w ≡ (if b then Some sum else entry_of mid w)
@@ -125,7 +128,8 @@ size_none xs i each = by (slice_get xs i) (some_item (λ (s : Sum). s.size ≡ 0
     by None h = refl
     by (Some s) h = h
 
-pub clear_table : (lts : System) (sums : Sums) → length sums.tokens.items ≡ states lts → length sums.effects.items ≡ labels lts → All (λ s. s.size ≡ 0) sums.tokens.items → All (λ s. s.size ≡ 0) sums.effects.items
+pub clear_table : (lts : System) (sums : Sums) → length sums.tokens.items ≡ states lts → length sums.effects.items ≡ labels lts
+    → All (λ s. s.size ≡ 0) sums.tokens.items → All (λ s. s.size ≡ 0) sums.effects.items
     → sums.touched.items ≡ [] → sums.constant.size ≡ 0 → IsClear lts sums
 clear_table lts sums tokens effects no_tokens no_effects none constant = record {
   table = record { tokens = tokens; effects = effects; tidy = record { listed = subst (λ (vs : List Variable). All (HasEntry sums) vs) (sym none) (All-nil _); others = λ v. inr (sizes v) } };

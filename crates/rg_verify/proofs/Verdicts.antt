@@ -1,7 +1,7 @@
 -- Verdicts on trees, and on certificates.
-use Rattle.std.proofs.Common.{◌≡◌, ◌↔◌, ℕ, zero, suc, ◌<◌, ◌≤◌, Bool, false, List, [], ◌∷◌, Some, map, length, slice_get, get_or, option_map, ◌+◌, ◌==◌, ◌⊎◌, inl, inr, eqb-true, eq-eqb, Result, Ok, Err, IfOk, IsTrue, true≢false, refl, sym, subst, ap, ◌∙◌, arith}
+use Rattle.std.proofs.Common.{◌≡◌, ◌↔◌, ℕ, ◌<◌, ◌≤◌, Bool, false, List, [], ◌∷◌, Some, map, length, slice_get, get_or, option_map, ◌+◌, ◌==◌, ◌⊎◌, inl, inr, eqb-true, eq-eqb, Result, Ok, Err, IfOk, IsTrue, true≢false, refl, sym, subst, ap, ◌∙◌, arith}
 use Rattle.std.proofs.lemmas.List.{length-map}
-use Rattle.std.proofs.lemmas.Option.{same_Some, none-some, slice_get-map, slice_get_read, slice_get_within}
+use Rattle.std.proofs.lemmas.Option.{same_Some, slice_get-map, slice_get_read, slice_get_within}
 use Rattle.std.proofs.lemmas.List.Elements.{All-head}
 use Rattle.std.proofs.lemmas.Bool.{cases_lt, eqb-false}
 use Rattle.rg_theory.specs.System.{System, states, labels, IsInRange}
@@ -25,7 +25,8 @@ use Rattle.rg_verify.specs.declared.verdict.Defect.TheVariants.{WrongRow, NotPos
 use Rattle.rg_verify.specs.Judged.{IsDefectOf, IsNodeDefect, HasAllCases, IsDefectAmong, IsDefectFor, IsDefectIn, JudgesTrees, Judges}
 
 -- no node has the defect that cases are missing, or that the problem isn't asked
-neither : (lts : System) (class : Class) (problem : Problem) (number : ℕ) (above : List Side) (node : TreeNode) (defect : Defect) → (defect ≡ CaseMissing) ⊎ (defect ≡ NotSo) → IsNodeDefect lts class problem number above node defect → ⊥
+neither : (lts : System) (class : Class) (problem : Problem) (number : ℕ) (above : List Side) (node : TreeNode) (defect : Defect)
+    → (defect ≡ CaseMissing) ⊎ (defect ≡ NotSo) → IsNodeDefect lts class problem number above node defect → ⊥
 neither lts class problem number above (leaf_node rows) defect (inl is) wrong =
     subst (IsDefectOf lts (RowStands lts class problem number above) (row_expression lts class problem number above) rows) is wrong
 neither lts class problem number above (leaf_node rows) defect (inr is) wrong =
@@ -34,7 +35,8 @@ neither lts class problem number above (split_node form at) defect (inl is) (for
 neither lts class problem number above (split_node form at) defect (inr is) (form_is, none) = let both : NotSo ≡ WrongForm = sym is ∙ form_is in absurd cc
 
 -- a node's defect is neither that the problem isn't asked nor that cases are missing
-pub defect_for : (lts : System) (class : Class) (problem : Problem) (trees : List Tree) (case node : ℕ) (defect : Defect) → IsDefectAmong lts class problem trees case node defect → IsDefectFor lts class problem trees case node defect
+pub defect_for : (lts : System) (class : Class) (problem : Problem) (trees : List Tree) (case node : ℕ) (defect : Defect)
+    → IsDefectAmong lts class problem trees case node defect → IsDefectFor lts class problem trees case node defect
 defect_for lts class problem trees case node WrongRow among = among
 defect_for lts class problem trees case node NotPositive among = among
 defect_for lts class problem trees case node (LeftOver v) among = among
@@ -53,14 +55,8 @@ image_is f xs i x lt is = slice_get-map f xs i ∙ ap (option_map f) (slice_get_
 pub asked_event : (lts : System) (s t : ℕ) (b : Bool) → s < states lts → t < labels lts → IsTrue b ↔ HasArcAt lts s t → b ≡ false → IsSeparationProblem lts (Event s t)
 asked_event lts s t b state label told none = (state, label, λ s' has. true≢false (sym (told.1 (s', has)) ∙ none))
 
-pub refuted_event : (lts : System) (class : Class) (s t : ℕ) (tree : Tree) → IsSeparationProblem lts (Event s t) → TreeRefutes lts class (Event s t) 0 [] tree → IsRefuted lts class (Event s t) (tree ∷ [])
-refuted_event lts class s t tree asked refutes = record { asked = asked; cases = refl; some = omega arith; each = each }
-  where
-    each : (number : ℕ) (other : Tree) → slice_get (tree ∷ []) number ≡ Some other → TreeRefutes lts class (Event s t) number [] other
-    each zero other e = subst (TreeRefutes lts class (Event s t) 0 []) (same_Some tree other e) refutes
-    each (suc number) other e = absurd (none-some other e)
-
-pub defect_event : (lts : System) (class : Class) (s t : ℕ) (tree : Tree) (node : ℕ) (defect : Defect) → IsSeparationProblem lts (Event s t) → IsDefectIn lts class (Event s t) 0 tree node defect → IsDefectFor lts class (Event s t) (tree ∷ []) 0 node defect
+pub defect_event : (lts : System) (class : Class) (s t : ℕ) (tree : Tree) (node : ℕ) (defect : Defect) → IsSeparationProblem lts (Event s t)
+    → IsDefectIn lts class (Event s t) 0 tree node defect → IsDefectFor lts class (Event s t) (tree ∷ []) 0 node defect
 defect_event lts class s t tree node defect asked found = defect_for lts class (Event s t) (tree ∷ []) 0 node defect (record {
   asked = asked;
   cases = (refl, omega arith);
@@ -73,7 +69,8 @@ defect_event lts class s t tree node defect asked found = defect_for lts class (
 -- ---- states
 
 -- whether there are all cases is told by how many there are
-pub all_cases_iff : {X : Type 0} (lts : System) (class : Class) (s other : ℕ) (f : X → Tree) (xs : List X) (n : ℕ) (empty : Bool) → n ≡ cases_of lts class (States s other) → empty ≡ (length xs == 0) → empty ≡ false
+pub all_cases_iff : {X : Type 0} (lts : System) (class : Class) (s other : ℕ) (f : X → Tree) (xs : List X) (n : ℕ) (empty : Bool)
+    → n ≡ cases_of lts class (States s other) → empty ≡ (length xs == 0) → empty ≡ false
     → IsTrue (length xs == n) ↔ HasAllCases lts class (States s other) (map f xs)
 all_cases_iff lts class s other f xs n empty is tells some =
     let longer : 0 < length xs = let h = eqb-false (length xs) 0 (sym tells ∙ some) in omega arith in
@@ -92,8 +89,10 @@ more_refute lts class problem f xs i x lt is before here number tree less at = b
         let e = sym (image_is f xs i x lt is) ∙ ap (slice_get (map f xs)) (sym same) ∙ at in
         rw (same, ← same_Some (f x) tree e) here
 
-pub defect_states : {X : Type 0} (lts : System) (class : Class) (problem : Problem) (f : X → Tree) (xs : List X) (i : ℕ) (x : X) (node : ℕ) (defect : Defect) → IsSeparationProblem lts problem → HasAllCases lts class problem (map f xs) → i < length xs → x ≡ get_or xs i x
-    → ((number : ℕ) (tree : Tree) → number < i → slice_get (map f xs) number ≡ Some tree → TreeRefutes lts class problem number [] tree) → IsDefectIn lts class problem i (f x) node defect → IsDefectFor lts class problem (map f xs) i node defect
+pub defect_states : {X : Type 0} (lts : System) (class : Class) (problem : Problem) (f : X → Tree) (xs : List X) (i : ℕ) (x : X) (node : ℕ)
+    (defect : Defect) → IsSeparationProblem lts problem → HasAllCases lts class problem (map f xs) → i < length xs → x ≡ get_or xs i x
+    → ((number : ℕ) (tree : Tree) → number < i → slice_get (map f xs) number ≡ Some tree → TreeRefutes lts class problem number [] tree)
+    → IsDefectIn lts class problem i (f x) node defect → IsDefectFor lts class problem (map f xs) i node defect
 defect_states lts class problem f xs i x node defect asked cases lt is before found = defect_for lts class problem (map f xs) i node defect (record {
   asked = asked;
   cases = cases;
@@ -103,7 +102,8 @@ defect_states lts class problem f xs i x node defect asked cases lt is before fo
   found = found;
 })
 
-pub refuted_states : {X : Type 0} (lts : System) (class : Class) (problem : Problem) (f : X → Tree) (xs : List X) (i : ℕ) → IsSeparationProblem lts problem → HasAllCases lts class problem (map f xs) → length xs ≤ i
+pub refuted_states : {X : Type 0} (lts : System) (class : Class) (problem : Problem) (f : X → Tree) (xs : List X) (i : ℕ)
+    → IsSeparationProblem lts problem → HasAllCases lts class problem (map f xs) → length xs ≤ i
     → ((number : ℕ) (tree : Tree) → number < i → slice_get (map f xs) number ≡ Some tree → TreeRefutes lts class problem number [] tree) → IsRefuted lts class problem (map f xs)
 refuted_states lts class problem f xs i asked cases past before = record {
   asked = asked;
@@ -115,7 +115,8 @@ refuted_states lts class problem f xs i asked cases past before = record {
 -- ---- certificates
 
 -- the verdict on the trees of a reason is that on the certificate
-pub judged_event : {E : Type 0} (lts : System) (cert : Certificate) (s t : ℕ) (case : Case) (r : Result Verdict E) → cert.reason ≡ reason.Event s t case → IfOk r (JudgesTrees lts cert.class (Event s t) (case_tree case ∷ [])) → IfOk r (Judges lts (claim_of cert))
+pub judged_event : {E : Type 0} (lts : System) (cert : Certificate) (s t : ℕ) (case : Case) (r : Result Verdict E)
+    → cert.reason ≡ reason.Event s t case → IfOk r (JudgesTrees lts cert.class (Event s t) (case_tree case ∷ [])) → IfOk r (Judges lts (claim_of cert))
 judged_event lts cert s t case (Ok Accepted) is h = rw is h
 judged_event lts cert s t case (Ok (Refused c n d)) is h = rw is h
 judged_event lts cert s t case (Err e) is h = tt

@@ -92,15 +92,20 @@ both_parts P xs ys each = (
   λ k d lt. All-contains P (xs ++ ys) (get_or ys k d) each (Contains-append_right xs ys _ (Contains-get_or ys k d lt)),
 )
 
-pub tree_refutes : (lts : System) (class : Class) (problem : Problem) (number : ℕ) (above : List Side) (tree : Tree) → All (NodeHolds lts class problem number) (placed_nodes above tree) → TreeRefutes lts class problem number above tree
+pub tree_refutes : (lts : System) (class : Class) (problem : Problem) (number : ℕ) (above : List Side) (tree : Tree)
+    → All (NodeHolds lts class problem number) (placed_nodes above tree) → TreeRefutes lts class problem number above tree
 tree_refutes lts class problem number above (leaf rows) each = All-head (NodeHolds lts class problem number) (record { above = above; node = leaf_node rows }) [] each
 tree_refutes lts class problem number above (split form at low high) each =
     let P = NodeHolds lts class problem number in
     let here : PlacedNode = record { above = above; node = split_node form at } in
     let left = placed_nodes (above ++ low_side form at ∷ []) low in
     let right = placed_nodes (above ++ high_side form at ∷ []) high in
-    let parts = both_parts P left right (All-tail P here (left ++ right) each) in
-    (All-head P here (left ++ right) each, tree_refutes lts class problem number (above ++ low_side form at ∷ []) low parts.0, tree_refutes lts class problem number (above ++ high_side form at ∷ []) high parts.1)
+    let parts = both_parts P left right (All-tail P here (left ++ right) each) in (
+      All-head P here (left ++ right) each,
+      tree_refutes lts class problem number
+          (above ++ low_side form at ∷ []) low parts.0,
+      tree_refutes lts class problem number (above ++ high_side form at ∷ []) high parts.1,
+    )
 
 -- the item after those that pass
 at_place : {X : Type 0} (before after : List X) (x : X) → slice_get (before ++ (x ∷ after)) (length before) ≡ Some x
@@ -140,9 +145,11 @@ at_first lts class problem number tree nodes whole = record {
   sides = All-nil _;
 }
 
-module _ (lts : System) (class : Class) (problem : Problem) (number : ℕ) (tree : Tree) (nodes : List TreeNode) (node : ℕ) (above : List Side) (at_node : IsAtNode lts class problem number tree nodes node above) where
+module _ (lts : System) (class : Class) (problem : Problem) (number : ℕ) (tree : Tree) (nodes : List TreeNode) (node : ℕ) (above : List Side)
+    (at_node : IsAtNode lts class problem number tree nodes node above) where
   -- the node after those passed
-  after : (n : TreeNode) (later : List Tree) (next : List Side) → drop (node + 1) nodes ≡ flat_map preorder later → nodes_due above at_node.due ≡ record { above = above; node = n } ∷ nodes_due next later
+  after : (n : TreeNode) (later : List Tree) (next : List Side) → drop (node + 1) nodes ≡ flat_map preorder later
+      → nodes_due above at_node.due ≡ record { above = above; node = n } ∷ nodes_due next later
       → HoldsAt lts class problem number above n → All (IsSideOf lts) next → IsAtNode lts class problem number tree nodes (node + 1) next
   after n later next rest past holds sides =
       let here : PlacedNode = record { above = above; node = n } in
@@ -157,7 +164,8 @@ module _ (lts : System) (class : Class) (problem : Problem) (number : ℕ) (tree
       }
 
   -- the node is the first that doesn't hold
-  found : (n : TreeNode) (defect : Defect) (later : List Tree) (next : List Side) → nodes_due above at_node.due ≡ record { above = above; node = n } ∷ nodes_due next later → IsNodeDefect lts class problem number above n defect
+  found : (n : TreeNode) (defect : Defect) (later : List Tree) (next : List Side)
+      → nodes_due above at_node.due ≡ record { above = above; node = n } ∷ nodes_due next later → IsNodeDefect lts class problem number above n defect
       → IsDefectIn lts class problem number tree node defect
   found n defect later next past wrong =
       let here : PlacedNode = record { above = above; node = n } in (
@@ -173,13 +181,15 @@ module _ (lts : System) (class : Class) (problem : Problem) (number : ℕ) (tree
       let past = past_split above form at at_node.due (drop (node + 1) nodes) (sym is ∙ at_node.rest) in
       after (split_node form at) past.0 (above ++ low_side form at ∷ []) past.1 past.2 stands (All-push (IsSideOf lts) above (low_side form at) at_node.sides side)
 
-  pub after_leaf : (rows : List NamedRow) → drop node nodes ≡ leaf_node rows ∷ drop (node + 1) nodes → LeafRefutes (RowStands lts class problem number above) (row_expression lts class problem number above) rows
+  pub after_leaf : (rows : List NamedRow) → drop node nodes ≡ leaf_node rows ∷ drop (node + 1) nodes
+      → LeafRefutes (RowStands lts class problem number above) (row_expression lts class problem number above) rows
       → IsAtNode lts class problem number tree nodes (node + 1) (turned above)
   after_leaf rows is refutes =
       let past = past_leaf above rows at_node.due (drop (node + 1) nodes) (sym is ∙ at_node.rest) in
       after (leaf_node rows) past.0 (turned above) past.1 past.2 refutes (turned_sides lts above at_node.sides)
 
-  pub found_at : (rows : List NamedRow) (defect : Defect) → drop node nodes ≡ leaf_node rows ∷ drop (node + 1) nodes → IsDefectOf lts (RowStands lts class problem number above) (row_expression lts class problem number above) rows defect
+  pub found_at : (rows : List NamedRow) (defect : Defect) → drop node nodes ≡ leaf_node rows ∷ drop (node + 1) nodes
+      → IsDefectOf lts (RowStands lts class problem number above) (row_expression lts class problem number above) rows defect
       → IsDefectIn lts class problem number tree node defect
   found_at rows defect is wrong =
       let past = past_leaf above rows at_node.due (drop (node + 1) nodes) (sym is ∙ at_node.rest) in
@@ -199,6 +209,7 @@ module _ (lts : System) (class : Class) (problem : Problem) (number : ℕ) (tree
 -- ---- the nodes of a case
 
 -- the numbers of each node of a case are in range
-pub node_in_range : (lts : System) (case : Case) (i : ℕ) (x : Node) → IsWhole case → IsTreeOf lts (case_tree case) → i < length case.nodes.items → x ≡ get_or case.nodes.items i x → IsNodeOf lts (node_of x)
+pub node_in_range : (lts : System) (case : Case) (i : ℕ) (x : Node) → IsWhole case → IsTreeOf lts (case_tree case) → i < length case.nodes.items
+    → x ≡ get_or case.nodes.items i x → IsNodeOf lts (node_of x)
 node_in_range lts case i x whole each lt is =
     subst (λ (y : Node). IsNodeOf lts (node_of y)) (sym is) (image_at (IsNodeOf lts) node_of case.nodes.items i x (subst (All (IsNodeOf lts)) (sym whole) each) lt)

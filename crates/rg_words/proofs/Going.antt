@@ -10,9 +10,6 @@ use Rattle.rg_words.specs.Spells.{IsTreeOf, Spells}
 use Rattle.rg_words.specs.Reading.{use_of, IsDraftOf, IsAt, GoesTo, Stands}
 use Rattle.rg_words.proofs.Growing.{empty_first}
 
-pub goes_start : (all : List Use) → GoesTo all [] all
-goes_start all = record { whole = refl; first = λ f is. is; none = λ n. n }
-
 goes_more : (all before : List Use) (u : Use) (rest : List Use) → use_fault before u ≡ None → GoesTo all before (u ∷ rest) → GoesTo all (before ++ u ∷ []) rest
 goes_more all before u rest right g =
     let left : faults_after use_fault before (u ∷ rest) ≡ None ∷ faults_after use_fault (before ++ u ∷ []) rest = ap (λ o. o ∷ faults_after use_fault (before ++ u ∷ []) rest) right in

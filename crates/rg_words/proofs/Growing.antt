@@ -249,10 +249,14 @@ module _ (all : List Use) (steps : List (ℕ × ℕ)) (h : AreSteps all steps) (
               }) (last_or steps (state, t) i step e);
           same = λ a. (
             λ has. subst (λ l. Contains l a) (sym named_arcs)
-                (⊎_elim (λ old. Contains-append_left (arcs_of all) _ a ((h.same a).0 old)) (λ new. subst (Contains (arcs_of all ++ arc state t (length steps + 1) ∷ [])) (there_one _ a new) (last_there (arcs_of all) (arc state t (length steps + 1))))
+                (⊎_elim (λ old. Contains-append_left (arcs_of all) _ a ((h.same a).0 old))
+                (λ new. subst (Contains (arcs_of all ++ arc state t (length steps + 1) ∷ [])) (there_one _ a new)
+                (last_there (arcs_of all) (arc state t (length steps + 1))))
                 (Contains-append_cases (step_arcs steps) _ a (subst (λ l. Contains l a) arcs has))),
             λ has. subst (λ l. Contains l a) (sym arcs)
-                (⊎_elim (λ old. Contains-append_left (step_arcs steps) _ a ((h.same a).1 old)) (λ new. subst (Contains (step_arcs steps ++ arc state t (length steps + 1) ∷ [])) (there_one _ a new) (last_there (step_arcs steps) (arc state t (length steps + 1))))
+                (⊎_elim (λ old. Contains-append_left (step_arcs steps) _ a ((h.same a).1 old))
+                (λ new. subst (Contains (step_arcs steps ++ arc state t (length steps + 1) ∷ [])) (there_one _ a new)
+                (last_there (step_arcs steps) (arc state t (length steps + 1))))
                 (Contains-append_cases (arcs_of all) _ a (subst (λ l. Contains l a) named_arcs has))),
           );
           known = known_on;

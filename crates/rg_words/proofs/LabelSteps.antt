@@ -1,5 +1,5 @@
 -- A label is taken: where it leads, and its fault.
-use Rattle.std.proofs.Common.{◌≡◌, ◌↔◌, ⊎_elim, inl, inr, ℕ, ◌+◌, ◌<◌, ◌≤◌, nat_lt, true, false, List, [], ◌∷◌, ◌++◌, length, slice_get, Contains, None, Some, refl, sym, ap, subst, ◌∙◌, arith}
+use Rattle.std.proofs.Common.{◌≡◌, ◌↔◌, ⊎_elim, inl, inr, ℕ, ◌+◌, ◌<◌, ◌≤◌, nat_lt, true, false, List, [], ◌∷◌, ◌++◌, length, slice_get, Contains, None, Some, sym, ap, subst, ◌∙◌, arith}
 use Rattle.std.specs.Str.{bytes_eq}
 use Rattle.std.proofs.lemmas.Bool.{cond-true, cond-false}
 use Rattle.std.proofs.lemmas.Bool.Decides.{nat_tests}
@@ -12,7 +12,7 @@ use Rattle.rg_lts.specs.Draft.{Draft}
 use Rattle.rg_line_formats.specs.First.{with_new}
 use Rattle.rg_line_formats.specs.Grown.{with_label}
 use Rattle.rg_line_formats.proofs.Things.{there_one, last_there}
-use Rattle.rg_words.specs.declared.fault.WordFault.TheVariants.{TooManyLabels, TooManyStates}
+use Rattle.rg_words.specs.declared.fault.WordFault.TheVariants.{TooManyStates}
 use Rattle.rg_words.specs.Contents.{Word, Use, prefix, prefixes, label_names, state_names, name_bytes, fault_of, use_fault}
 use Rattle.rg_words.specs.Reading.{use_of, step_arcs, IsDraftOf, IsAt, IsGrown}
 use Rattle.rg_words.proofs.Growing.{labels_more, old_step, old_same, new_step, new_words, arcs_from-append}
@@ -25,12 +25,6 @@ lt_false m n h = grind (arith, nat_tests)
 
 -- the fault of a label that is a name
 module _ (n : ℕ) (label : List ℕ) (all : List Use) (short : nat_lt most_name_bytes (name_bytes label) ≡ false) (whole : nat_lt (name_bytes label) (length label) ≡ false) where
-  labels_many : most_labels < length (label_names all) → fault_of n label all ≡ Some (TooManyLabels n)
-  labels_many many =
-      cond-false (nat_lt most_name_bytes (name_bytes label)) _ _ short
-      ∙ cond-false (nat_lt (name_bytes label) (length label)) _ _ whole
-      ∙ cond-true (nat_lt most_labels (length (label_names all))) _ _ (lt_true most_labels (length (label_names all)) many)
-
   states_many : length (label_names all) ≤ most_labels → most_states < length (prefixes all) → fault_of n label all ≡ Some (TooManyStates n)
   states_many few many =
       cond-false (nat_lt most_name_bytes (name_bytes label)) _ _ short
@@ -48,14 +42,6 @@ module _ (n : ℕ) (label : List ℕ) (all : List Use) (short : nat_lt most_name
 names_after : (all : List Use) (before : Word) (n : ℕ) (label : List ℕ) (names more : List (List ℕ)) (steps : List (ℕ × ℕ)) (state : ℕ) → IsAt all before names steps state
     → more ≡ with_new bytes_eq names label → more ≡ label_names (all ++ use_of n before label ∷ [])
 names_after all before n label names more steps state h grown = grown ∙ ap (λ l. with_new bytes_eq l label) h.labels ∙ sym (labels_more all (use_of n before label))
-
--- there are too many labels with this one
-pub too_many_labels : (all : List Use) (before : Word) (n : ℕ) (label : List ℕ) (names : List (List ℕ)) (steps : List (ℕ × ℕ)) (state : ℕ) → IsAt all before names steps state
-    → nat_lt most_name_bytes (name_bytes label) ≡ false → nat_lt (name_bytes label) (length label) ≡ false
-    → most_labels < length (with_new bytes_eq names label) → use_fault all (use_of n before label) ≡ Some (TooManyLabels n)
-too_many_labels all before n label names steps state h short whole many =
-    labels_many n label (all ++ use_of n before label ∷ []) short whole
-    (subst (λ l. most_labels < length l) (names_after all before n label names (with_new bytes_eq names label) steps state h refl) many)
 
 -- what the label and its step lead to
 module _ (all : List Use) (before : Word) (n : ℕ) (label : List ℕ) (names more : List (List ℕ)) (steps : List (ℕ × ℕ)) (state t : ℕ) (h : IsAt all before names steps state)

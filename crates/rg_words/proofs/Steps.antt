@@ -1,5 +1,5 @@
 -- A step that is new, and the names of states.
-use Rattle.std.proofs.Common.{◌≡◌, ◌≢◌, ℕ, zero, suc, ◌+◌, ◌<◌, ◌≤◌, ◌^◌, ◌%◌, ◌==◌, Bool, true, false, not, ◌||◌, ◌&&◌, List, [], ◌∷◌, ◌++◌, length, map, slice_get, Contains, Some, decimal, refl, sym, ap, subst, ◌∙◌, arith}
+use Rattle.std.proofs.Common.{◌≡◌, ◌≢◌, ℕ, zero, suc, ◌+◌, ◌<◌, ◌≤◌, ◌^◌, ◌%◌, ◌==◌, Bool, true, false, not, ◌||◌, ◌&&◌, List, [], ◌∷◌, ◌++◌, length, map, Contains, decimal, refl, sym, ap, subst, ◌∙◌, arith}
 use Rattle.std.specs.List.{AllPass, list_any, position_or_len, range_with_len}
 use Rattle.std.specs.Str.{bytes_eq}
 use Rattle.std.specs.Str.Parse.{digits_value}
@@ -9,7 +9,6 @@ use Rattle.std.proofs.lemmas.Fmt.{decimal_is_IsNumeral_wide, decimal_by_steps_wi
 use Rattle.std.proofs.lemmas.List.Elements.{All-push}
 use Rattle.std.proofs.lemmas.List.FromFn.{length-map-range_with_len, get_or-map-range_with_len}
 use Rattle.std.proofs.lemmas.List.Sums.{AllPass-from_list_all}
-use Rattle.std.proofs.lemmas.Option.{slice_get-get_or}
 use Rattle.rg_text.specs.Byte.{is_name_byte, IsName}
 use Rattle.rg_line_formats.specs.First.{with_new}
 use Rattle.rg_line_formats.proofs.Present.{new_absent}
@@ -93,13 +92,6 @@ state_is_name n lt =
 
     more : (m : ℕ) (ds : List ℕ) → 10 ≤ m → AllPass is_name_byte (115 ∷ ds) → AllPass is_name_byte (115 ∷ (ds ++ ((48 + m % 10) ∷ [])))
     more m ds ge all = push (115 ∷ ds) (m % 10) (omega arith) all
-
--- the names of n states
-pub name_at_state : (n i : ℕ) → i < n → slice_get (state_names n) i ≡ Some (115 ∷ decimal i)
-name_at_state n i lt =
-    let long : length (state_names n) ≡ n = length-map-range_with_len (λ j. 115 ∷ decimal j) 0 n in
-    let z : 0 + i ≡ i = omega arith in
-    slice_get-get_or (state_names n) i [] (omega (arith, long)) ∙ ap Some (get_or-map-range_with_len (λ j. 115 ∷ decimal j) 0 n i i [] lt z)
 
 -- the next one is none of them
 pub next_is_new : (n : ℕ) → n < 2 ^ 32 → Contains (state_names n) (115 ∷ decimal n) → ⊥

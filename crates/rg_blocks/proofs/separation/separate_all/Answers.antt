@@ -17,7 +17,8 @@ returns-in-Some-next_problem-clause-comes g c =
     let comes = g.S.Solving.comes c.args.search.now.solving.now in
     let before = g.K.Keeping.places c.args.progress.now.kept in
     let after = g.K.Keeping.places c.solve_all.new.progress.kept in
-    ends_left lts comes before after c.in-Some-next_problem.problem c.requires.empty c.requires.can.reachable (subst (EndsAll lts comes before after) c.in-None.is c.in_ok-problem.ensures.ends) c.in-Some-next_problem.ensures.some
+    ends_left lts comes before after c.in-Some-next_problem.problem c.requires.empty c.requires.can.reachable
+    (subst (EndsAll lts comes before after) c.in-None.is c.in_ok-problem.ensures.ends) c.in-Some-next_problem.ensures.some
 
 pub returns-in-None-next_problem-clause-comes : goal.returns-in-None-next_problem-clause-comes
 returns-in-None-next_problem-clause-comes g c =
@@ -25,4 +26,5 @@ returns-in-None-next_problem-clause-comes g c =
     let comes = g.S.Solving.comes c.args.search.now.solving.now in
     let before = g.K.Keeping.places c.args.progress.now.kept in
     let after = g.K.Keeping.places c.solve_all.new.progress.kept in
-    ends_separated lts comes before after c.requires.empty c.requires.can.reachable (subst (EndsAll lts comes before after) c.in-None.is c.in_ok-problem.ensures.ends) c.in-None-next_problem.ensures.none
+    ends_separated lts comes before after c.requires.empty c.requires.can.reachable
+    (subst (EndsAll lts comes before after) c.in-None.is c.in_ok-problem.ensures.ends) c.in-None-next_problem.ensures.none

@@ -19,13 +19,16 @@ returns-in-Some-clause-ends g c =
     let now = g.K.Keeping.places c.loop-block.progress.kept in
     let after = g.K.Keeping.places c.take_block.new.progress.kept in
     let taken = subst (λ xs. IsTakenOver lts comes now xs after c.in_ok-refuted.field-0) c.deref.ensures.value c.in_ok-refuted.ensures.taken in
-    block_ends lts comes before now c.loop-block.last c.in_ok-block.block.items c.in-Some.refuted c.loop-block.invariant.0 c.in_ok-block.ensures.block (subst (IsTakenOver lts comes now c.in_ok-block.block.items after) c.in-Some.is taken)
+    block_ends lts comes before now c.loop-block.last c.in_ok-block.block.items c.in-Some.refuted c.loop-block.invariant.0
+    c.in_ok-block.ensures.block (subst (IsTakenOver lts comes now c.in_ok-block.block.items after) c.in-Some.is taken)
 
 pub loop-block-smaller : goal.loop-block-smaller
 loop-block-smaller g c =
     let some : 0 < length c.in_ok-block.block.items = search rules in
     let n : c.len.result ≡ length c.in_ok-block.block.items = search rules in
-    let end = end_is c.args.search.now.lts.now (g.K.Keeping.places c.loop-block.progress.kept) c.loop-block.last c.in_ok-block.block.items c.index-end.result.now c.len.result c.in_ok-block.ensures.block some n c.index-end.ensures in
+    let end = end_is c.args.search.now.lts.now
+    (g.K.Keeping.places c.loop-block.progress.kept) c.loop-block.last c.in_ok-block.block.items c.index-end.result.now c.len.result
+    c.in_ok-block.ensures.block some n c.index-end.ensures in
     behind_rises c.args.search.now.lts.now c.loop-block.last c.index-end.result.now c.loop-block.invariant.1 end.1 end.2
 
 pub loop-block-preserved : goal.loop-block-preserved
@@ -42,7 +45,8 @@ loop-block-preserved g c =
     let taken_all = subst (IsTakenOver lts comes now c.in_ok-block.block.items after) c.in_default.is taken in (
       block_leads lts comes before now after c.loop-block.last _ c.in_ok-block.block.items c.loop-block.invariant.0 c.in_ok-block.ensures.block end.0 taken_all,
       end.1,
-      block_sound lts comes now after c.loop-block.last _ c.in_ok-block.block.items c.requires.can.reachable c.requires.can.separating c.loop-block.invariant.2 c.in_ok-block.ensures.block end.0 taken_all,
+      block_sound lts comes now after c.loop-block.last _ c.in_ok-block.block.items c.requires.can.reachable c.requires.can.separating
+          c.loop-block.invariant.2 c.in_ok-block.ensures.block end.0 taken_all,
       c.in_ok-refuted.ensures.searching,
       c.most_after-most.ensures.some,
       c.most_after-most.ensures.few,

@@ -8,7 +8,8 @@ use Rattle.rg_blocks.proofs.separation.take_block.Goals as goal
 pub take_over-requires-clause-problems : goal.take_over-requires-clause-problems
 take_over-requires-clause-problems g c =
     others_have (λ s. IsProblem c.args.search.now.lts.now s.problem) c.in_ok-solved-in-First.solved.items c.in_ok-others-in-First.others.items c.in-First.taken c.in_ok-others-in-First.ensures.tail
-    (of_solved (IsProblem c.args.search.now.lts.now) c.in_ok-solved-in-First.solved.items (subst (λ xs. All (IsProblem c.args.search.now.lts.now) xs) (sym c.in_ok-solved-in-First.ensures.same) c.requires.problems))
+    (of_solved (IsProblem c.args.search.now.lts.now) c.in_ok-solved-in-First.solved.items
+    (subst (λ xs. All (IsProblem c.args.search.now.lts.now) xs) (sym c.in_ok-solved-in-First.ensures.same) c.requires.problems))
 
 pub take_over-requires-clause-asked : goal.take_over-requires-clause-asked
 take_over-requires-clause-asked g c =
@@ -19,7 +20,9 @@ take_over-requires-clause-asked g c =
 
 pub take_over-requires-clause-solved : goal.take_over-requires-clause-solved
 take_over-requires-clause-solved g c =
-    others_have (IsSolvedBy (g.S.Solving.comes c.args.search.now.solving.now) (g.S.Solving.makes c.args.search.now.solving.now)) c.in_ok-solved-in-First.solved.items c.in_ok-others-in-First.others.items c.in-First.taken c.in_ok-others-in-First.ensures.tail c.in_ok-solved-in-First.ensures.solved
+    others_have (IsSolvedBy (g.S.Solving.comes c.args.search.now.solving.now) (g.S.Solving.makes c.args.search.now.solving.now))
+    c.in_ok-solved-in-First.solved.items c.in_ok-others-in-First.others.items c.in-First.taken c.in_ok-others-in-First.ensures.tail
+    c.in_ok-solved-in-First.ensures.solved
 
 pub returns-in_ok-others-in-First-clause-taken : goal.returns-in_ok-others-in-First-clause-taken
 returns-in_ok-others-in-First-clause-taken g c =
@@ -28,6 +31,7 @@ returns-in_ok-others-in-First-clause-taken g c =
     let before = g.K.Keeping.places c.args.progress.now.kept in
     let now = g.K.Keeping.places c.begin_in_turn.new.progress.kept in
     let after = g.K.Keeping.places c.take_over.new.progress.kept in
-    let are = others_are c.in_ok-solved-in-First.solved.items c.in_ok-others-in-First.others.items c.args.problems.now c.in-First.taken c.in_ok-solved-in-First.ensures.same c.in_ok-others-in-First.ensures.tail in
+    let are = others_are c.in_ok-solved-in-First.solved.items c.in_ok-others-in-First.others.items c.args.problems.now c.in-First.taken
+    c.in_ok-solved-in-First.ensures.same c.in_ok-others-in-First.ensures.tail in
     let begun = subst (IsBegun lts comes before c.args.problems.now now) c.in-First.is c.in_ok-end.ensures.begun in
     then_others lts comes before now after c.args.problems.now (problems_of c.in_ok-others-in-First.others.items) c.in-First.taken c.take_over.result are begun.1 c.take_over.ensures.taken

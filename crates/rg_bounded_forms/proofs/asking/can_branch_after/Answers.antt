@@ -23,4 +23,5 @@ returns c = λ e.
     let few_forms : length c.args.forms.now < 2 ^ 32 = search rules in
     let rows = c.count.ensures.value in
     let few : c.args.system.now.columns + length c.args.system.now.rows + c.loop-f.room < 2 ^ 32 = search rules in
-    all_known c.args.system.now c.args.before c.args.forms.now c.loop-f.room (subst (λ n. AreKnown c.args.system.now c.args.before c.args.forms.now n c.loop-f.room) end c.loop-f.invariant) few_forms few
+    all_known c.args.system.now c.args.before c.args.forms.now c.loop-f.room
+    (subst (λ n. AreKnown c.args.system.now c.args.before c.args.forms.now n c.loop-f.room) end c.loop-f.invariant) few_forms few

@@ -72,7 +72,8 @@ returns-in_err-check-clause-err c =
     let asked : AreAsked HasFieldForm (fields_of form) texts =
     subst (λ l. AreAsked HasFieldForm (fields_of form) (texts_of l)) c.deref.ensures.value c.in-Some-form_of.ensures.some in
     let begins : follows (position_in c.args.position) form ≢ refused → BeginsWith (position_in c.args.position) c.args.text.now form texts =
-    λ due. begins_with (position_in c.args.position) c.args.text.now c.in-Some.line.now c.in-Some.rest.now form texts first.0 (all_fields form c.in-Some.line.now texts c.in_ok-texts.ensures asked) asked due in
+    λ due. begins_with (position_in c.args.position) c.args.text.now c.in-Some.line.now c.in-Some.rest.now form texts first.0
+    (all_fields form c.in-Some.line.now texts c.in_ok-texts.ensures asked) asked due in
     let wrong : IsWrong c.args.lts.now form texts c.args.number c.in_err-check.field-0.0 =
     subst (λ l. IsWrong c.args.lts.now form (texts_of l) c.args.number c.in_err-check.field-0.0) c.deref-2.ensures.value c.in_err-check.ensures.err in
     let due : follows (position_in c.args.position) form ≢ refused =
@@ -88,7 +89,8 @@ returns-in-Short c =
     let asked : AreAsked HasFieldForm (fields_of form) texts =
     subst (λ l. AreAsked HasFieldForm (fields_of form) (texts_of l)) c.deref.ensures.value c.in-Some-form_of.ensures.some in
     let begins : follows (position_in c.args.position) form ≢ refused → BeginsWith (position_in c.args.position) c.args.text.now form texts =
-    λ due. begins_with (position_in c.args.position) c.args.text.now c.in-Some.line.now c.in-Some.rest.now form texts first.0 (all_fields form c.in-Some.line.now texts c.in_ok-texts.ensures asked) asked due in
+    λ due. begins_with (position_in c.args.position) c.args.text.now c.in-Some.line.now c.in-Some.rest.now form texts first.0
+    (all_fields form c.in-Some.line.now texts c.in_ok-texts.ensures asked) asked due in
     let right : IsRight c.args.lts.now form texts =
     subst (λ l. IsRight c.args.lts.now form (texts_of l)) c.deref-2.ensures.value c.in_ok-check.ensures.ok in
     let leads : follows (position_in c.args.position) form ≡ short = sym c.in-Short.ensures in
@@ -102,7 +104,8 @@ returns-in-Long c =
     let asked : AreAsked HasFieldForm (fields_of form) texts =
     subst (λ l. AreAsked HasFieldForm (fields_of form) (texts_of l)) c.deref.ensures.value c.in-Some-form_of.ensures.some in
     let begins : follows (position_in c.args.position) form ≢ refused → BeginsWith (position_in c.args.position) c.args.text.now form texts =
-    λ due. begins_with (position_in c.args.position) c.args.text.now c.in-Some.line.now c.in-Some.rest.now form texts first.0 (all_fields form c.in-Some.line.now texts c.in_ok-texts.ensures asked) asked due in
+    λ due. begins_with (position_in c.args.position) c.args.text.now c.in-Some.line.now c.in-Some.rest.now form texts first.0
+    (all_fields form c.in-Some.line.now texts c.in_ok-texts.ensures asked) asked due in
     let right : IsRight c.args.lts.now form texts =
     subst (λ l. IsRight c.args.lts.now form (texts_of l)) c.deref-2.ensures.value c.in_ok-check.ensures.ok in
     let leads : follows (position_in c.args.position) form ≡ long = sym c.in-Long.ensures in

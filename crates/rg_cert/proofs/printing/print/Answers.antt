@@ -10,7 +10,8 @@ push_reason-requires-clause-cases c = (reason_parts c.args.lts.now c.args.cert.n
 pub returns-clause-text : goal.returns-clause-text
 returns-clause-text c =
     let reason = c.args.cert.now.reason in
-    grown_text c.args.lts.now (version_of (claim_of c.args.cert.now)) _ reason c.new-text.result.items c.push_heading.new.text.items c.extend_from_slice.new.self.items c.extend_from_slice-2.new.self.items c.push.new.self.items
+    grown_text c.args.lts.now (version_of (claim_of c.args.cert.now)) _ reason c.new-text.result.items c.push_heading.new.text.items
+    c.extend_from_slice.new.self.items c.extend_from_slice-2.new.self.items c.push.new.self.items
     c.push_reason.new.text.items c.extend_from_slice-3.new.self.items (reason_parts c.args.lts.now reason c.requires.whole c.requires.claim.reason).1
     c.new-text.ensures.items
     (c.in_ok-push_heading.ensures ∙ ap (λ b. c.new-text.result.items ++ (spaced (heading (if b then version_two else version_one)) ++ 10 ∷ [])) c.asks_two.ensures)

@@ -18,7 +18,9 @@ loop-index-preserved c = λ k e.
     let z = number_at c.args.numbers.now (c.loop-index.index + 2) in
     let r = c.requires.in_range (c.loop-index.index + 2) in
     let is = shown_number c.args.members.now k c.args.numbers.now c.loop-index.index e c.loop-index-test.true in
-    let left = left_more (λ n. (slice_index c.args.kept.now (n - c.args.labels), k.coefficient n)) (λ n. not (nat_lt n c.args.labels) && not (int_eq (k.coefficient n) (pos 0))) c.args.members.now c.loop-index.index c.loop-index.chords.items c.loop-index-test.true (c.loop-index.invariant k e) in
+    let left = left_more (λ n. (slice_index c.args.kept.now (n - c.args.labels), k.coefficient n))
+    (λ n. not (nat_lt n c.args.labels) && not (int_eq (k.coefficient n) (pos 0))) c.args.members.now c.loop-index.index c.loop-index.chords.items
+    c.loop-index-test.true (c.loop-index.invariant k e) in
     elim c.if-member-labels.branch [
       | then-member-labels+then-number-ne0+in_ok-push w ↦ rw (w.chords-is, w.in_ok-push.ensures.items)
           (taken_more (λ n. (slice_index c.args.kept.now (n - c.args.labels), k.coefficient n))

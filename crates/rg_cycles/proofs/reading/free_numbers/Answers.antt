@@ -18,7 +18,9 @@ loop-index-preserved c = λ k e.
           (taken_more k.coefficient (λ m. nat_lt m c.args.labels) c.args.members.now c.loop-index.index c.loop-index.free.items c.loop-index-test.true
           (c.loop-index.invariant k e) (below_test _ _ w.if-member-labels.true) _
           (to_z-of_z w128 _ f ∙ shown_number c.args.members.now k c.args.numbers.now c.loop-index.index e c.loop-index-test.true))
-      | else-member-labels w ↦ rw w.free-is (left_more k.coefficient (λ m. nat_lt m c.args.labels) c.args.members.now c.loop-index.index c.loop-index.free.items c.loop-index-test.true (c.loop-index.invariant k e) (past_test _ _ w.if-member-labels.false))
+      | else-member-labels w ↦ rw w.free-is (left_more k.coefficient
+          (λ m. nat_lt m c.args.labels) c.args.members.now c.loop-index.index c.loop-index.free.items c.loop-index-test.true
+          (c.loop-index.invariant k e) (past_test _ _ w.if-member-labels.false))
     ]
 
 pub returns : goal.returns

@@ -26,7 +26,8 @@ loop-index-preserved g c =
     let is = sym (c.deref.ensures.value ∙ c.in_ok-row.ensures) in
     let room = c.push_row.ensures.room in
     record {
-      whole = subst (λ system. IsDictionary system c.push_row.new.self) (row_added c.args.labels (g.R.ChordRows.rows c.args.rows.now) c.args.kept.now c.loop-index.index-index c.loop-index-test.true c.deref.result.now is)
+      whole = subst (λ system. IsDictionary system c.push_row.new.self)
+          (row_added c.args.labels (g.R.ChordRows.rows c.args.rows.now) c.args.kept.now c.loop-index.index-index c.loop-index-test.true c.deref.result.now is)
           (c.push_row.ensures.system _ c.loop-index.invariant.whole);
       start = c.push_row.ensures.members ∙ c.loop-index.invariant.start;
       columns = c.push_row.ensures.columns ∙ c.loop-index.invariant.columns;

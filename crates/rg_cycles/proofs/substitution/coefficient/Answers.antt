@@ -43,8 +43,10 @@ returns-in_err-sum c =
     let same : c.from_residual.result ≡ Err c.in_err-sum.field-0.0 = search rules in
     let lt : t < length c.args.counts.now = rw c.requires.counts (other_below c.args.basis.now c.args.counts.now c.args.others.now c.loop-t.t-index c.requires.others c.loop-t-test.true) in
     let z = back (number_at c.args.counts.now t) (c.requires.in_range t lt) in
-    let step = stepped (labels_of c.args.basis.now) (cycle_of c.args.basis.now) c.args.counts.now t c.args.index c.in-Some.relation.now _ (ratio_of c.loop-t.sum) (shown_result ratio_of c.with_term.result) c.in-Some.ensures.exact.1 c.requires.index z c.with_term.ensures in
-    rw same (passes_with (labels_of c.args.basis.now) (cycle_of c.args.basis.now) c.args.counts.now f (ratio_of c.loop-t.sum) c.args.others.now c.loop-t.t-index c.loop-t.invariant c.loop-t-test.true c.in_err-sum.field-0.0 (rw c.in_err-sum.was at step))
+    let step = stepped (labels_of c.args.basis.now) (cycle_of c.args.basis.now) c.args.counts.now t c.args.index c.in-Some.relation.now _
+    (ratio_of c.loop-t.sum) (shown_result ratio_of c.with_term.result) c.in-Some.ensures.exact.1 c.requires.index z c.with_term.ensures in
+    rw same (passes_with (labels_of c.args.basis.now) (cycle_of c.args.basis.now) c.args.counts.now f
+    (ratio_of c.loop-t.sum) c.args.others.now c.loop-t.t-index c.loop-t.invariant c.loop-t-test.true c.in_err-sum.field-0.0 (rw c.in_err-sum.was at step))
 
 pub loop-t-preserved : goal.loop-t-preserved
 loop-t-preserved c =
@@ -54,8 +56,10 @@ loop-t-preserved c =
     let z = back (number_at c.args.counts.now t) (c.requires.in_range t lt) in
     elim c.match-relation.branch [
       | in-Some+in_ok-sum w ↦
-          let step = stepped (labels_of c.args.basis.now) (cycle_of c.args.basis.now) c.args.counts.now t c.args.index w.in-Some.relation.now _ (ratio_of c.loop-t.sum) (shown_result ratio_of w.with_term.result) w.in-Some.ensures.exact.1 c.requires.index z w.with_term.ensures in
-          rw w.sum-is (leads_with (labels_of c.args.basis.now) (cycle_of c.args.basis.now) c.args.counts.now f (ratio_of c.loop-t.sum) c.args.others.now c.loop-t.t-index c.loop-t.invariant c.loop-t-test.true (ratio_of w.in_ok-sum.sum) (rw w.in_ok-sum.was at step))
+          let step = stepped (labels_of c.args.basis.now) (cycle_of c.args.basis.now) c.args.counts.now t c.args.index w.in-Some.relation.now _
+          (ratio_of c.loop-t.sum) (shown_result ratio_of w.with_term.result) w.in-Some.ensures.exact.1 c.requires.index z w.with_term.ensures in
+          rw w.sum-is (leads_with (labels_of c.args.basis.now) (cycle_of c.args.basis.now) c.args.counts.now f
+          (ratio_of c.loop-t.sum) c.args.others.now c.loop-t.t-index c.loop-t.invariant c.loop-t-test.true (ratio_of w.in_ok-sum.sum) (rw w.in_ok-sum.was at step))
       | in_default w ↦ absurd (other_outside c.args.basis.now c.args.counts.now c.args.others.now c.loop-t.t-index c.requires.others c.loop-t-test.true w.in_default.ensures.exact)
     ]
 

@@ -27,4 +27,5 @@ loop-index-preserved c =
 pub returns : goal.returns
 returns c =
     let past = subst (λ l. length l ≤ c.loop-index.index) c.free-index-end.ensures c.loop-index-test.false in
-    indices_end (coefficient_fold (labels_of c.args.basis.now) (cycle_of c.args.basis.now) (number_at c.args.counts.now)) (free_labels (labels_of c.args.basis.now) (cycle_of c.args.basis.now)) c.loop-index.index (map ratio_of c.loop-index.coeffs.items) c.loop-index.invariant past
+    indices_end (coefficient_fold (labels_of c.args.basis.now) (cycle_of c.args.basis.now) (number_at c.args.counts.now))
+    (free_labels (labels_of c.args.basis.now) (cycle_of c.args.basis.now)) c.loop-index.index (map ratio_of c.loop-index.coeffs.items) c.loop-index.invariant past

@@ -13,4 +13,5 @@ returns c =
     let d = back c.args.relation.now.d c.requires.relation_in_range.d in
     let z = back c.index.result.now (subst InRange (sym number) (c.requires.relation_in_range.free c.args.index)) in
     let n = back c.args.count c.requires.count_in_range in
-    term_told (number_at c.args.relation.now.free.items c.args.index) c.args.relation.now.d c.args.count c.new-share.result c.new.result c.mul.result (positive_differs _ c.requires.relation_in_range.positive) (rw (z, number, d) at c.new-share.ensures) (rw n at c.new.ensures) c.mul.ensures.product
+    term_told (number_at c.args.relation.now.free.items c.args.index) c.args.relation.now.d c.args.count c.new-share.result c.new.result c.mul.result
+    (positive_differs _ c.requires.relation_in_range.positive) (rw (z, number, d) at c.new-share.ensures) (rw n at c.new.ensures) c.mul.ensures.product

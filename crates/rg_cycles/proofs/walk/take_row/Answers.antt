@@ -31,4 +31,5 @@ returns-in-Err-clause-passes c = λ system whole.
     let names = rw (c.columns-labels.ensures, c.members.ensures) at c.in-Some.ensures.names in
     let least = rw (c.columns-labels.ensures, c.members.ensures) at c.in-Some.ensures.least in
     let first = rw c.columns-labels.ensures at c.in-Err.ensures.exact system whole in
-    rw c.members-2.ensures (step_passes c.args.dictionary.now c.args.i c.numbers.result.now c.requires.row system whole shows c.in-Some.index names least c.in-Err.at.target c.in-Err.at.entry c.in-Err.at.wide first)
+    rw c.members-2.ensures (step_passes c.args.dictionary.now c.args.i c.numbers.result.now c.requires.row system whole shows c.in-Some.index names
+    least c.in-Err.at.target c.in-Err.at.entry c.in-Err.at.wide first)

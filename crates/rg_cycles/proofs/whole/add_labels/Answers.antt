@@ -17,7 +17,8 @@ loop-t-init c = record {
   adds = λ n lt.
       (let free = free_labels (labels_of c.args.basis.now) (cycle_of c.args.basis.now) in
       let below : n < length free = subst (λ m. n < m) (ap length c.requires.own ∙ length-map free (number_at c.args.counts.now)) lt in
-      let own : number_at c.args.sums.now n ≡ number_at c.args.counts.now (slice_index free n) = ap (λ l. number_at l n) c.requires.own ∙ get_or-map (number_at c.args.counts.now) free n 0 (pos 0) below in
+      let own : number_at c.args.sums.now n ≡ number_at c.args.counts.now (slice_index free n) =
+      ap (λ l. number_at l n) c.requires.own ∙ get_or-map (number_at c.args.counts.now) free n 0 (pos 0) below in
       let fits = c.requires.in_range (slice_index free n) (subst (λ m. slice_index free n < m) (sym c.requires.counts) (free_below (labels_of c.args.basis.now) (cycle_of c.args.basis.now) n below)) in
       counted_start c.args.basis.now c.args.counts.now n below (whole (number_at c.args.sums.now n)) c.args.others.now fits c.requires.others (ap whole own));
   sums = λ n lt.
@@ -31,7 +32,8 @@ pub add_label-requires-clause-label : goal.add_label-requires-clause-label
 add_label-requires-clause-label c = other_below c.args.basis.now c.args.counts.now c.args.others.now c.loop-t.t-index c.requires.others c.loop-t-test.true
 
 pub add_label-requires-clause-one_each : goal.add_label-requires-clause-one_each
-add_label-requires-clause-one_each c = c.loop-t.invariant.one_each ∙ ap length c.requires.own ∙ length-map (free_labels (labels_of c.args.basis.now) (cycle_of c.args.basis.now)) (number_at c.args.counts.now)
+add_label-requires-clause-one_each c = c.loop-t.invariant.one_each ∙ ap length c.requires.own
+    ∙ length-map (free_labels (labels_of c.args.basis.now) (cycle_of c.args.basis.now)) (number_at c.args.counts.now)
 
 pub loop-t-preserved : goal.loop-t-preserved
 loop-t-preserved c = record {
@@ -60,4 +62,5 @@ returns-then-not-add_label-clause-stopped c = λ _ short.
 pub returns-clause-added : goal.returns-clause-added
 returns-clause-added c = λ _ n lt.
     (let free = free_labels (labels_of c.args.basis.now) (cycle_of c.args.basis.now) in
-    leads_end (labels_of c.args.basis.now) (cycle_of c.args.basis.now) c.args.counts.now (slice_index free n) (whole (number_at c.loop-t.sums n)) c.args.others.now c.loop-t.t-index (c.loop-t.invariant.adds n lt) c.loop-t-test.false)
+    leads_end (labels_of c.args.basis.now) (cycle_of c.args.basis.now) c.args.counts.now (slice_index free n)
+    (whole (number_at c.loop-t.sums n)) c.args.others.now c.loop-t.t-index (c.loop-t.invariant.adds n lt) c.loop-t-test.false)

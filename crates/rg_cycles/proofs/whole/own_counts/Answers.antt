@@ -28,5 +28,6 @@ loop-label-preserved c =
     let z = to_z-of_z w64 c.in-Ok.count (subst (FitsSigned w64) (sym told.1) told.0) in
     let counts = number_at c.args.counts.now in
     let next : map counts (take c.loop-label.label-index free) ++ counts label ∷ [] ≡ map counts (take (c.loop-label.label-index + 1) free) =
-    sym (map-append counts (take c.loop-label.label-index free) (label ∷ [])) ∙ ap (map counts) (sym (take-suc free c.loop-label.label-index 0 lt) ∙ ap (λ m. take m free) (sym (add-one c.loop-label.label-index))) in
+    sym (map-append counts (take c.loop-label.label-index free) (label ∷ []))
+    ∙ ap (map counts) (sym (take-suc free c.loop-label.label-index 0 lt) ∙ ap (λ m. take m free) (sym (add-one c.loop-label.label-index))) in
     rw (c.in_ok-push-in-Ok.ensures.items, z, same, c.loop-label.invariant) next

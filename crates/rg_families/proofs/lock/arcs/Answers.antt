@@ -10,7 +10,8 @@ pub push_turns-requires : goal.push_turns-requires
 push_turns-requires c =
     let users = c.users-item.result in
     subst (λ (u : Users). length u ≤ most_lock) (sym c.deref.ensures.value)
-    (All-contains (λ (u : Users). length u ≤ most_lock) (users_of c.args.all.now) users.items c.requires (item_there items_of c.args.all.now c.loop-users.users-index users c.loop-users-test.true c.users-item.is))
+    (All-contains (λ (u : Users). length u ≤ most_lock) (users_of c.args.all.now) users.items c.requires
+    (item_there items_of c.args.all.now c.loop-users.users-index users c.loop-users-test.true c.users-item.is))
 
 pub loop-users-preserved : goal.loop-users-preserved
 loop-users-preserved c =

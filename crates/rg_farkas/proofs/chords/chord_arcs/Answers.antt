@@ -3,7 +3,8 @@ use Rattle.std.specs.Prelude.{slice_index}
 use Rattle.std.proofs.lemmas.List.Elements.{Contains-get_or}
 use Rattle.rg_case_parts.specs.SettingViews.{shown_setting}
 use Rattle.rg_case_folds.specs.Spreading.{chord_arcs}
-use Rattle.rg_farkas.proofs.Relations.{used_chord, kept_index}
+use Rattle.rg_farkas.proofs.Relations.{used_chord}
+use Rattle.rg_case_folds.proofs.ChordRows.{kept_place as kept_index}
 use Rattle.rg_farkas.proofs.ChordNumbers.{used_at}
 use Rattle.rg_farkas.proofs.Steps.{mapped_next}
 use Rattle.rg_farkas.proofs.chords.chord_arcs.Goals as goal

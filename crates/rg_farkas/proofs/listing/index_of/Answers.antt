@@ -5,7 +5,7 @@ use Rattle.std.proofs.lemmas.Bool.{true≢false}
 use Rattle.std.proofs.lemmas.Bool.Decides.{nat_tests}
 use Rattle.std.proofs.lemmas.List.Sorted.{IsPartitionPoint-from_clause}
 use Rattle.rg_theory.specs.Tree.{same_arc}
-use Rattle.rg_farkas.proofs.Listed.{same_arc_refl}
+use Rattle.rg_spanning.proofs.TreeTables.{is_same as same_arc_refl}
 use Rattle.rg_farkas.proofs.Located.{arc_cmp, arcs_parted, arc_located}
 use Rattle.rg_farkas.proofs.listing.index_of.Goals as goal
 

@@ -11,7 +11,8 @@ returns-in_err-size c =
     let m = back c.row-item.result.multiplier c.row-item.result.multiplier_in_range in
     let k = back c.coefficient-number.result c.coefficient-number.ensures.in_range ∙ c.coefficient-number.ensures.value in
     let made = rw (m, k) at c.in_err-size.ensures.value in
-    rw same (size_unmade (coefficient_at c.args.variable) c.args.rows.now c.loop-row.row-index c.row-item.result c.loop-row-test.true c.row-item.is (cast_signed w128 c.loop-row.sum-bits) c.loop-row.invariant.so_far c.in_err-size.field-0.0 made)
+    rw same (size_unmade (coefficient_at c.args.variable) c.args.rows.now c.loop-row.row-index c.row-item.result c.loop-row-test.true c.row-item.is
+    (cast_signed w128 c.loop-row.sum-bits) c.loop-row.invariant.so_far c.in_err-size.field-0.0 made)
 
 pub returns-in_err-sum : goal.returns-in_err-sum
 returns-in_err-sum c =
@@ -20,7 +21,8 @@ returns-in_err-sum c =
     let k = back c.coefficient-number.result c.coefficient-number.ensures.in_range ∙ c.coefficient-number.ensures.value in
     let made = rw (m, k) at c.in_ok-size.ensures.value in
     let joins = rw (back c.in_ok-size.size c.in_ok-size.ensures.in_range) at c.in_err-sum.ensures.value in
-    rw same (size_unjoined (coefficient_at c.args.variable) c.args.rows.now c.loop-row.row-index c.row-item.result c.loop-row-test.true c.row-item.is (cast_signed w128 c.loop-row.sum-bits) c.loop-row.invariant.so_far c.in_ok-size.size c.in_err-sum.field-0.0 made joins)
+    rw same (size_unjoined (coefficient_at c.args.variable) c.args.rows.now c.loop-row.row-index c.row-item.result c.loop-row-test.true c.row-item.is
+    (cast_signed w128 c.loop-row.sum-bits) c.loop-row.invariant.so_far c.in_ok-size.size c.in_err-sum.field-0.0 made joins)
 
 pub loop-row-preserved : goal.loop-row-preserved
 loop-row-preserved c =
@@ -29,7 +31,8 @@ loop-row-preserved c =
     let made = rw (m, k) at c.in_ok-size.ensures.value in
     let joins = rw (back c.in_ok-size.size c.in_ok-size.ensures.in_range) at c.in_ok-sum.ensures.value in
     rw (back c.in_ok-sum.sum c.in_ok-sum.ensures.in_range) (record {
-      so_far = size_next (coefficient_at c.args.variable) c.args.rows.now c.loop-row.row-index c.row-item.result c.loop-row-test.true c.row-item.is (cast_signed w128 c.loop-row.sum-bits) c.loop-row.invariant.so_far c.in_ok-size.size c.in_ok-sum.sum made joins;
+      so_far = size_next (coefficient_at c.args.variable) c.args.rows.now c.loop-row.row-index c.row-item.result c.loop-row-test.true c.row-item.is
+          (cast_signed w128 c.loop-row.sum-bits) c.loop-row.invariant.so_far c.in_ok-size.size c.in_ok-sum.sum made joins;
       in_range = c.in_ok-sum.ensures.in_range;
     })
 

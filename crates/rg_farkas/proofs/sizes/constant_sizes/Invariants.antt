@@ -9,6 +9,7 @@ use Rattle.rg_farkas.proofs.sizes.constant_sizes.Given as goal
 
 abbrev pub invariant-loop-row : goal.invariant-loop-row
 invariant-loop-row l = record {
-  so_far : (r : Result ℤ Wide) → further whole_sum (size_fold (λ (r : Row). r.expression.constant)) l.sum (drop l.row-index l.rows) r → further whole_sum (size_fold (λ (r : Row). r.expression.constant)) (pos 0) l.rows r;
+  so_far : (r : Result ℤ Wide) → further whole_sum (size_fold (λ (r : Row). r.expression.constant)) l.sum (drop l.row-index l.rows) r
+      → further whole_sum (size_fold (λ (r : Row). r.expression.constant)) (pos 0) l.rows r;
   in_range : InRange l.sum;
 }

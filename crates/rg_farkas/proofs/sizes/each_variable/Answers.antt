@@ -21,14 +21,19 @@ returns-in_err-coefficient_sizes-clause-wide c = λ w is.
     let same : stop.Wide c.in_err-coefficient_sizes.field-0.0 ≡ stop.Wide w = search rules in
     let (sums, so_far) = c.loop-variable.invariant in
     subst (λ u. each (λ v. further whole_sum (size_fold (coefficient_at v)) (pos 0) c.args.rows.now) (variables_of c.args.lts.now) (Err u)) (same_wide c.in_err-coefficient_sizes.field-0.0 w same)
-    (subst (λ l. each (λ v. further whole_sum (size_fold (coefficient_at v)) (pos 0) c.args.rows.now) l (Err c.in_err-coefficient_sizes.field-0.0)) (c.deref-variable-items.ensures.value ∙ c.in_ok-variables.ensures)
+    (subst (λ l. each (λ v. further whole_sum (size_fold (coefficient_at v)) (pos 0) c.args.rows.now) l (Err c.in_err-coefficient_sizes.field-0.0))
+    (c.deref-variable-items.ensures.value ∙ c.in_ok-variables.ensures)
     (variable_fails c.args.rows.now c.deref-variable-items.result.now c.loop-variable.variable-index
     (Tokens 0) c.loop-variable-test.true sums so_far c.in_err-coefficient_sizes.field-0.0 c.in_err-coefficient_sizes.ensures))
 
 pub loop-variable-preserved : goal.loop-variable-preserved
 loop-variable-preserved c =
-    let (sums, so_far) = c.loop-variable.invariant in
-    (sums ++ c.in_ok-coefficient_sizes.field-0 ∷ [], variable_next c.args.rows.now c.deref-variable-items.result.now c.loop-variable.variable-index (Tokens 0) c.loop-variable-test.true sums so_far c.in_ok-coefficient_sizes.field-0 c.in_ok-coefficient_sizes.ensures)
+    let (sums, so_far) = c.loop-variable.invariant in (
+      sums ++ c.in_ok-coefficient_sizes.field-0
+          ∷ [],
+      variable_next c.args.rows.now c.deref-variable-items.result.now c.loop-variable.variable-index
+          (Tokens 0) c.loop-variable-test.true sums so_far c.in_ok-coefficient_sizes.field-0 c.in_ok-coefficient_sizes.ensures,
+    )
 
 pub returns-clause-sums : goal.returns-clause-sums
 returns-clause-sums c =

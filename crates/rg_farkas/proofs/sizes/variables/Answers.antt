@@ -15,4 +15,5 @@ pub loop-t-preserved : goal.loop-t-preserved
 loop-t-preserved c =
     let lt = subst (λ n. c.loop-t.t < n) c.labels-t-end.ensures.value c.loop-t-test.true in
     let items = c.in_ok-push-2.ensures.items in
-    rw items (all_next Effect (labels c.args.lts.now) c.loop-t.t c.loop-t.variables.items (map Tokens (all_numbers (states c.args.lts.now)) ++ map Effect (all_numbers (labels c.args.lts.now))) c.loop-t.invariant lt)
+    rw items (all_next Effect (labels c.args.lts.now) c.loop-t.t c.loop-t.variables.items
+    (map Tokens (all_numbers (states c.args.lts.now)) ++ map Effect (all_numbers (labels c.args.lts.now))) c.loop-t.invariant lt)

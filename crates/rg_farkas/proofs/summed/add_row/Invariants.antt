@@ -8,6 +8,8 @@ use Rattle.rg_farkas.proofs.summed.add_row.Given as goal
 
 abbrev pub invariant-loop-entry : goal.invariant-loop-entry
 invariant-loop-entry l = record {
-  added : (q : ℕ) → q < length l.initial.sums → slice_index_or l.sums q (pos 0) +ℤ (l.row.multiplier *ℤ coefficient_in (terms_in (drop l.entry-index l.row.expression.terms)) (Tokens q)) ≡ slice_index_or l.initial.sums q (pos 0) +ℤ (l.row.multiplier *ℤ coefficient_in (terms_in l.row.expression.terms) (Tokens q));
+  added : (q : ℕ) → q < length l.initial.sums
+      → slice_index_or l.sums q (pos 0) +ℤ (l.row.multiplier *ℤ coefficient_in (terms_in (drop l.entry-index l.row.expression.terms)) (Tokens q))
+      ≡ slice_index_or l.initial.sums q (pos 0) +ℤ (l.row.multiplier *ℤ coefficient_in (terms_in l.row.expression.terms) (Tokens q));
   in_range : All InRange l.sums;
 }

@@ -7,6 +7,8 @@ use Rattle.rg_farkas.proofs.summed.add_rows.Given as goal
 
 abbrev pub invariant-loop-row : goal.invariant-loop-row
 invariant-loop-row l = record {
-  added : (q : ℕ) → q < length l.initial.sums → slice_index_or l.sums q (pos 0) +ℤ total (map (row_addend q) (drop l.row-index l.rows)) ≡ slice_index_or l.initial.sums q (pos 0) +ℤ total (map (row_addend q) l.rows);
+  added : (q : ℕ) → q < length l.initial.sums
+      → slice_index_or l.sums q (pos 0) +ℤ total (map (row_addend q) (drop l.row-index l.rows))
+      ≡ slice_index_or l.initial.sums q (pos 0) +ℤ total (map (row_addend q) l.rows);
   in_range : All InRange l.sums;
 }

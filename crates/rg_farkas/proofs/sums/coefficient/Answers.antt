@@ -21,7 +21,8 @@ loop-entry-preserved c =
           let s = back (sum +ℤ r) (in_range_between (sum +ℤ r) (c.loop-entry.entry-index + 1) (omega arith) (omega (arith, ints)) (omega (arith, ints))) in
           let e = rw (n, s) at w.sum-is in
           record {
-            total = coefficient_next c.args.expression.now.terms c.loop-entry.entry-index w.in-Some.term w.in-Some.is v sum _ _ (e ∙ ap (λ z. sum +ℤ z) w.coefficient_of-sum.ensures.value) c.loop-entry.invariant.total;
+            total = coefficient_next c.args.expression.now.terms c.loop-entry.entry-index w.in-Some.term w.in-Some.is v sum _ _
+                (e ∙ ap (λ z. sum +ℤ z) w.coefficient_of-sum.ensures.value) c.loop-entry.invariant.total;
             low = omega (arith, ints, e);
             high = omega (arith, ints, e);
           }

@@ -9,6 +9,7 @@ use Rattle.rg_farkas.proofs.sums.leaving_sum.Given as goal
 
 abbrev pub invariant-loop-k : goal.invariant-loop-k
 invariant-loop-k l = record {
-  so_far : (r : Result ℤ Wide) → further whole_sum addend_fold l.sum (leaving l.state (arc_times (drop l.k l.arcs) (drop l.k l.multipliers))) r → further whole_sum addend_fold l.start (leaving l.state (arc_times l.arcs l.multipliers)) r;
+  so_far : (r : Result ℤ Wide) → further whole_sum addend_fold l.sum (leaving l.state (arc_times (drop l.k l.arcs) (drop l.k l.multipliers))) r
+      → further whole_sum addend_fold l.start (leaving l.state (arc_times l.arcs l.multipliers)) r;
   in_range : InRange l.sum;
 }

@@ -10,7 +10,8 @@ returns-in_err-product-clause-value c =
     let m = back c.row-item.result.multiplier c.row-item.result.multiplier_in_range in
     let k = back c.coefficient-number.result c.coefficient-number.ensures.in_range ∙ c.coefficient-number.ensures.value in
     let made = rw (m, k) at c.in_err-product.ensures.value in
-    rw same (row_unmade c.args.state c.args.rows.now c.loop-row.row-index c.row-item.result c.loop-row-test.true c.row-item.is (cast_signed w128 c.loop-row.sum-bits) c.loop-row.invariant.so_far c.in_err-product.field-0.0 made)
+    rw same (row_unmade c.args.state c.args.rows.now c.loop-row.row-index c.row-item.result c.loop-row-test.true c.row-item.is
+    (cast_signed w128 c.loop-row.sum-bits) c.loop-row.invariant.so_far c.in_err-product.field-0.0 made)
 
 pub returns-in_err-sum-clause-value : goal.returns-in_err-sum-clause-value
 returns-in_err-sum-clause-value c =
@@ -19,7 +20,8 @@ returns-in_err-sum-clause-value c =
     let k = back c.coefficient-number.result c.coefficient-number.ensures.in_range ∙ c.coefficient-number.ensures.value in
     let made = rw (m, k) at c.in_ok-product.ensures.value in
     let joins = rw (back c.in_ok-product.product c.in_ok-product.ensures.in_range) at c.in_err-sum.ensures.value in
-    rw same (row_unjoined c.args.state c.args.rows.now c.loop-row.row-index c.row-item.result c.loop-row-test.true c.row-item.is (cast_signed w128 c.loop-row.sum-bits) c.loop-row.invariant.so_far c.in_ok-product.product c.in_err-sum.field-0.0 made joins)
+    rw same (row_unjoined c.args.state c.args.rows.now c.loop-row.row-index c.row-item.result c.loop-row-test.true c.row-item.is
+    (cast_signed w128 c.loop-row.sum-bits) c.loop-row.invariant.so_far c.in_ok-product.product c.in_err-sum.field-0.0 made joins)
 
 pub loop-row-preserved : goal.loop-row-preserved
 loop-row-preserved c =
@@ -28,7 +30,8 @@ loop-row-preserved c =
     let made = rw (m, k) at c.in_ok-product.ensures.value in
     let joins = rw (back c.in_ok-product.product c.in_ok-product.ensures.in_range) at c.in_ok-sum.ensures.value in
     rw (back c.in_ok-sum.sum c.in_ok-sum.ensures.in_range) (record {
-      so_far = row_next c.args.state c.args.rows.now c.loop-row.row-index c.row-item.result c.loop-row-test.true c.row-item.is (cast_signed w128 c.loop-row.sum-bits) c.loop-row.invariant.so_far c.in_ok-product.product c.in_ok-sum.sum made joins;
+      so_far = row_next c.args.state c.args.rows.now c.loop-row.row-index c.row-item.result c.loop-row-test.true c.row-item.is
+          (cast_signed w128 c.loop-row.sum-bits) c.loop-row.invariant.so_far c.in_ok-product.product c.in_ok-sum.sum made joins;
       in_range = c.in_ok-sum.ensures.in_range;
     })
 

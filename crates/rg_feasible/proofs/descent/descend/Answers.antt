@@ -31,7 +31,8 @@ rows-preserved-in-Some c = record {
       ∙ ap (λ o. unwrap_or o c.rows-rows.result) (c.copied.ensures ∙ c.last.ensures.value)
       ∙ ap (λ xs. unwrap_or (slice_get xs (length xs - 1)) c.rows-rows.result) c.deref.ensures.value
       ∙ limit_last system c.pop.new.self.items c.rows-rows.result rows in
-      leads_popped system c.rows.table.members c.rows.stack.items c.rows.below c.rows.i (c.rows.invariant.leads system whole) c.pop.new.self.items c.in-Some.fixed c.in-Some.ensures.items c.if-i-below.true _ below;
+      leads_popped system c.rows.table.members c.rows.stack.items c.rows.below c.rows.i
+      (c.rows.invariant.leads system whole) c.pop.new.self.items c.in-Some.fixed c.in-Some.ensures.items c.if-i-below.true _ below;
 }
 
 pub take_row-requires-clause-row : goal.take_row-requires-clause-row
@@ -69,8 +70,11 @@ rows-preserved-in-Satisfied c = record {
 
 pub returns-in-Stuck-clause-outcome : goal.returns-in-Stuck-clause-outcome
 returns-in-Stuck-clause-outcome c = λ system whole.
-    let told = rw c.deref-else-i-below.ensures.value at c.in-Stuck.ensures.told system (c.rows.invariant.whole system whole) in
-    (fixed_of system (reverse c.rows.stack.items), leads_refuted system c.rows.table.members c.rows.stack.items c.rows.below c.rows.i (c.rows.invariant.leads system whole) c.if-i-below.false c.take_row.new.table.members told)
+    let told = rw c.deref-else-i-below.ensures.value at c.in-Stuck.ensures.told system (c.rows.invariant.whole system whole) in (
+      fixed_of system (reverse c.rows.stack.items),
+      leads_refuted system c.rows.table.members c.rows.stack.items c.rows.below c.rows.i
+          (c.rows.invariant.leads system whole) c.if-i-below.false c.take_row.new.table.members told,
+    )
 
 pub returns-in-Wide-clause-outcome : goal.returns-in-Wide-clause-outcome
 returns-in-Wide-clause-outcome c = λ system whole.
@@ -92,7 +96,8 @@ push-requires c =
 pub rows-smaller : goal.rows-smaller
 rows-smaller c =
     let (system, whole) = c.requires.whole in
-    rw (c.rows-rows.ensures, whole.rows) (work_pushed system c.rows.table.members c.rows.stack.items c.rows.below c.rows.i (c.rows.invariant.leads system whole) c.if-i-below.false c.push.new.stack.items c.push.ensures.items)
+    rw (c.rows-rows.ensures, whole.rows) (work_pushed system c.rows.table.members c.rows.stack.items c.rows.below c.rows.i
+    (c.rows.invariant.leads system whole) c.if-i-below.false c.push.new.stack.items c.push.ensures.items)
 
 pub rows-preserved : goal.rows-preserved
 rows-preserved c = record {
@@ -101,7 +106,8 @@ rows-preserved c = record {
   whole = λ system whole. c.in-Exchanged.ensures.stays _ system (c.rows.invariant.whole system whole);
   leads = λ system whole.
       let told = rw c.deref-else-i-below.ensures.value at c.in-Exchanged.ensures.told system (c.rows.invariant.whole system whole) in
-      leads_exchanged system c.rows.table.members c.rows.stack.items c.rows.below c.rows.i (c.rows.invariant.leads system whole) c.if-i-below.false c.take_row.new.table.members c.push.new.stack.items told c.push.ensures.items;
+      leads_exchanged system c.rows.table.members c.rows.stack.items c.rows.below c.rows.i
+      (c.rows.invariant.leads system whole) c.if-i-below.false c.take_row.new.table.members c.push.new.stack.items told c.push.ensures.items;
 }
 
 pub returns-in-None-clause-free : goal.returns-in-None-clause-free

@@ -15,7 +15,8 @@ loop-n-preserved c =
       | then-n-p+then-row-n-ne0 w ↦ rw w.indices-is (record {
         named = named_more c.args.row.now c.args.p c.loop-n.n c.loop-n.indices.items w.push_index.new.indices.items c.loop-n.invariant.named (omega arith) w.if-n-p.true
             (λ e. w.if-row-n-ne0.true (ap (cast_unsigned w128) e)) w.push_index.ensures.items;
-        few = let before = c.loop-n.indices.ok.0 in let behind = w.push_index.new.indices.ok.0 in let more = ap length w.push_index.ensures.items in let count = length-append c.loop-n.indices.items (c.loop-n.n ∷ []) in omega arith;
+        few = let before = c.loop-n.indices.ok.0 in let behind = w.push_index.new.indices.ok.0 in let more = ap length w.push_index.ensures.items in
+            let count = length-append c.loop-n.indices.items (c.loop-n.n ∷ []) in omega arith;
         capacity = search rules;
       })
       | else-n-p w ↦ (

@@ -41,8 +41,13 @@ renew_between-requires-2-clause-short c = λ is.
     let s = back (number_at c.args.pivot.now c.args.p) (c.requires.pivot_in_range c.args.p (omega arith)) in
     let l = back (number_at c.args.row.now c.args.p) (c.requires.in_range c.args.p c.requires.index) in
     let same = (c.in-Ok-renew_between.ensures {u = tt}).renewed.after in
-    let kept : length c.renew_between.new.row ≡ length c.args.row.now = c.renew_between.auto.row ∙ length-set c.args.row.now 0 _ in
-    (rw s (both.0 c.args.p (omega arith)), rw l (both.1 c.args.p c.requires.index), λ n ge lt. subst (FitsSigned w64) (sym (same n (omega arith))) (short_behind c.args.row.now n _ (omega arith) (both.1 n (omega arith))), λ n ge lt. both.0 n (omega arith))
+    let kept : length c.renew_between.new.row ≡ length c.args.row.now = c.renew_between.auto.row ∙ length-set c.args.row.now 0 _ in (
+      rw s (both.0 c.args.p (omega arith)),
+      rw l (both.1 c.args.p c.requires.index),
+      λ n ge lt. subst (FitsSigned w64) (sym (same n (omega arith)))
+          (short_behind c.args.row.now n _ (omega arith) (both.1 n (omega arith))),
+      λ n ge lt. both.0 n (omega arith),
+    )
 
 pub returns-in-Err-clause-renewed : goal.returns-in-Err-clause-renewed
 returns-in-Err-clause-renewed c =
@@ -91,5 +96,6 @@ returns-clause-renewed c =
     let r2 = rw (s, l) at (c.in-Ok-renew_between-2.ensures {u = tt}).renewed in
     let m2 = most c.args.pivot.now c.args.row.now _ _ c.args.p c.requires.after_constant c.requires.index m r2 in
     MatchResult-weaker c.renew_last.result c.renew_last.ensures.last
-    (λ _ t. renewed c.args.pivot.now c.args.row.now c.renew_between-2.new.row c.renew_last.new.row c.args.p c.requires.after_constant c.requires.index m2 c.renew_last.auto.row t.0 t.1 c.renew_last.ensures.others)
+    (λ _ t. renewed c.args.pivot.now c.args.row.now c.renew_between-2.new.row c.renew_last.new.row c.args.p c.requires.after_constant
+    c.requires.index m2 c.renew_last.auto.row t.0 t.1 c.renew_last.ensures.others)
     (λ e t. wide_last c.args.pivot.now c.args.row.now c.renew_between-2.new.row c.args.p e.at e.wide c.requires.after_constant c.requires.index m2 t.0 t.1 t.2)

@@ -33,7 +33,8 @@ pub returns-then-n-p-clause-renewed : goal.returns-then-n-p-clause-renewed
 returns-then-n-p-clause-renewed c =
     let ok = listed_index c.args.pivot.now c.args.p c.args.indices.now c.loop-n.n-index c.requires.named c.loop-n-test.true in
     let lt : get_or c.args.indices.now c.loop-n.n-index 0 < length c.loop-n.row = omega arith in
-    let same = still c.args.pivot.now c.args.row.now c.loop-n.row (number_at c.args.row.now c.args.p) c.args.indices.now c.loop-n.n-index c.loop-n.invariant.renewed c.requires.named.ordered c.loop-n-test.true in
+    let same = still c.args.pivot.now c.args.row.now c.loop-n.row
+    (number_at c.args.row.now c.args.p) c.args.indices.now c.loop-n.n-index c.loop-n.invariant.renewed c.requires.named.ordered c.loop-n-test.true in
     let x = back (number_at c.loop-n.row (get_or c.args.indices.now c.loop-n.n-index 0)) (c.loop-n.invariant.in_range (get_or c.args.indices.now c.loop-n.n-index 0) lt) in
     let y = back (number_at c.args.pivot.now (get_or c.args.indices.now c.loop-n.n-index 0)) (c.requires.pivot_in_range (get_or c.args.indices.now c.loop-n.n-index 0) ok.1) in
     let v = back (number_at c.args.row.now c.args.p) (c.requires.in_range c.args.p c.requires.index) in
@@ -46,7 +47,8 @@ pub returns-else-n-p-clause-renewed : goal.returns-else-n-p-clause-renewed
 returns-else-n-p-clause-renewed c =
     let ok = listed_index c.args.pivot.now c.args.p c.args.indices.now c.loop-n.n-index c.requires.named c.loop-n-test.true in
     let lt : get_or c.args.indices.now c.loop-n.n-index 0 < length c.loop-n.row = omega arith in
-    let same = still c.args.pivot.now c.args.row.now c.loop-n.row (number_at c.args.row.now c.args.p) c.args.indices.now c.loop-n.n-index c.loop-n.invariant.renewed c.requires.named.ordered c.loop-n-test.true in
+    let same = still c.args.pivot.now c.args.row.now c.loop-n.row
+    (number_at c.args.row.now c.args.p) c.args.indices.now c.loop-n.n-index c.loop-n.invariant.renewed c.requires.named.ordered c.loop-n-test.true in
     let x = back (number_at c.loop-n.row (get_or c.args.indices.now c.loop-n.n-index 0)) (c.loop-n.invariant.in_range (get_or c.args.indices.now c.loop-n.n-index 0) lt) in
     let y = back (number_at c.args.pivot.now (get_or c.args.indices.now c.loop-n.n-index 0)) (c.requires.pivot_in_range (get_or c.args.indices.now c.loop-n.n-index 0) ok.1) in
     let v = back (number_at c.args.row.now c.args.p) (c.requires.in_range c.args.p c.requires.index) in
@@ -59,7 +61,8 @@ pub loop-n-preserved : goal.loop-n-preserved
 loop-n-preserved c =
     let ok = listed_index c.args.pivot.now c.args.p c.args.indices.now c.loop-n.n-index c.requires.named c.loop-n-test.true in
     let lt : get_or c.args.indices.now c.loop-n.n-index 0 < length c.loop-n.row = omega arith in
-    let same = still c.args.pivot.now c.args.row.now c.loop-n.row (number_at c.args.row.now c.args.p) c.args.indices.now c.loop-n.n-index c.loop-n.invariant.renewed c.requires.named.ordered c.loop-n-test.true in
+    let same = still c.args.pivot.now c.args.row.now c.loop-n.row
+    (number_at c.args.row.now c.args.p) c.args.indices.now c.loop-n.n-index c.loop-n.invariant.renewed c.requires.named.ordered c.loop-n-test.true in
     let x = back (number_at c.loop-n.row (get_or c.args.indices.now c.loop-n.n-index 0)) (c.loop-n.invariant.in_range (get_or c.args.indices.now c.loop-n.n-index 0) lt) in
     let y = back (number_at c.args.pivot.now (get_or c.args.indices.now c.loop-n.n-index 0)) (c.requires.pivot_in_range (get_or c.args.indices.now c.loop-n.n-index 0) ok.1) in
     let v = back (number_at c.args.row.now c.args.p) (c.requires.in_range c.args.p c.requires.index) in
@@ -67,13 +70,16 @@ loop-n-preserved c =
     let fits : InRange c.in-Ok.z = subst InRange (sym h.1) h.0.difference in
     let z = back c.in-Ok.z fits in
     rw z (record {
-      renewed = renewed_more c.args.pivot.now c.args.row.now c.loop-n.row (number_at c.args.row.now c.args.p) c.args.indices.now c.loop-n.n-index c.in-Ok.z c.loop-n.invariant.renewed c.requires.named.ordered c.loop-n-test.true (omega arith) h.0 h.1;
+      renewed = renewed_more c.args.pivot.now c.args.row.now c.loop-n.row
+          (number_at c.args.row.now c.args.p) c.args.indices.now c.loop-n.n-index c.in-Ok.z c.loop-n.invariant.renewed c.requires.named.ordered
+          c.loop-n-test.true (omega arith) h.0 h.1;
       in_range = in_range-set c.loop-n.row (get_or c.args.indices.now c.loop-n.n-index 0) c.in-Ok.z c.loop-n.invariant.in_range fits;
     })
 
 pub returns-clause-renewed : goal.returns-clause-renewed
 returns-clause-renewed c =
-    let m = all_renewed c.args.pivot.now c.args.row.now c.args.p c.args.indices.now c.requires.after_constant c.requires.index c.requires.same_length c.requires.unit c.requires.in_range c.requires.named c.loop-n.row c.loop-n.n-index c.loop-n.invariant.renewed (omega arith) in
+    let m = all_renewed c.args.pivot.now c.args.row.now c.args.p c.args.indices.now c.requires.after_constant c.requires.index c.requires.same_length
+    c.requires.unit c.requires.in_range c.requires.named c.loop-n.row c.loop-n.n-index c.loop-n.invariant.renewed (omega arith) in
     MatchResult-weaker c.renew_last.result c.renew_last.ensures.last
     (λ _ t. renewed c.args.pivot.now c.args.row.now c.loop-n.row c.renew_last.new.row c.args.p c.requires.after_constant c.requires.index m c.renew_last.auto.row t.0 t.1 c.renew_last.ensures.others)
     (λ e t. wide_last c.args.pivot.now c.args.row.now c.loop-n.row c.args.p e.at e.wide c.requires.after_constant c.requires.index m t.0 t.1 t.2)

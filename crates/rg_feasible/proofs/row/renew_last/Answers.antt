@@ -20,7 +20,8 @@ returns-in-Ok-clause-last c =
     let fits : InRange c.in-Ok.z = subst InRange (sym h.1) h.0.difference in
     let z = back c.in-Ok.z fits in
     let e = last_number c.args.pivot.now c.args.row.now c.args.p c.requires.after_constant c.requires.index in
-    rw z (subst (λ t. FitsTerm t × (number_at (set c.args.row.now c.args.p c.in-Ok.z) c.args.p ≡ term_value t)) (sym e) (h.0, get_or-set_same c.args.row.now c.args.p c.in-Ok.z (pos 0) c.requires.index ∙ h.1))
+    rw z (subst (λ t. FitsTerm t × (number_at (set c.args.row.now c.args.p c.in-Ok.z) c.args.p ≡ term_value t)) (sym e)
+    (h.0, get_or-set_same c.args.row.now c.args.p c.in-Ok.z (pos 0) c.requires.index ∙ h.1))
 
 pub returns-in-Ok-clause-in_range : goal.returns-in-Ok-clause-in_range
 returns-in-Ok-clause-in_range c =

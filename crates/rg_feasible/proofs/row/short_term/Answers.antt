@@ -16,7 +16,19 @@ overflow_sub-result c =
     let b = c.from-2.ensures ∙ to_z-of_z w64 c.args.b c.ranges.b in
     let k = c.from-3.ensures ∙ to_z-of_z w64 c.args.c c.ranges.c in
     let d = c.from-4.ensures ∙ to_z-of_z w64 c.args.d c.ranges.d in
-    rw (a, b, k, d, back c.args.a (short_in_range c.args.a c.ranges.a), back c.args.b (short_in_range c.args.b c.ranges.b), back c.args.c (short_in_range c.args.c c.ranges.c), back c.args.d (short_in_range c.args.d c.ranges.d), back (c.args.a *ℤ c.args.b) f.left, back (c.args.c *ℤ c.args.d) f.right)
+    rw (
+      a,
+      b,
+      k,
+      d,
+      back c.args.a (short_in_range c.args.a c.ranges.a),
+      back c.args.b (short_in_range c.args.b c.ranges.b),
+      back c.args.c
+          (short_in_range c.args.c c.ranges.c),
+      back c.args.d (short_in_range c.args.d c.ranges.d),
+      back (c.args.a *ℤ c.args.b) f.left,
+      back (c.args.c *ℤ c.args.d) f.right,
+    )
     (fits ((c.args.a *ℤ c.args.b) -ℤ (c.args.c *ℤ c.args.d)) f.difference)
 
 pub returns-clause-value : goal.returns-clause-value
@@ -26,5 +38,17 @@ returns-clause-value c =
     let b = c.from-2.ensures ∙ to_z-of_z w64 c.args.b c.ranges.b in
     let k = c.from-3.ensures ∙ to_z-of_z w64 c.args.c c.ranges.c in
     let d = c.from-4.ensures ∙ to_z-of_z w64 c.args.d c.ranges.d in
-    rw (a, b, k, d, back c.args.a (short_in_range c.args.a c.ranges.a), back c.args.b (short_in_range c.args.b c.ranges.b), back c.args.c (short_in_range c.args.c c.ranges.c), back c.args.d (short_in_range c.args.d c.ranges.d), back (c.args.a *ℤ c.args.b) f.left, back (c.args.c *ℤ c.args.d) f.right)
+    rw (
+      a,
+      b,
+      k,
+      d,
+      back c.args.a (short_in_range c.args.a c.ranges.a),
+      back c.args.b (short_in_range c.args.b c.ranges.b),
+      back c.args.c
+          (short_in_range c.args.c c.ranges.c),
+      back c.args.d (short_in_range c.args.d c.ranges.d),
+      back (c.args.a *ℤ c.args.b) f.left,
+      back (c.args.c *ℤ c.args.d) f.right,
+    )
     (back ((c.args.a *ℤ c.args.b) -ℤ (c.args.c *ℤ c.args.d)) f.difference)

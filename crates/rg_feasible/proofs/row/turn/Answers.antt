@@ -28,4 +28,5 @@ pub returns-clause-in_range : goal.returns-clause-in_range
 returns-clause-in_range c =
     let x = back (number_at c.args.pivot.now c.args.p) (c.requires.pivot_in_range c.args.p (omega arith)) in
     let y = back (number_at c.args.pivot.now 0) (c.requires.pivot_in_range 0 (omega arith)) in
-    in_range-set _ c.args.p _ (in_range-set c.loop-n.row 0 _ (λ k lt. c.loop-n.invariant.in_range k (omega arith)) (rw x (c.requires.pivot_in_range c.args.p (omega arith)))) (rw y (c.requires.pivot_in_range 0 (omega arith)))
+    in_range-set _ c.args.p _ (in_range-set c.loop-n.row 0 _ (λ k lt. c.loop-n.invariant.in_range k (omega arith))
+    (rw x (c.requires.pivot_in_range c.args.p (omega arith)))) (rw y (c.requires.pivot_in_range 0 (omega arith)))

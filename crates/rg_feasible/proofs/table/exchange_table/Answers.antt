@@ -25,7 +25,8 @@ returns-in-Err-clause-exact c = λ system count free table named.
     let f = (c.in-Err.ensures {u = tt}).rows in
     wide_after system c.args.members.now c.args.pivot c.args.index (length c.args.pivot_row.now) (c.args.index + 2) c.args.variables c.args.table.now c.copy_signed.new.signed
     free table count width two c.requires.pivot c.requires.outside c.requires.index there signed c.in-Err.wide.target c.in-Err.wide.entry c.in-Err.wide.wide f.0
-    (subst (λ x. FirstOfRows c.args.members.now c.args.pivot x c.copy_signed.new.signed c.args.table.now (c.args.index + 2) c.in-Err.wide.target c.in-Err.wide.entry c.in-Err.wide.wide) c.copy_signed.auto.signed f.1)
+    (subst (λ x. FirstOfRows c.args.members.now c.args.pivot x c.copy_signed.new.signed c.args.table.now
+    (c.args.index + 2) c.in-Err.wide.target c.in-Err.wide.entry c.in-Err.wide.wide) c.copy_signed.auto.signed f.1)
 
 pub returns-clause-exact : goal.returns-clause-exact
 returns-clause-exact c = λ system count free table named.
@@ -35,11 +36,15 @@ returns-clause-exact c = λ system count free table named.
     let is = part_is (length c.args.pivot_row.now) c.args.table.now c.args.table.now c.args.pivot refl in
     let signed = subst (λ xs. IsSigned xs c.copy_signed.new.signed (c.args.index + 2)) is c.copy_signed.ensures.signed in
     let there = subst (λ x. number_at (row_at x c.args.table.now c.args.pivot) (c.args.index + 2) ≢ pos 0) (sym c.requires.width) named in
-    let rows = subst (λ x. RowsExchanged c.args.members.now c.args.pivot x c.copy_signed.new.signed c.args.table.now c.exchange_rows.new.table (c.args.index + 2) (c.args.to + 2) c.args.variables) c.copy_signed.auto.signed (c.in-Ok.ensures {u = tt}).rows in
-    let size : length c.exchange_rows.new.table ≡ c.args.variables * length c.args.pivot_row.now = rows.same_length ∙ subst (λ x. length c.args.table.now ≡ c.args.variables * x) (sym c.requires.width) c.requires.size in
+    let rows = subst (λ x. RowsExchanged c.args.members.now c.args.pivot x c.copy_signed.new.signed c.args.table.now c.exchange_rows.new.table
+    (c.args.index + 2) (c.args.to + 2) c.args.variables) c.copy_signed.auto.signed (c.in-Ok.ensures {u = tt}).rows in
+    let size : length c.exchange_rows.new.table ≡ c.args.variables * length c.args.pivot_row.now =
+    rows.same_length ∙ subst (λ x. length c.args.table.now ≡ c.args.variables * x) (sym c.requires.width) c.requires.size in
     let less = c.requires.within c.args.index c.requires.index in
-    let fresh = length-part (length c.args.pivot_row.now) c.exchange_rows.new.table c.write_leaving.new.row c.args.variables (get_or c.args.members.now c.args.index 0) size less c.write_leaving.auto.row in
-    let k : (get_or c.args.members.now c.args.index 0 * length c.args.pivot_row.now + length c.args.pivot_row.now) - get_or c.args.members.now c.args.index 0 * length c.args.pivot_row.now ≡ length c.args.pivot_row.now = omega arith in (
+    let fresh = length-part (length c.args.pivot_row.now) c.exchange_rows.new.table c.write_leaving.new.row c.args.variables
+    (get_or c.args.members.now c.args.index 0) size less c.write_leaving.auto.row in
+    let k : (get_or c.args.members.now c.args.index 0 * length c.args.pivot_row.now + length c.args.pivot_row.now)
+    - get_or c.args.members.now c.args.index 0 * length c.args.pivot_row.now ≡ length c.args.pivot_row.now = omega arith in (
       fit_after system c.args.members.now c.args.pivot c.args.index (length c.args.pivot_row.now) (c.args.index + 2) c.args.variables c.args.table.now c.copy_signed.new.signed
           free table count width two c.requires.pivot c.requires.outside c.requires.index there signed c.exchange_rows.new.table c.args.to (c.args.to + 2) rows two',
       table_after system c.args.members.now c.args.pivot c.args.index (length c.args.pivot_row.now) (c.args.index + 2) c.args.variables c.args.table.now c.copy_signed.new.signed

@@ -33,7 +33,8 @@ returns-in-None-clause-fault g c = λ memory.
     let i = c.loop-token.token-index in
     let within : i < length tokens = omega arith in
     rw (c.refusal.ensures bytes)
-    (refused_at g.R.Reader.grammar bytes tokens i (get_or tokens i past_end) (g.R.Reader.grammar_position_in bytes c.loop-token.position) (g.R.Reader.content_in bytes c.loop-token.found) within (same_read tokens i within)
+    (refused_at g.R.Reader.grammar bytes tokens i (get_or tokens i past_end) (g.R.Reader.grammar_position_in bytes c.loop-token.position)
+    (g.R.Reader.content_in bytes c.loop-token.found) within (same_read tokens i within)
     (sym c.in-None.ensures.leads) c.loop-token.invariant.reads)
 
 pub loop-token-preserved : goal.loop-token-preserved

@@ -52,7 +52,8 @@ returns-in-Some-None-clause-found c =
 pub returns-then-branch-clause-none : goal.returns-then-branch-clause-none
 returns-then-branch-clause-none c =
     leads_to_pair c.args.a.now c.args.b.now c.requires.comparable (pairs_in c.args.pairing.now) c.args.index c.args.t c.requires.followed c.requires.within c.args.u c.requires.name
-    c.index.result.now (here (goal.at.returns-then-branch-clause-none c).After-index) c.in-Some-Some.to c.in-Some-Some.other (pairs_in c.become_pair.new.pairing) c.in_ok-become_pair-in-Some-Some.field-0
+    c.index.result.now (here (goal.at.returns-then-branch-clause-none c).After-index) c.in-Some-Some.to c.in-Some-Some.other
+    (pairs_in c.become_pair.new.pairing) c.in_ok-become_pair-in-Some-Some.field-0
     c.in-Some-Some.ensures.found c.in-Some-Some.ensures'.found c.in_ok-become_pair-in-Some-Some.ensures c.if-branch.true
 
 pub returns-then-branch-clause-within : goal.returns-then-branch-clause-within
@@ -63,7 +64,8 @@ returns-then-branch-clause-within c =
 pub returns-else-branch-clause-found : goal.returns-else-branch-clause-found
 returns-else-branch-clause-found c =
     tells_targets c.args.a.now c.args.b.now c.requires.comparable (pairs_in c.args.pairing.now) c.args.index c.args.t c.requires.followed c.requires.within c.args.u c.requires.name
-    c.index.result.now (here (goal.at.returns-else-branch-clause-found c).After-index) c.in-Some-Some.to c.in-Some-Some.other (pairs_in c.become_pair.new.pairing) c.in_ok-become_pair-in-Some-Some.field-0
+    c.index.result.now (here (goal.at.returns-else-branch-clause-found c).After-index) c.in-Some-Some.to c.in-Some-Some.other
+    (pairs_in c.become_pair.new.pairing) c.in_ok-become_pair-in-Some-Some.field-0
     c.in-Some-Some.ensures.found c.in-Some-Some.ensures'.found c.in_ok-become_pair-in-Some-Some.ensures c.if-branch.false
 
 pub returns-else-branch-clause-within : goal.returns-else-branch-clause-within

@@ -22,7 +22,8 @@ unreachable-requires c =
     let known : Contains draft.state_names name = subst (λ l. Contains l name) (sym is_states) (there states c.args.initial name at) in
     let unknown : IsErrOf c.initial.result fault.UnknownState → ⊥ = λ e. c.initial.ensures.unknown.0 e known in
     let none : draft.initial ≡ None =
-    ap (λ (d : Draft). d.initial) c.in_ok-add_arcs.ensures.rest ∙ ap (λ (d : Draft). d.initial) c.in_ok-add_labels.ensures ∙ ap (λ (d : Draft). d.initial) c.in_ok-add_states.ensures ∙ ap (λ (d : Draft). d.initial) c.new-builder.ensures in
+    ap (λ (d : Draft). d.initial) c.in_ok-add_arcs.ensures.rest ∙ ap (λ (d : Draft). d.initial) c.in_ok-add_labels.ensures
+    ∙ ap (λ (d : Draft). d.initial) c.in_ok-add_states.ensures ∙ ap (λ (d : Draft). d.initial) c.new-builder.ensures in
     let two : IsErrOf c.initial.result fault.TwoInitial → ⊥ = λ e. none_initial draft name none (c.initial.ensures.two.0 e) in
     search rules
 

@@ -8,5 +8,6 @@ pub returns : goal.returns
 returns c =
     map_from_collect _ c.collect.ensures.ran
     (YieldsList-from_filter _ (λ word. not (length word == 0))
-    (YieldsList-from_slice_split _ is_blank_byte c.args.line.now (cc (c.filter.ensures.source, c.split.ensures.rest)) (cc (c.filter.ensures.source, c.split.ensures.done)) (cc (c.filter.ensures.source, c.split.ensures.closure)) (λ x b q k. search (rules, tests)))
+    (YieldsList-from_slice_split _ is_blank_byte c.args.line.now (cc (c.filter.ensures.source, c.split.ensures.rest))
+    (cc (c.filter.ensures.source, c.split.ensures.done)) (cc (c.filter.ensures.source, c.split.ensures.closure)) (λ x b q k. search (rules, tests)))
     c.filter.ensures.closure (λ x b q k. search (rules, tests)))

@@ -9,7 +9,8 @@ loop-row-preserved c =
     let size : length (linear_row c.row-item.result).coeffs ≡ c.args.columns = search rules in
     let constant : InRange c.row-item.result.constant = search rules in
     below_more _ _ c.loop-row.invariant
-    (item_fine c.args.columns c.args.rows.now c.loop-row.row-index c.row-item.result c.loop-row-test.true c.row-item.is size (subst (All InRange) c.deref.ensures.value (c.if-not-is_in_range.ensures.0 refl)) constant)
+    (item_fine c.args.columns c.args.rows.now c.loop-row.row-index c.row-item.result c.loop-row-test.true c.row-item.is size
+    (subst (All InRange) c.deref.ensures.value (c.if-not-is_in_range.ensures.0 refl)) constant)
 
 pub returns : goal.returns
 returns c = λ e.

@@ -22,11 +22,13 @@ loop-s-preserved c =
     (elim c.if-number-len.branch [
       | then-number-len+in_ok-push w ↦
           rw (w.firsts-is, w.in_ok-push.ensures.items)
-          (numbered_first c.args.cells.now c.args.tokens.now c.loop-s.seen.keys c.loop-s.firsts.items c.loop-s.refined.items c.loop-s.s c.loop-s.invariant c.in_ok-number.number c.index.result.now at (omega arith)
+          (numbered_first c.args.cells.now c.args.tokens.now c.loop-s.seen.keys c.loop-s.firsts.items c.loop-s.refined.items c.loop-s.s
+          c.loop-s.invariant c.in_ok-number.number c.index.result.now at (omega arith)
           (rw (w.firsts-is, w.in_ok-push.ensures.items) at c.index.ensures))
       | else-number-len w ↦
           rw w.firsts-is
-          (numbered_again c.args.cells.now c.args.tokens.now c.loop-s.seen.keys c.loop-s.firsts.items c.loop-s.refined.items c.loop-s.s c.loop-s.invariant c.in_ok-number.number c.index.result.now at (λ past. omega arith)
+          (numbered_again c.args.cells.now c.args.tokens.now c.loop-s.seen.keys c.loop-s.firsts.items c.loop-s.refined.items c.loop-s.s
+          c.loop-s.invariant c.in_ok-number.number c.index.result.now at (λ past. omega arith)
           (rw w.firsts-is at c.index.ensures))
     ])
 

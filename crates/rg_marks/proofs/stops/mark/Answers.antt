@@ -14,7 +14,8 @@ bounds-rows-t c =
 pub index_mut-requires : goal.index_mut-requires
 index_mut-requires c =
     let (lt, lt') = event_within c.args.lts.now c.args.events.now c.loop-s.s-index (0, 0) c.loop-s-test.true c.requires.within in
-    let size = row_length c.args.lts.now c.loop-s.rows _ c.index-rows-t.result c.index-rows-t.result.items (row_of_label c.args.lts.now c.loop-s.rows _ lt' c.loop-s.invariant.table) c.loop-s.invariant.table c.index-rows-t.is refl in
+    let size = row_length c.args.lts.now c.loop-s.rows _ c.index-rows-t.result c.index-rows-t.result.items
+    (row_of_label c.args.lts.now c.loop-s.rows _ lt' c.loop-s.invariant.table) c.loop-s.invariant.table c.index-rows-t.is refl in
     subst (λ (v : Vec Bool Global). (get_or c.args.events.now c.loop-s.s-index (0, 0)).0 < vec_len v) c.index-rows-t.is
     (subst (λ n. (get_or c.args.events.now c.loop-s.s-index (0, 0)).0 < n) (sym (c.index-rows-t.result.ok.0 ∙ size)) lt)
 

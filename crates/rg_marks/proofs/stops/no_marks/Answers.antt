@@ -7,7 +7,8 @@ use Rattle.rg_marks.proofs.stops.no_marks.Goals as goal
 pub loop-preserved : goal.loop-preserved
 loop-preserved c =
     rw c.in_ok-push.ensures.items
-    (rows_more c.loop.rows.items c.loop.counter c.in_ok-empty_row.field-0 (replicate (states c.args.lts.now) false) c.loop.invariant (c.in_ok-empty_row.ensures ∙ ap (λ n. replicate n false) c.states.ensures.value))
+    (rows_more c.loop.rows.items c.loop.counter c.in_ok-empty_row.field-0 (replicate (states c.args.lts.now) false) c.loop.invariant
+    (c.in_ok-empty_row.ensures ∙ ap (λ n. replicate n false) c.states.ensures.value))
 
 pub returns : goal.returns
 returns c =

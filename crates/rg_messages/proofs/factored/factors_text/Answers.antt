@@ -14,12 +14,15 @@ loop-i-preserved c =
     let i = c.loop-i.i in
     let r = get_or c.args.factors.now i c.index-factors-i.result in
     let zeros : 0 + i ≡ i = omega arith in
-    grown (codes "factors " ++ decimal (length c.args.factors.now) ++ codes "\n") (factor_lines 0 (take i fs)) (factor_lines 0 (take (i + 1) fs)) (factor_line i (shown_factor r)) c.loop-i.text.items c.push_factor.new.text.items
+    grown (codes "factors " ++ decimal (length c.args.factors.now) ++ codes "\n") (factor_lines 0 (take i fs)) (factor_lines 0 (take (i + 1) fs))
+    (factor_line i (shown_factor r)) c.loop-i.text.items c.push_factor.new.text.items
     (c.in_ok-push_factor.ensures r.labels.items) c.loop-i.invariant
-    (lines_more 0 fs i (shown_factor r) (shown_at shown_factor c.args.factors.now i c.index-factors-i.result c.loop-i-test.true) ∙ ap (λ k. factor_lines 0 (take i fs) ++ factor_line k (shown_factor r)) zeros)
+    (lines_more 0 fs i (shown_factor r) (shown_at shown_factor c.args.factors.now i c.index-factors-i.result c.loop-i-test.true)
+    ∙ ap (λ k. factor_lines 0 (take i fs) ++ factor_line k (shown_factor r)) zeros)
 
 -- the tuple, as it is read
-tuple_read : (tuples : List (Vec ℕ Global)) (s : ℕ) (v : Vec ℕ Global) (now : List ℕ) → s < length tuples → v ≡ get_or tuples s v → now ≡ v.items → tuple_of (map (λ (t : Vec ℕ Global). t.items) tuples) s ≡ now
+tuple_read : (tuples : List (Vec ℕ Global)) (s : ℕ) (v : Vec ℕ Global) (now : List ℕ) → s < length tuples → v ≡ get_or tuples s v → now ≡ v.items
+    → tuple_of (map (λ (t : Vec ℕ Global). t.items) tuples) s ≡ now
 tuple_read tuples s v now lt is reads =
     get_or_default (map (λ (t : Vec ℕ Global). t.items) tuples) s [] v.items (omega (arith, length-map tuples (λ (t : Vec ℕ Global). t.items)))
     ∙ get_or-map (λ (t : Vec ℕ Global). t.items) tuples s v ∙ ap (λ (t : Vec ℕ Global). t.items) (sym is) ∙ sym reads
@@ -45,5 +48,6 @@ loop-s-preserved c =
     let lt : s < length c.args.tuples.now = omega arith in
     let read = tuple_read c.args.tuples.now s c.index-tuples-s.result c.deref.result.now lt c.index-tuples-s.is c.deref.ensures.value in
     let T = tuple_line c.args.lts.now fs tuples in
-    grown (codes "factors " ++ decimal (length c.args.factors.now) ++ codes "\n" ++ factor_lines 0 fs) (flat_map T (range_with_len 0 s)) (flat_map T (range_with_len 0 (s + 1))) (T s) c.loop-s.text.items c.push_tuple.new.text.items
+    grown (codes "factors " ++ decimal (length c.args.factors.now) ++ codes "\n" ++ factor_lines 0 fs) (flat_map T (range_with_len 0 s))
+    (flat_map T (range_with_len 0 (s + 1))) (T s) c.loop-s.text.items c.push_tuple.new.text.items
     (c.in_ok-push_tuple.ensures tuples read) c.loop-s.invariant (states_more T s)

@@ -9,7 +9,7 @@ use Rattle.rg_net_verdict.specs.declared.verdict.NetNo.TheVariants.{SameMarking,
 use Rattle.rg_net_verdict.specs.declared.verdict.NetVerdict.TheVariants.{No}
 use Rattle.rg_net_verdict.specs.Verdict.{HaveMarkings, Tells, AreFirstSame, AllDiffer, AreRightBefore}
 use Rattle.rg_net_verdict.specs.Wrong.{IsFirstWrong}
-use Rattle.rg_net_verdict.proofs.Along.{row_count}
+use Rattle.rg_net.proofs.Rows.{rows_long as row_count}
 use Rattle.rg_net_verdict.proofs.Telling.{tells_same, tells_wrong, tells_break, tells_yes, bounded_yes}
 use Rattle.rg_net_verdict.proofs.check.judge.Goals as goal
 

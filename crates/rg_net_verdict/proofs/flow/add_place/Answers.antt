@@ -60,11 +60,15 @@ loop-flow-preserved c =
     let post = number_read c.index-places-i.result.post.items t c.index-in-loop-flow.result.now (let few = size.1 in omega (arith, few, small)) c.index-in-loop-flow.ensures in
     let low = (place_in_range net i (shown_place c.index-places-i.result) c.places.ensures.in_range here).post t 0 (let few = size.1 in omega (arith, few, small)) in
     let flow = c.flow-item.result in
-    let old = subst (λ (v : Vec Flow Global). IsFlowBelow net t i v.items) (ap (λ n. get_or c.loop-flow.flows n flow) is ∙ sym c.flow-item.is) (c.loop-flow.invariant.1.left t flow (omega arith) small) in
+    let old = subst (λ (v : Vec Flow Global). IsFlowBelow net t i v.items) (ap (λ n. get_or c.loop-flow.flows n flow) is ∙ sym c.flow-item.is)
+    (c.loop-flow.invariant.1.left t flow (omega arith) small) in
     let next = flow_next net t i flow.items (shown_place c.index-places-i.result) c.index.result.now c.index-in-loop-flow.result.now old here pre post (omega (arith, post, low)) in
     let added = ap (λ (v : Vec Flow Global). v.items ++ flow_if i c.index.result.now c.index-in-loop-flow.result.now) (sym c.flow-item.is) in
-    let new = subst (IsFlowBelow net t (i + 1)) (sym (c.in_ok-add_flow.ensures ∙ added)) next in
-    (ap (λ n. n + 1) is, subst (λ n. AreFlowsAt net i (t + 1) (set c.loop-flow.flows n c.add_flow.new.flow)) is (at_more net i t c.loop-flow.flows c.add_flow.new.flow c.loop-flow.invariant.1 (omega (arith, small, lists)) new))
+    let new = subst (IsFlowBelow net t (i + 1)) (sym (c.in_ok-add_flow.ensures ∙ added)) next in (
+      ap (λ n. n + 1) is,
+      subst (λ n. AreFlowsAt net i (t + 1) (set c.loop-flow.flows n c.add_flow.new.flow)) is
+          (at_more net i t c.loop-flow.flows c.add_flow.new.flow c.loop-flow.invariant.1 (omega (arith, small, lists)) new),
+    )
 
 pub returns : goal.returns
 returns c =

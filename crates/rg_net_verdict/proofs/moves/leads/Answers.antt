@@ -6,7 +6,8 @@ use Rattle.rg_net_verdict.proofs.moves.leads.Goals as goal
 pub returns-then-not-are_same : goal.returns-then-not-are_same
 returns-then-not-are_same c = (
   λ e. absurd (false≢true e),
-  λ (has, moved). sym c.if-not-are_same.true ∙ c.are_same.ensures.1 (agree_between c.args.flow.now c.args.from.now c.args.to.now c.requires.listed c.loop-f.f-index c.loop-f.start c.loop-f.invariant no_flow c.loop-f-test.true moved),
+  λ (has, moved). sym c.if-not-are_same.true ∙ c.are_same.ensures.1
+      (agree_between c.args.flow.now c.args.from.now c.args.to.now c.requires.listed c.loop-f.f-index c.loop-f.start c.loop-f.invariant no_flow c.loop-f-test.true moved),
 )
 
 pub loop-f-preserved : goal.loop-f-preserved

@@ -2,7 +2,8 @@ use Rattle.std.proofs.Common.{◌<◌, [], length, ap, sym, ◌∙◌, arith}
 use Rattle.std.proofs.lemmas.Grind.{get_or-set_at}
 use Rattle.rg_theory.specs.Solves.{marking_of}
 use Rattle.rg_net.specs.ClassBreaks.{shown_markings}
-use Rattle.rg_net_verdict.proofs.Along.{row_set, row_count}
+use Rattle.rg_net_verdict.proofs.Along.{row_set}
+use Rattle.rg_net.proofs.Rows.{rows_long as row_count}
 use Rattle.rg_net_verdict.proofs.rows.begin_rows.Goals as goal
 
 pub index_mut-requires : goal.index_mut-requires

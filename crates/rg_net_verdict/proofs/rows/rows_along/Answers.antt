@@ -12,16 +12,20 @@ use Rattle.rg_net_verdict.specs.Flows.{IsFlow}
 use Rattle.rg_net_verdict.specs.Verdict.{Tells}
 use Rattle.rg_net_verdict.proofs.Listing.{flow_read}
 use Rattle.rg_net_verdict.proofs.Weighing.{listed_within, tokens_of, enabled_by}
-use Rattle.rg_net_verdict.proofs.Along.{AlongSoFar, source_row, row_set, row_count, along_start, source_within, target_within, label_within, source_places, source_in_range, stuck_here, passes_here, along_next, along_have, along_rows}
+use Rattle.rg_net_verdict.proofs.Along.{AlongSoFar, source_row, row_set, along_start, source_within, target_within, label_within, source_places, source_in_range, stuck_here, passes_here, along_next, along_have, along_rows}
+use Rattle.rg_net.proofs.Rows.{rows_long as row_count}
 use Rattle.rg_net_verdict.proofs.rows.rows_along.Goals as goal
 
 pub loop-a-init : goal.loop-a-init
 loop-a-init c =
-    along_start c.args.lts.now c.args.net.now c.args.tree.now (shown_markings c.in_ok-rows.rows.items) c.in_ok-rows.ensures.system c.requires.tree c.in_ok-rows.ensures.net (row_count c.in_ok-rows.rows.items ∙ c.in_ok-rows.ensures.long) c.in_ok-rows.ensures.start
+    along_start c.args.lts.now c.args.net.now c.args.tree.now
+    (shown_markings c.in_ok-rows.rows.items) c.in_ok-rows.ensures.system c.requires.tree c.in_ok-rows.ensures.net
+    (row_count c.in_ok-rows.rows.items ∙ c.in_ok-rows.ensures.long) c.in_ok-rows.ensures.start
 
 pub index-source-requires : goal.index-source-requires
 index-source-requires c =
-    let lt = source_within c.args.lts.now c.args.net.now c.args.tree.now (shown_markings c.loop-a.rows.items) c.loop-a.a-index (arc 0 0 0) c.in_ok-rows.ensures.system c.requires.tree c.requires.labels c.loop-a-test.true c.loop-a.invariant in
+    let lt = source_within c.args.lts.now c.args.net.now c.args.tree.now (shown_markings c.loop-a.rows.items) c.loop-a.a-index
+    (arc 0 0 0) c.in_ok-rows.ensures.system c.requires.tree c.requires.labels c.loop-a-test.true c.loop-a.invariant in
     let size = row_count c.loop-a.rows.items in
     let is = c.loop-a.rows.ok.0 in
     omega arith
@@ -79,7 +83,8 @@ fire_along-requires-clause-places c = source_places c.args.lts.now c.args.net.no
     ∙ sym c.deref-in-loop-a-3.ensures.value)
 
 pub fire_along-requires-clause-label : goal.fire_along-requires-clause-label
-fire_along-requires-clause-label c = label_within c.args.lts.now c.args.net.now c.args.tree.now (shown_markings c.loop-a.rows.items) c.loop-a.a-index (arc 0 0 0) c.in_ok-rows.ensures.system c.requires.tree c.requires.labels c.loop-a-test.true c.loop-a.invariant
+fire_along-requires-clause-label c = label_within c.args.lts.now c.args.net.now c.args.tree.now (shown_markings c.loop-a.rows.items) c.loop-a.a-index
+    (arc 0 0 0) c.in_ok-rows.ensures.system c.requires.tree c.requires.labels c.loop-a-test.true c.loop-a.invariant
 
 pub fire_along-requires-clause-in_range : goal.fire_along-requires-clause-in_range
 fire_along-requires-clause-in_range c = source_in_range c.args.lts.now c.args.net.now c.args.tree.now (shown_markings c.loop-a.rows.items) c.loop-a.a-index
@@ -111,14 +116,16 @@ returns-in_err-target-clause-wide c = λ class w e.
 
 pub index_mut-requires : goal.index_mut-requires
 index_mut-requires c =
-    let lt = target_within c.args.lts.now c.args.net.now c.args.tree.now (shown_markings c.loop-a.rows.items) c.loop-a.a-index (arc 0 0 0) c.in_ok-rows.ensures.system c.requires.tree c.requires.labels c.loop-a-test.true c.loop-a.invariant in
+    let lt = target_within c.args.lts.now c.args.net.now c.args.tree.now (shown_markings c.loop-a.rows.items) c.loop-a.a-index
+    (arc 0 0 0) c.in_ok-rows.ensures.system c.requires.tree c.requires.labels c.loop-a-test.true c.loop-a.invariant in
     let size = row_count c.loop-a.rows.items in
     let is = c.loop-a.rows.ok.0 in
     omega arith
 
 pub loop-a-preserved : goal.loop-a-preserved
 loop-a-preserved c =
-    subst (λ ms. AlongSoFar c.args.lts.now c.args.net.now c.args.tree.now ms (c.loop-a.a-index + 1)) (sym (row_set c.loop-a.rows.items (get_or c.args.tree.now c.loop-a.a-index (arc 0 0 0)).to c.in_ok-target.target))
+    subst (λ ms. AlongSoFar c.args.lts.now c.args.net.now c.args.tree.now ms (c.loop-a.a-index + 1))
+    (sym (row_set c.loop-a.rows.items (get_or c.args.tree.now c.loop-a.a-index (arc 0 0 0)).to c.in_ok-target.target))
     (along_next c.args.lts.now c.args.net.now c.args.tree.now (shown_markings c.loop-a.rows.items) c.loop-a.a-index
     (arc 0 0 0) c.in_ok-rows.ensures.system c.requires.tree c.requires.labels c.loop-a-test.true c.loop-a.invariant c.deref-in-loop-a-3.result.now
     c.in_ok-target.target.items (source_row c.args.lts.now c.args.net.now c.args.tree.now c.loop-a.rows.items c.loop-a.a-index

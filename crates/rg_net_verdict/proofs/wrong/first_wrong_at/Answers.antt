@@ -19,4 +19,6 @@ pub loop-t-preserved : goal.loop-t-preserved
 loop-t-preserved c = right_more c.args.marked.lts.now c.args.marked.net.now (marking_of (shown_markings c.args.marked.rows.now)) c.args.s c.loop-t.t c.loop-t.invariant c.in_default.ensures.none
 
 pub returns-clause-none : goal.returns-clause-none
-returns-clause-none c = right_labels c.args.marked.lts.now c.args.marked.net.now (marking_of (shown_markings c.args.marked.rows.now)) c.args.s c.loop-t.t (subst (λ n. n ≤ c.loop-t.t) c.labels-t-end.ensures.value c.loop-t-test.false) c.loop-t.invariant
+returns-clause-none c = right_labels c.args.marked.lts.now c.args.marked.net.now
+    (marking_of (shown_markings c.args.marked.rows.now)) c.args.s c.loop-t.t
+    (subst (λ n. n ≤ c.loop-t.t) c.labels-t-end.ensures.value c.loop-t-test.false) c.loop-t.invariant

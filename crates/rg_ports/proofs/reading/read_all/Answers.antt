@@ -10,7 +10,8 @@ returns-in_err-pick-clause-calls g c =
     rw is (unpicked c.args.shelf.now c.pick.new.self c.in_err-pick.ensures.finds)
 
 pub returns-then-not-branch-clause-calls : goal.returns-then-not-branch-clause-calls
-returns-then-not-branch-clause-calls g c = missing c.args.shelf.now c.pick.new.self (subst (λ (there : Bool). g.H.Shelf.finds c.args.shelf.now c.args.name.now (Some there) c.pick.new.self) c.if-not-branch.true c.in_ok-pick.ensures.finds)
+returns-then-not-branch-clause-calls g c = missing c.args.shelf.now c.pick.new.self
+    (subst (λ (there : Bool). g.H.Shelf.finds c.args.shelf.now c.args.name.now (Some there) c.pick.new.self) c.if-not-branch.true c.in_ok-pick.ensures.finds)
 
 pub loop-most-init : goal.loop-most-init
 loop-most-init g c = record {
@@ -19,7 +20,8 @@ loop-most-init g c = record {
   within = search rules;
   between = search rules;
   never_falls = search rules;
-  run = λ last t reads. picked c.args.shelf.now c.pick.new.self t last (subst (λ (there : Bool). g.H.Shelf.finds c.args.shelf.now c.args.name.now (Some there) c.pick.new.self) c.if-not-branch.false c.in_ok-pick.ensures.finds) reads;
+  run = λ last t reads. picked c.args.shelf.now c.pick.new.self t last
+      (subst (λ (there : Bool). g.H.Shelf.finds c.args.shelf.now c.args.name.now (Some there) c.pick.new.self) c.if-not-branch.false c.in_ok-pick.ensures.finds) reads;
 }
 
 pub returns-in_err-n-clause-calls : goal.returns-in_err-n-clause-calls

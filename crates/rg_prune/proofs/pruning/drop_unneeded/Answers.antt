@@ -11,7 +11,8 @@ use Rattle.rg_prune.proofs.pruning.drop_unneeded.Goals.{then-branch+in_ok-place+
 
 pub loop-place-init : goal.loop-place-init
 loop-place-init c = record {
-  asked = rw c.new-left.ensures.items (asked_start c.args.lts.now c.args.places.items c.args.all_firsts.items c.in_ok-separated.separated c.requires.separate c.requires.firsts c.requires.narrow c.in_ok-separated.ensures);
+  asked = rw c.new-left.ensures.items (asked_start c.args.lts.now c.args.places.items c.args.all_firsts.items c.in_ok-separated.separated
+      c.requires.separate c.requires.firsts c.requires.narrow c.in_ok-separated.ensures);
   one_each = c.in_ok-tokens.ensures.one_each;
 }
 
@@ -41,9 +42,11 @@ loop-place-preserved c =
         asked = asked_keeps c.args.lts.now c.args.places.items c.loop-place.places.items c.loop-place.all_firsts.items c.loop-place.left.items c.loop-place.separated asked
             c.pop.new.self.items c.in-Some.place c.in-Some.ensures.items c.pop-in-Some.new.self.items c.in-Some-pop.firsts c.in-Some-pop.ensures.items
             w.in_ok-place.place w.add.new.self w.in_ok-place.ensures (c.in_ok-is_needed.ensures.yes w.if-branch.true)
-            (subst (λ (p : PlaceOfTheory). (places more : List PlaceOfTheory) → AddsOne p places more → SeparateSoMuch c.args.lts.now places c.loop-place.separated → SeparateSoMuch c.args.lts.now more w.add.new.self)
+            (subst (λ (p : PlaceOfTheory). (places more : List PlaceOfTheory) → AddsOne p places more
+            → SeparateSoMuch c.args.lts.now places c.loop-place.separated → SeparateSoMuch c.args.lts.now more w.add.new.self)
             w.in_ok-place.ensures w.in_ok-add.ensures.separated);
-        one_each = written_length c.loop-place.tokens w.fill_tokens.new.tokens w.deref_mut.result.now (states c.args.lts.now) w.fill_tokens.auto.tokens w.deref_mut.ensures.value c.loop-place.invariant.one_each;
+        one_each = written_length c.loop-place.tokens w.fill_tokens.new.tokens w.deref_mut.result.now
+            (states c.args.lts.now) w.fill_tokens.auto.tokens w.deref_mut.ensures.value c.loop-place.invariant.one_each;
       })
       | else-branch w ↦ rw (w.separated-is, w.tokens-is, w.left-is) (record {
         asked = asked_drops c.args.lts.now c.args.places.items c.loop-place.places.items c.loop-place.all_firsts.items c.loop-place.left.items c.loop-place.separated asked

@@ -17,7 +17,8 @@ pub add-requires-clause-narrow : goal.add-requires-clause-narrow
 add-requires-clause-narrow c = narrow_by c.args.lts.now (shown_place c.place-item.result) _ (c.if-not-is_region.ensures refl)
 
 pub add-requires-clause-tokens : goal.add-requires-clause-tokens
-add-requires-clause-tokens c = rw c.deref-in-loop-place.ensures.value (rw c.deref.ensures.value at (tokens_by c.args.lts.now (shown_place c.place-item.result) _ (c.if-not-is_region.ensures refl) c.requires))
+add-requires-clause-tokens c = rw c.deref-in-loop-place.ensures.value
+    (rw c.deref.ensures.value at (tokens_by c.args.lts.now (shown_place c.place-item.result) _ (c.if-not-is_region.ensures refl) c.requires))
 
 pub loop-place-preserved : goal.loop-place-preserved
 loop-place-preserved c =
@@ -28,10 +29,12 @@ loop-place-preserved c =
       firsts = subst (λ (l : List PlaceOfTheory). AreAllFirsts c.args.lts.now l c.push.new.self.items) (sym next)
           (rw c.in_ok-push.ensures.items
           (firsts_more c.args.lts.now front p c.loop-place.all.items c.in_ok-firsts.firsts c.loop-place.invariant.firsts (c.in_ok-firsts.ensures.firsts front c.loop-place.invariant.separated)));
-      separated = subst (λ (l : List PlaceOfTheory). SeparateSoMuch c.args.lts.now l c.add.new.self) (sym next) (c.in_ok-firsts.ensures.separated front _ (adds_last p front) c.loop-place.invariant.separated);
+      separated = subst (λ (l : List PlaceOfTheory). SeparateSoMuch c.args.lts.now l c.add.new.self) (sym next)
+          (c.in_ok-firsts.ensures.separated front _ (adds_last p front) c.loop-place.invariant.separated);
     }
 
 pub returns : goal.returns
 returns c =
     subst (λ (l : List PlaceOfTheory). AreAllFirsts c.args.lts.now l c.loop-place.all.items)
-    (take_all c.loop-place.place-index (map shown_place c.args.places.now) (let n = length-map c.args.places.now shown_place in let past = c.loop-place-test.false in omega arith)) c.loop-place.invariant.firsts
+    (take_all c.loop-place.place-index (map shown_place c.args.places.now)
+    (let n = length-map c.args.places.now shown_place in let past = c.loop-place-test.false in omega arith)) c.loop-place.invariant.firsts

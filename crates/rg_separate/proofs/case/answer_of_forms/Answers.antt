@@ -52,5 +52,6 @@ returns-in_ok-above-in-Err-Wide-clause-comes c =
     ∙ ap (λ (fs : List NamedForm). sides_among (map split_of fs) c.deref-in-Err-Wide.result.now) c.forms.ensures
     ∙ ap (λ above. sides_among (map split_of named.forms) above) c.deref-in-Err-Wide.ensures.value
     ∙ ap (λ fs. sides_among fs sides) c.requires.system.by_name in
-    subst (λ (w : Shown). CaseComes (shown_case c.args.c) (passes w)) (sym (c.wide_pivot.ensures ∙ ap (λ (ss : List Side). pivot_at c.args.c ss c.in-Err-Wide.members.items c.in-Err-Wide.wide) by_name))
+    subst (λ (w : Shown). CaseComes (shown_case c.args.c) (passes w))
+    (sym (c.wide_pivot.ensures ∙ ap (λ (ss : List Side). pivot_at c.args.c ss c.in-Err-Wide.members.items c.in-Err-Wide.wide) by_name))
     (pivot_comes c.args.c named sides at c.requires.system ends)

@@ -16,7 +16,8 @@ pub solve_whole-requires-clause-can : goal.solve_whole-requires-clause-can
 solve_whole-requires-clause-can c =
     let are : AreBoundedOf c.args.named.now.forms c.args.problems.forms.now = c.requires.forms (sym c.has_shared_rows.ensures ∙ c.if-has_shared_rows.true) in
     subst (λ (s : LinearSystem). CanBranch s c.before-then-has_shared_rows.result c.args.problems.forms.now) (sym c.system-system.ensures)
-    (subst (λ n. CanBranch c.args.named.now.system n c.args.problems.forms.now) (sym c.before-then-has_shared_rows.ensures) (can_branch c.args.named.now.system c.args.named.now.before c.args.named.now.forms c.args.problems.forms.now c.requires.are are))
+    (subst (λ n. CanBranch c.args.named.now.system n c.args.problems.forms.now) (sym c.before-then-has_shared_rows.ensures)
+    (can_branch c.args.named.now.system c.args.named.now.before c.args.named.now.forms c.args.problems.forms.now c.requires.are are))
 
 pub returns-then-has_shared_rows-clause-answer : goal.returns-then-has_shared_rows-clause-answer
 returns-then-has_shared_rows-clause-answer c =
@@ -44,7 +45,8 @@ solve_whole-requires-2-clause-can c =
     let are : AreBoundedOf c.args.named.now.forms c.deref.result.now = subst (λ (bs : List Bounded). AreBoundedOf c.args.named.now.forms bs) (sym c.deref.ensures.value)
     (subst (λ (fs : List NamedForm). AreBoundedOf fs c.in_ok-forms.forms.items) c.forms.ensures c.in_ok-forms.ensures) in
     subst (λ (s : LinearSystem). CanBranch s c.before-2.result c.deref.result.now) (sym c.system-system.ensures)
-    (subst (λ n. CanBranch c.args.named.now.system n c.deref.result.now) (sym c.before-2.ensures) (can_branch c.args.named.now.system c.args.named.now.before c.args.named.now.forms c.deref.result.now c.requires.are are))
+    (subst (λ n. CanBranch c.args.named.now.system n c.deref.result.now) (sym c.before-2.ensures)
+    (can_branch c.args.named.now.system c.args.named.now.before c.args.named.now.forms c.deref.result.now c.requires.are are))
 
 pub returns-clause-answer : goal.returns-clause-answer
 returns-clause-answer c =

@@ -20,7 +20,8 @@ named_triples-requires c =
     let named = c.args.named.now in
     let sides = c.args.above.now in
     subst (λ (fs : List NamedForm). All (λ (s : SplitSide). s.form < length fs) sides) (sym c.forms.ensures)
-    (sides_on_named named.forms sides (sides_on_forms (forms_in named) [] sides (splits_within named.system (forms_in named) (found c.requires.found.members sides) c.requires.system.bounded c.requires.found.outcome)))
+    (sides_on_named named.forms sides (sides_on_forms (forms_in named) [] sides
+    (splits_within named.system (forms_in named) (found c.requires.found.members sides) c.requires.system.bounded c.requires.found.outcome)))
 
 pub returns-in-Ok-clause-tells : goal.returns-in-Ok-clause-tells
 returns-in-Ok-clause-tells c = c.in-Ok.ensures.region c.requires.case.live (solves c.args.c c.args.named.now c.args.point.now c.requires.case c.requires.system c.requires.solves)

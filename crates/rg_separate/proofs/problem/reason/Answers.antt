@@ -22,4 +22,5 @@ returns-in-Some-clause-good c =
     let class = c.args.class in
     refuted_one lts class c.in-Event.s c.in-Event.t c.in-Some.case c.requires.bound
     (subst (IsProblem lts) c.in-Event.is c.requires.has)
-    (subst (λ (p : Problem). (i : ℕ) (case : Case) → slice_get c.args.cases.items i ≡ Some case → RefutesCase lts class p i case) c.in-Event.is c.requires.refuted 0 c.in-Some.case (ap (λ (xs : List Case). slice_get xs 0) (sym c.into_iter.ensures.rest ∙ c.in-Some.ensures.items)))
+    (subst (λ (p : Problem). (i : ℕ) (case : Case) → slice_get c.args.cases.items i ≡ Some case → RefutesCase lts class p i case) c.in-Event.is
+    c.requires.refuted 0 c.in-Some.case (ap (λ (xs : List Case). slice_get xs 0) (sym c.into_iter.ensures.rest ∙ c.in-Some.ensures.items)))

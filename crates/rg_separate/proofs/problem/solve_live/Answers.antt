@@ -19,7 +19,8 @@ returns-in-Place-clause-comes c =
     let comes : ℕ → CaseResult → Type 0 = λ i. CaseComes (case_at (shown_setting setting) c.args.problem i) in
     let lt : c.loop-case.case < cases_of setting.lts.now setting.class c.args.problem = subst (λ (n : ℕ). c.loop-case.case < n) c.cases-case-end.ensures.value c.loop-case-test.true in
     live_comes (shown_setting setting) c.args.problem (placed (shown_place c.in-Place.region.place)) c.requires.live
-    (place_first comes (λ i r r'. same_result (case_at (shown_setting setting) c.args.problem i) r r') c.loop-case.case (cases_of setting.lts.now setting.class c.args.problem) c.loop-case.tried (shown_place c.in-Place.region.place) c.loop-case.invariant.come lt
+    (place_first comes (λ i r r'. same_result (case_at (shown_setting setting) c.args.problem i) r r') c.loop-case.case
+    (cases_of setting.lts.now setting.class c.args.problem) c.loop-case.tried (shown_place c.in-Place.region.place) c.loop-case.invariant.come lt
     (subst (CaseComesTo (record { setting = setting; problem = c.args.problem; number = c.loop-case.case })) c.in-Place.is c.in_ok-region.ensures.comes))
 
 pub loop-case-preserved : goal.loop-case-preserved

@@ -18,7 +18,8 @@ returns-in-Some-clause-comes c =
     let setting = c.args.setting in
     let n = cases_of setting.lts.now setting.class c.args.problem in
     live_comes (shown_setting setting) c.args.problem (passed (shown_of c.in-Some.at)) c.requires.live
-    (term_comes (λ i. CaseComes (case_at (shown_setting setting) c.args.problem i)) (λ i r r'. same_result (case_at (shown_setting setting) c.args.problem i) r r') n c.args.tried c.in-Some.at c.requires.come c.in-Some.is)
+    (term_comes (λ i. CaseComes (case_at (shown_setting setting) c.args.problem i))
+    (λ i r r'. same_result (case_at (shown_setting setting) c.args.problem i) r r') n c.args.tried c.in-Some.at c.requires.come c.in-Some.is)
 
 pub returns-in-None-clause-comes : goal.returns-in-None-clause-comes
 returns-in-None-clause-comes c =
@@ -27,5 +28,6 @@ returns-in-None-clause-comes c =
       map case_tree c.args.tried.refuted.items,
       c.reason.ensures.trees,
       live_comes (shown_setting setting) c.args.problem (refuted (map case_tree c.args.tried.refuted.items)) c.requires.live
-          (refuted_come (λ i. CaseComes (case_at (shown_setting setting) c.args.problem i)) (λ i r r'. same_result (case_at (shown_setting setting) c.args.problem i) r r') n c.args.tried c.requires.come c.in-None.is),
+          (refuted_come (λ i. CaseComes (case_at (shown_setting setting) c.args.problem i))
+          (λ i r r'. same_result (case_at (shown_setting setting) c.args.problem i) r r') n c.args.tried c.requires.come c.in-None.is),
     )

@@ -52,7 +52,8 @@ certify-requires-clause-can o c = record {
 
 pub returns-in-Some-clause-refused : goal.returns-in-Some-clause-refused
 returns-in-Some-clause-refused o c =
-    refusal_of c.args.setting c.in_ok-certificate-in-Some.certificate _ c.requires.all_nets c.in_ok-certificate-in-Some.ensures.searched c.in_ok-certificate-in-Some.ensures.good c.in_ok-found.ensures.searching.kept.kept.each
+    refusal_of c.args.setting c.in_ok-certificate-in-Some.certificate _ c.requires.all_nets c.in_ok-certificate-in-Some.ensures.searched
+    c.in_ok-certificate-in-Some.ensures.good c.in_ok-found.ensures.searching.kept.kept.each
 
 pub returns-clause-not_refused : goal.returns-clause-not_refused
 returns-clause-not_refused o c =

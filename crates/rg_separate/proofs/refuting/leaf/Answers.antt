@@ -39,13 +39,16 @@ spread_in-requires c =
     let by_name = c.in_ok-above.ensures ∙ ap (λ (fs : List NamedForm). sides_among (map split_of fs) sides) c.forms.ensures ∙ ap (λ fs. sides_among fs sides) c.requires.system.by_name in
     subst (λ (above : List Side). RefutesCase c.args.c c.deref.result.now above) (sym c.deref-2.ensures.value)
     (subst (λ (shares : List (RowName × Fraction)). RefutesCase c.args.c shares c.in_ok-above.above.items) (sym c.deref.ensures.value)
-    (leaf_asked c.args.c named sides c.in_ok-above.above.items (map weight_of c.args.weights.now) c.in_ok-shares.shares.items c.requires.case c.requires.system c.requires.leaf by_name (c.in_ok-shares.ensures.one_each ∙ sym (length-map c.args.weights.now weight_of)) c.in_ok-shares.ensures.comes))
+    (leaf_asked c.args.c named sides c.in_ok-above.above.items
+    (map weight_of c.args.weights.now) c.in_ok-shares.shares.items c.requires.case c.requires.system c.requires.leaf by_name
+    (c.in_ok-shares.ensures.one_each ∙ sym (length-map c.args.weights.now weight_of)) c.in_ok-shares.ensures.comes))
 
 pub returns-clause-made : goal.returns-clause-made
 returns-clause-made c =
     let sides = c.args.above.now in
     let by_name = c.in_ok-above.ensures ∙ ap (λ (fs : List NamedForm). sides_among (map split_of fs) sides) c.forms.ensures ∙ ap (λ fs. sides_among fs sides) c.requires.system.by_name in
-    let fold = subst (λ (shares : List (RowName × Fraction)). SharesFold c.args.named.now sides (map weight_of c.args.weights.now) (Ok (map share_of shares))) (sym c.deref.ensures.value) c.in_ok-shares.ensures.comes in
+    let fold = subst (λ (shares : List (RowName × Fraction)). SharesFold c.args.named.now sides (map weight_of c.args.weights.now)
+    (Ok (map share_of shares))) (sym c.deref.ensures.value) c.in_ok-shares.ensures.comes in
     IfOk_both c.spread_in.result c.spread_in.ensures.leaf c.spread_in.ensures.refutes
     (λ node leaf is. leaf_made c.args.c c.args.named.now sides c.deref-2.result.now (map weight_of c.args.weights.now)
     (map share_of c.deref.result.now) (made_node_of node) c.requires.system (c.deref-2.ensures.value ∙ by_name) fold leaf is)
@@ -56,7 +59,9 @@ returns-clause-wide c = λ w is case shows.
     let class = c.args.c.setting.class in
     let sides = c.args.above.now in
     let by_name = c.in_ok-above.ensures ∙ ap (λ (fs : List NamedForm). sides_among (map split_of fs) sides) c.forms.ensures ∙ ap (λ fs. sides_among fs sides) c.requires.system.by_name in
-    let Fails : List Side → List (RowName × Fraction) → Type 0 = λ above shares. leaf_fold lts c.args.c.setting.tree.now.arcs (cycle_of c.args.c.setting.basis.now) (row_expression lts class c.args.c.problem c.args.c.number above) (map share_of shares) (Err w) in
+    let Fails : List Side → List (RowName × Fraction) → Type 0 =
+    λ above shares. leaf_fold lts c.args.c.setting.tree.now.arcs (cycle_of c.args.c.setting.basis.now)
+    (row_expression lts class c.args.c.problem c.args.c.number above) (map share_of shares) (Err w) in
     inr (
       map share_of c.in_ok-shares.shares.items,
       shares_named c.args.c c.args.named.now c.requires.system sides (map weight_of c.args.weights.now)

@@ -22,7 +22,8 @@ use Rattle.rg_separate.proofs.Walking.{IsWalk, walk_start, walk_stands, walk_nex
 use Rattle.rg_separate.proofs.refuting.refutation_answer.Goals as goal
 
 pub loop-node-init : goal.loop-node-init
-loop-node-init c = walk_start c.args.c c.args.named.now (map node_of c.args.nodes.now) c.new-above.result.items (map reasons.node_of c.new-made.result.items) c.requires.tree c.new-above.ensures.items (ap (map reasons.node_of) c.new-made.ensures.items)
+loop-node-init c = walk_start c.args.c c.args.named.now (map node_of c.args.nodes.now) c.new-above.result.items
+    (map reasons.node_of c.new-made.result.items) c.requires.tree c.new-above.ensures.items (ap (map reasons.node_of) c.new-made.ensures.items)
 
 -- the node that is visited
 within : (nodes : List RawNode) (i : ℕ) → i < length nodes → i < length (map node_of nodes)
@@ -67,8 +68,11 @@ returns-in-Err-Wide-clause-tells c =
     ∙ ap (λ (fs : List NamedForm). sides_among (map split_of fs) c.deref-in-Err-Wide.result.now) c.forms.ensures
     ∙ ap (λ above. sides_among (map split_of named.forms) above) c.deref-in-Err-Wide.ensures.value
     ∙ ap (λ fs. sides_among fs sides) c.requires.system.by_name in
-    let fails = subst (λ above. LeafPasses c.args.c named above (node_of c.node-item.result) c.in-Err-Wide.wide) c.deref.ensures.value (c.in-Err-Wide.ensures.wide c.in-Err-Wide.wide (ap Err c.in-Err-Wide.field-0-is)) in
-    subst (λ (w : Shown). ShownWide lts class w) (sym (c.wide_case.ensures ∙ ap (λ (v : Wide). passed_at Spread c.args.c (map side_of c.in_ok-above-in-Err-Wide.above.items) v) c.in-Err-Wide.wide-is ∙ ap (λ (ss : List Side). passed_at Spread c.args.c ss c.in-Err-Wide.wide) by_name))
+    let fails = subst (λ above. LeafPasses c.args.c named above (node_of c.node-item.result) c.in-Err-Wide.wide) c.deref.ensures.value
+    (c.in-Err-Wide.ensures.wide c.in-Err-Wide.wide (ap Err c.in-Err-Wide.field-0-is)) in
+    subst (λ (w : Shown). ShownWide lts class w)
+    (sym (c.wide_case.ensures ∙ ap (λ (v : Wide). passed_at Spread c.args.c (map side_of c.in_ok-above-in-Err-Wide.above.items) v)
+    c.in-Err-Wide.wide-is ∙ ap (λ (ss : List Side). passed_at Spread c.args.c ss c.in-Err-Wide.wide) by_name))
     (leaf_shown c.args.c named (map node_of nodes) i sides (map reasons.node_of c.loop-node.made.items)
     (node_of c.node-item.result) c.in-Err-Wide.wide c.requires.case c.requires.system c.loop-node.invariant (within nodes i c.loop-node-test.true)
     (visited nodes i c.node-item.result c.loop-node-test.true c.node-item.is) fails)
@@ -85,7 +89,8 @@ returns-in-Err-Wide-clause-comes c =
     ∙ ap (λ (fs : List NamedForm). sides_among (map split_of fs) c.deref-in-Err-Wide.result.now) c.forms.ensures
     ∙ ap (λ above. sides_among (map split_of named.forms) above) c.deref-in-Err-Wide.ensures.value
     ∙ ap (λ fs. sides_among fs sides) c.requires.system.by_name in
-    let fails = subst (λ above. LeafPasses c.args.c named above (node_of c.node-item.result) c.in-Err-Wide.wide) c.deref.ensures.value (c.in-Err-Wide.ensures.wide c.in-Err-Wide.wide (ap Err c.in-Err-Wide.field-0-is)) in
+    let fails = subst (λ above. LeafPasses c.args.c named above (node_of c.node-item.result) c.in-Err-Wide.wide) c.deref.ensures.value
+    (c.in-Err-Wide.ensures.wide c.in-Err-Wide.wide (ap Err c.in-Err-Wide.field-0-is)) in
     subst (λ (w : Shown). CaseComes (shown_case c.args.c) (passes w))
     (sym (c.wide_case.ensures ∙ ap (λ (v : Wide). passed_at Spread c.args.c (map side_of c.in_ok-above-in-Err-Wide.above.items) v) c.in-Err-Wide.wide-is
     ∙ ap (λ (ss : List Side). passed_at Spread c.args.c ss c.in-Err-Wide.wide) by_name))
@@ -103,7 +108,8 @@ loop-node-preserved c =
     (node_of c.node-item.result) (reasons.node_of c.in-Ok.node) (within nodes i c.loop-node-test.true)
     (visited nodes i c.node-item.result c.loop-node-test.true c.node-item.is) is c.in-Ok.ensures.in_range in
     subst (λ above. IsWalk c.args.c named (map node_of nodes) (i + 1) above (map reasons.node_of c.push.new.self.items)) (sym c.in_ok-go_on.ensures)
-    (subst (λ made. IsWalk c.args.c named (map node_of nodes) (i + 1) (next_sides c.loop-node.above.items (node_of c.node-item.result)) made) (sym (ap (map reasons.node_of) c.in_ok-push-in-Ok.ensures.items ∙ map-append reasons.node_of c.loop-node.made.items (c.in-Ok.node ∷ []))) next)
+    (subst (λ made. IsWalk c.args.c named (map node_of nodes) (i + 1) (next_sides c.loop-node.above.items (node_of c.node-item.result)) made)
+    (sym (ap (map reasons.node_of) c.in_ok-push-in-Ok.ensures.items ∙ map-append reasons.node_of c.loop-node.made.items (c.in-Ok.node ∷ []))) next)
 
 pub returns-clause-tells : goal.returns-clause-tells
 returns-clause-tells c = walk_refutes c.args.c c.args.named.now (map node_of c.args.nodes.now) c.loop-node.node-index c.loop-node.above.items

@@ -34,7 +34,8 @@ separate_all-requires-clause-can o c = λ lives within. record {
 pub certify-requires-clause-refuted : goal.certify-requires-clause-refuted
 certify-requires-clause-refuted o c =
     let kept = c.separate_all.new.progress.kept.places.items in
-    ends_refuted c.args.setting c.requires.setting kept c.in-Unsolvable.refuted (subst (IsSeparationOutcome c.args.setting.lts.now (comes_of c.args.setting) kept) c.in-Unsolvable.is c.in_ok-outcome.ensures.comes)
+    ends_refuted c.args.setting c.requires.setting kept c.in-Unsolvable.refuted
+    (subst (IsSeparationOutcome c.args.setting.lts.now (comes_of c.args.setting) kept) c.in-Unsolvable.is c.in_ok-outcome.ensures.comes)
 
 pub show_again-requires-clause-wide : goal.show_again-requires-clause-wide
 show_again-requires-clause-wide o c =

@@ -27,4 +27,5 @@ pub returns-in-Err : goal.returns-in-Err
 returns-in-Err c = λ case shows.
     let range : mag c.args.multiplier < 170141183460469231731687303715884105728 = search rules in
     let value = subst (λ (z : ℤ). IsValue c.new.result z (pos 1)) (back c.args.multiplier (small c.args.multiplier c.requires.not_negative range)) c.new.ensures in
-    share_fails case c.args.above.now (sides_among (map split_of c.args.named.now.forms) c.args.above.now) c.args.row c.args.multiplier c.new.result c.row_of-name.result.1 value (c.row_of-name.ensures.factor case shows) c.in-Err.wide c.in-Err.ensures.product
+    share_fails case c.args.above.now (sides_among (map split_of c.args.named.now.forms) c.args.above.now) c.args.row c.args.multiplier c.new.result
+    c.row_of-name.result.1 value (c.row_of-name.ensures.factor case shows) c.in-Err.wide c.in-Err.ensures.product

@@ -18,7 +18,8 @@ none : Weight
 none = record { row = 0; multiplier = pos 0 }
 
 pub share-requires-clause-row : goal.share-requires-clause-row
-share-requires-clause-row c = weight_is (λ (w : Weight). w.row < length c.args.named.now.system.rows + length c.args.above.now) c.args.weights.now c.loop-row.row-index _ c.requires.rows c.loop-row-test.true
+share-requires-clause-row c = weight_is (λ (w : Weight). w.row < length c.args.named.now.system.rows + length c.args.above.now) c.args.weights.now
+    c.loop-row.row-index _ c.requires.rows c.loop-row-test.true
 
 pub share-requires-clause-not_negative : goal.share-requires-clause-not_negative
 share-requires-clause-not_negative c =
@@ -32,9 +33,11 @@ returns-in-Err-clause-comes c = λ case shows.
     let i = c.loop-row.row-index in
     let fold = share_fold case c.args.above.now (sides_among (map split_of c.args.named.now.forms) c.args.above.now) in
     let fits : FitsSigned w128 (get_or weights i (0, pos 0)).1 = search rules in
-    let one = subst (λ z. fold (record { row = (get_or weights i (0, pos 0)).0; multiplier = z }) (Err c.in-Err.wide)) (to_z-of_z w128 (get_or weights i (0, pos 0)).1 fits) (c.in-Err.ensures case shows) in
+    let one = subst (λ z. fold (record { row = (get_or weights i (0, pos 0)).0; multiplier = z }) (Err c.in-Err.wide))
+    (to_z-of_z w128 (get_or weights i (0, pos 0)).1 fits) (c.in-Err.ensures case shows) in
     let here = subst (λ (x : Weight). fold x (Err c.in-Err.wide)) (sym (get_or-map weight_of weights i (0, pos 0) none c.loop-row-test.true)) one in
-    item_fails fold (map weight_of weights) i none (map share_of c.loop-row.shares.items) (c.loop-row.invariant.so_far case shows) (let t = c.loop-row-test.true in let e = length-map weights weight_of in omega arith) c.in-Err.wide here
+    item_fails fold (map weight_of weights) i none (map share_of c.loop-row.shares.items) (c.loop-row.invariant.so_far case shows)
+    (let t = c.loop-row-test.true in let e = length-map weights weight_of in omega arith) c.in-Err.wide here
 
 pub loop-row-preserved : goal.loop-row-preserved
 loop-row-preserved c = record {
@@ -43,7 +46,8 @@ loop-row-preserved c = record {
       let i = c.loop-row.row-index in
       let fold = share_fold case c.args.above.now (sides_among (map split_of c.args.named.now.forms) c.args.above.now) in
       let fits : FitsSigned w128 (get_or weights i (0, pos 0)).1 = search rules in
-      let one = subst (λ z. fold (record { row = (get_or weights i (0, pos 0)).0; multiplier = z }) (Ok (share_of c.in-Ok.share))) (to_z-of_z w128 (get_or weights i (0, pos 0)).1 fits) (c.in-Ok.ensures case shows) in
+      let one = subst (λ z. fold (record { row = (get_or weights i (0, pos 0)).0; multiplier = z }) (Ok (share_of c.in-Ok.share)))
+      (to_z-of_z w128 (get_or weights i (0, pos 0)).1 fits) (c.in-Ok.ensures case shows) in
       let here = subst (λ (x : Weight). fold x (Ok (share_of c.in-Ok.share))) (sym (get_or-map weight_of weights i (0, pos 0) none c.loop-row-test.true)) one in
       rw (map_push share_of c.loop-row.shares.items c.push.new.self.items c.in-Ok.share c.in_ok-push-in-Ok.ensures.items)
       (item_next fold (map weight_of weights) i none (map share_of c.loop-row.shares.items) (c.loop-row.invariant.so_far case shows)

@@ -13,9 +13,11 @@ returns-in-Ok c =
     let at = found_at arcs c.args.arc.now c.in-Ok.index c.in-Ok.ensures.bound c.in-Ok.ensures.position in
     let lt = slice_get_within arcs c.in-Ok.index c.args.arc.now at in
     let each = c.requires.each in
-    ap (slice_set sums c.in-Ok.index) (sum_read (number_at sums c.in-Ok.index) c.args.multiplier (c.requires.in_range c.in-Ok.index (pos 0) (omega arith)) c.ranges.multiplier (c.requires.fits c.in-Ok.index at))
+    ap (slice_set sums c.in-Ok.index) (sum_read (number_at sums c.in-Ok.index) c.args.multiplier
+    (c.requires.in_range c.in-Ok.index (pos 0) (omega arith)) c.ranges.multiplier (c.requires.fits c.in-Ok.index at))
     ∙ set_added c.args.arc.now c.args.multiplier arcs sums c.in-Ok.index (ordered_from arcs c.requires.order) each at
 
 pub returns-in_default : goal.returns-in_default
 returns-in_default c =
-    sym (added_none c.args.arc.now c.args.multiplier c.args.arcs.now c.args.sums.now c.requires.each (not_there c.args.arcs.now c.args.arc.now c.in_default.field-0 c.requires.order c.in_default.ensures.position))
+    sym (added_none c.args.arc.now c.args.multiplier c.args.arcs.now c.args.sums.now c.requires.each
+    (not_there c.args.arcs.now c.args.arc.now c.in_default.field-0 c.requires.order c.in_default.ensures.position))

@@ -23,9 +23,11 @@ loop-i-preserved c =
     elim c.if-sums-i-ne0.branch [
       | then-sums-i-ne0 w ↦
           subst (IsLeastBelow arcs sums (i + 1)) (sym w.least-is)
-          (least_more arcs sums i w.lesser.result c.loop-i.least (get_or arcs i nowhere) at (not_zero (number_at sums i) w.if-sums-i-ne0.true) w.lesser.ensures.some w.lesser.ensures.none c.loop-i.invariant)
+          (least_more arcs sums i w.lesser.result c.loop-i.least (get_or arcs i nowhere) at
+          (not_zero (number_at sums i) w.if-sums-i-ne0.true) w.lesser.ensures.some w.lesser.ensures.none c.loop-i.invariant)
       | else-sums-i-ne0 w ↦
-          subst (IsLeastBelow arcs sums (i + 1)) (sym w.least-is) (least_same arcs sums i c.loop-i.least (get_or arcs i nowhere) at (zero_bits (number_at sums i) in_range w.if-sums-i-ne0.false) c.loop-i.invariant)
+          subst (IsLeastBelow arcs sums (i + 1)) (sym w.least-is)
+          (least_same arcs sums i c.loop-i.least (get_or arcs i nowhere) at (zero_bits (number_at sums i) in_range w.if-sums-i-ne0.false) c.loop-i.invariant)
     ]
 
 pub returns : goal.returns

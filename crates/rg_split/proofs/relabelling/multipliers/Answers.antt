@@ -40,7 +40,8 @@ loop-name-preserved c =
     elim c.match-name.branch [
       | in-Arc w ↦
           arc_row_added c.args.arcs.now rows i no_row w.in-Arc.arc m c.loop-name.sums.items c.match-name.sums.items c.loop-name-test.true (λ j. (w.in-Arc.is j, m)) c.loop-name.invariant
-          (ap (λ v. v.items) w.sums-is ∙ with_items_is c.loop-name.sums w.add.new.sums (w.add.auto.sums ∙ w.deref_mut.ensures.len) ∙ w.add.ensures ∙ ap (λ z. added w.in-Arc.arc z c.args.arcs.now w.deref_mut.result.now) read ∙ ap (added w.in-Arc.arc m c.args.arcs.now) w.deref_mut.ensures.value)
+          (ap (λ v. v.items) w.sums-is ∙ with_items_is c.loop-name.sums w.add.new.sums (w.add.auto.sums ∙ w.deref_mut.ensures.len) ∙ w.add.ensures
+          ∙ ap (λ z. added w.in-Arc.arc z c.args.arcs.now w.deref_mut.result.now) read ∙ ap (added w.in-Arc.arc m c.args.arcs.now) w.deref_mut.ensures.value)
       | in_default w ↦
           subst (λ v. v ≡ map (arc_multiplier (map named_row (take (i + 1) rows))) c.args.arcs.now) (sym (ap (λ v. v.items) w.sums-is))
           (other_row_passed c.args.arcs.now rows i no_row c.loop-name.sums.items c.loop-name-test.true w.in_default.not-Arc c.loop-name.invariant)

@@ -20,12 +20,14 @@ abbrev Labels : System → Reason → Relabelling → Type 0
 Labels lts reason p = p.labels.items ≡ map (λ a. (relabelled (reason_of reason) p.label (labels lts) a).label) lts.arcs
 
 -- what the first case splits, the reason splits
-splits_of : (lts : System) (reason : Reason) (p : Problem) (first : Tree) (more : List Tree) (r : Result Relabelling NoMemory) → reason_of reason ≡ of_trees p (first ∷ more) → IfOk r (λ x. IsPartOfTree lts first x.label x.labels.items)
+splits_of : (lts : System) (reason : Reason) (p : Problem) (first : Tree) (more : List Tree) (r : Result Relabelling NoMemory)
+    → reason_of reason ≡ of_trees p (first ∷ more) → IfOk r (λ x. IsPartOfTree lts first x.label x.labels.items)
     → IfOk r (λ x. SplitsLabel lts (reason_of reason) x.label)
 splits_of lts reason p first more (Ok x) is relabelling = subst (λ s. SplitsLabel lts s x.label) (sym is) (leaf_splits lts p first more x.label x.labels.items relabelling).0
 splits_of lts reason p first more (Err e) is relabelling = tt
 
-labels_of : (lts : System) (reason : Reason) (p : Problem) (first : Tree) (more : List Tree) (r : Result Relabelling NoMemory) → reason_of reason ≡ of_trees p (first ∷ more) → IfOk r (λ x. IsPartOfTree lts first x.label x.labels.items)
+labels_of : (lts : System) (reason : Reason) (p : Problem) (first : Tree) (more : List Tree) (r : Result Relabelling NoMemory)
+    → reason_of reason ≡ of_trees p (first ∷ more) → IfOk r (λ x. IsPartOfTree lts first x.label x.labels.items)
     → IfOk r (Labels lts reason)
 labels_of lts reason p first more (Ok x) is relabelling =
     subst (λ s. x.labels.items ≡ map (λ a. (relabelled s x.label (labels lts) a).label) lts.arcs) (sym is) (leaf_splits lts p first more x.label x.labels.items relabelling).1
@@ -64,7 +66,8 @@ case_relabelling-requires-in-States-clause-refutes c =
 
 pub returns-in-Event-clause-labels : goal.returns-in-Event-clause-labels
 returns-in-Event-clause-labels c =
-    labels_of c.args.of.now c.args.reason.now (problem.Event c.in-Event.field-0 c.in-Event.field-1) (case_tree c.in-Event.case) [] c.case_relabelling.result (ap reason_of c.in-Event.is) c.case_relabelling.ensures
+    labels_of c.args.of.now c.args.reason.now (problem.Event c.in-Event.field-0 c.in-Event.field-1)
+    (case_tree c.in-Event.case) [] c.case_relabelling.result (ap reason_of c.in-Event.is) c.case_relabelling.ensures
 
 pub returns-in-States-clause-splits : goal.returns-in-States-clause-splits
 returns-in-States-clause-splits c =
@@ -73,7 +76,8 @@ returns-in-States-clause-splits c =
     let some = some_tree c.args.of.now p (map case_tree c.in-States.cases.items) c.is_well_formed.ensures out in
     let n = length-map c.in-States.cases.items case_tree in
     let first = first_case c.in-States.cases.items c.index.result.now (omega arith) c.index.ensures in
-    splits_of c.args.of.now c.args.reason.now p (case_tree c.index.result.now) first.0 c.case_relabelling-in-States.result (ap reason_of c.in-States.is ∙ ap (of_trees p) first.1) c.case_relabelling-in-States.ensures
+    splits_of c.args.of.now c.args.reason.now p (case_tree c.index.result.now) first.0 c.case_relabelling-in-States.result
+    (ap reason_of c.in-States.is ∙ ap (of_trees p) first.1) c.case_relabelling-in-States.ensures
 
 pub returns-in-States-clause-labels : goal.returns-in-States-clause-labels
 returns-in-States-clause-labels c =
@@ -82,4 +86,5 @@ returns-in-States-clause-labels c =
     let some = some_tree c.args.of.now p (map case_tree c.in-States.cases.items) c.is_well_formed.ensures out in
     let n = length-map c.in-States.cases.items case_tree in
     let first = first_case c.in-States.cases.items c.index.result.now (omega arith) c.index.ensures in
-    labels_of c.args.of.now c.args.reason.now p (case_tree c.index.result.now) first.0 c.case_relabelling-in-States.result (ap reason_of c.in-States.is ∙ ap (of_trees p) first.1) c.case_relabelling-in-States.ensures
+    labels_of c.args.of.now c.args.reason.now p (case_tree c.index.result.now) first.0 c.case_relabelling-in-States.result
+    (ap reason_of c.in-States.is ∙ ap (of_trees p) first.1) c.case_relabelling-in-States.ensures

@@ -5,4 +5,5 @@ pub flaw_certificate-certificate-requires-clause-bound : goal.flaw_certificate-c
 flaw_certificate-certificate-requires-clause-bound g c = no_numbers
 
 pub returns-in-Some-clause-refused : goal.returns-in-Some-clause-refused
-returns-in-Some-clause-refused g c = flaw_refusal c.args.lts.now c.flaw_certificate-certificate.result _ c.flaw_certificate-certificate.ensures.out c.flaw_certificate-certificate.ensures.right c.new-places.ensures.items
+returns-in-Some-clause-refused g c = flaw_refusal c.args.lts.now c.flaw_certificate-certificate.result _ c.flaw_certificate-certificate.ensures.out
+    c.flaw_certificate-certificate.ensures.right c.new-places.ensures.items

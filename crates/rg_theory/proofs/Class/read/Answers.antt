@@ -29,7 +29,8 @@ pub returns-in_err-take-clause-fault : goal.returns-in_err-take-clause-fault
 returns-in_err-take-clause-fault c =
     let p = err_from_is_err_and c.from_residual.result c.from_residual.ensures.1 in
     let kept = c.loop-word.invariant.2 in
-    let next = next_is (split_steps FindsChar (λ a b. b ≡ a)) (λ x. x.now) c.loop-word.word-iterator c.next.new.self c.in-Some.word kept.0 kept.1 (subst (λ r. split_steps FindsChar (λ a b. b ≡ a) c.loop-word.word-iterator r c.next.new.self) c.in-Some.is c.next.ensures.steps) in
+    let next = next_is (split_steps FindsChar (λ a b. b ≡ a)) (λ x. x.now) c.loop-word.word-iterator c.next.new.self c.in-Some.word kept.0 kept.1
+    (subst (λ r. split_steps FindsChar (λ a b. b ≡ a) c.loop-word.word-iterator r c.next.new.self) c.in-Some.is c.next.ensures.steps) in
     rw (p.1, p.2)
     (reads_refused c.args.text.now c.loop-word.class c.loop-word.number c.in-Some.word.now next.0 _ (is_other c.args.text.now c.if-eq.ensures)
     c.in_err-take.ensures.fault (subst (ReadsTo c.args.text.now c.loop-word.class c.loop-word.number) next.1 kept.2))
@@ -37,7 +38,8 @@ returns-in_err-take-clause-fault c =
 pub loop-word-preserved : goal.loop-word-preserved
 loop-word-preserved c =
     let kept = c.loop-word.invariant.2 in
-    let next = next_is (split_steps FindsChar (λ a b. b ≡ a)) (λ x. x.now) c.loop-word.word-iterator c.next.new.self c.in-Some.word kept.0 kept.1 (subst (λ r. split_steps FindsChar (λ a b. b ≡ a) c.loop-word.word-iterator r c.next.new.self) c.in-Some.is c.next.ensures.steps) in
+    let next = next_is (split_steps FindsChar (λ a b. b ≡ a)) (λ x. x.now) c.loop-word.word-iterator c.next.new.self c.in-Some.word kept.0 kept.1
+    (subst (λ r. split_steps FindsChar (λ a b. b ≡ a) c.loop-word.word-iterator r c.next.new.self) c.in-Some.is c.next.ensures.steps) in
     let told = c.in_ok-take.ensures.ok in (
       tt,
       tt,

@@ -17,7 +17,8 @@ pub loop-node-init : goal.loop-node-init
 loop-node-init c = record {
   items = c.deref-content-items.ensures.value;
   clear = c.requires.clear;
-  at_node = subst (λ (sides : List Side). IsAtNode c.args.lts.now c.args.problem_case.class c.args.problem_case.problem c.args.problem_case.number (case_tree c.args.case.now) (nodes_of c.args.case.now) 0 sides) (sym c.new-above.ensures.items)
+  at_node = subst (λ (sides : List Side). IsAtNode c.args.lts.now c.args.problem_case.class c.args.problem_case.problem c.args.problem_case.number
+      (case_tree c.args.case.now) (nodes_of c.args.case.now) 0 sides) (sym c.new-above.ensures.items)
       (at_first c.args.lts.now c.args.problem_case.class c.args.problem_case.problem c.args.problem_case.number (case_tree c.args.case.now) (nodes_of c.args.case.now) c.requires.whole);
 }
 
@@ -37,7 +38,8 @@ returns-in-Some-clause-judged c =
     let is = ap node_of c.in-Leaf.is ∙ ap (λ rows. leaf_node (map named_row rows)) (sym c.deref-in-Leaf.ensures.value) in
     let rest = drop_image node_of c.args.case.now.nodes.items c.loop-node.node c.content-item.result lt at ∙ ap (λ (n : TreeNode). n ∷ drop (c.loop-node.node + 1) (nodes_of c.args.case.now)) is in
     let judged = rw (c.in-Some.is, c.deref.ensures.value) at c.in_ok-defect-in-Leaf.ensures.judged in
-    found_at c.args.lts.now c.args.problem_case.class c.args.problem_case.problem c.args.problem_case.number (case_tree c.args.case.now) (nodes_of c.args.case.now) c.loop-node.node c.loop-node.above.items c.loop-node.invariant.at_node
+    found_at c.args.lts.now c.args.problem_case.class c.args.problem_case.problem c.args.problem_case.number (case_tree c.args.case.now)
+    (nodes_of c.args.case.now) c.loop-node.node c.loop-node.above.items c.loop-node.invariant.at_node
     (map named_row c.deref-in-Leaf.result.now) c.in-Some.defect rest judged
 
 pub returns-then-not-stands-clause-judged : goal.returns-then-not-stands-clause-judged
@@ -47,7 +49,8 @@ returns-then-not-stands-clause-judged c =
     let at = c.content-item.is ∙ ap (λ (xs : List Node). get_or xs c.loop-node.node c.content-item.result) items in
     let is = ap node_of c.in-Split.is in
     let rest = drop_image node_of c.args.case.now.nodes.items c.loop-node.node c.content-item.result lt at ∙ ap (λ (n : TreeNode). n ∷ drop (c.loop-node.node + 1) (nodes_of c.args.case.now)) is in
-    found_split c.args.lts.now c.args.problem_case.class c.args.problem_case.problem c.args.problem_case.number (case_tree c.args.case.now) (nodes_of c.args.case.now) c.loop-node.node c.loop-node.above.items c.loop-node.invariant.at_node
+    found_split c.args.lts.now c.args.problem_case.class c.args.problem_case.problem c.args.problem_case.number (case_tree c.args.case.now)
+    (nodes_of c.args.case.now) c.loop-node.node c.loop-node.above.items c.loop-node.invariant.at_node
     c.in-Split.form c.in-Split.at rest (λ stands. (let e = c.stands.ensures.1 stands in let f = c.if-not-stands.true in cc))
 
 pub loop-node-preserved : goal.loop-node-preserved
@@ -57,7 +60,8 @@ loop-node-preserved c =
     let at = c.content-item.is ∙ ap (λ (xs : List Node). get_or xs c.loop-node.node c.content-item.result) items in
     let rest = drop_image node_of c.args.case.now.nodes.items c.loop-node.node c.content-item.result lt at in
     let good = node_in_range c.args.lts.now c.args.case.now c.loop-node.node c.content-item.result c.requires.whole c.requires.in_range lt at in
-    let at_next = λ (sides : List Side). IsAtNode c.args.lts.now c.args.problem_case.class c.args.problem_case.problem c.args.problem_case.number (case_tree c.args.case.now) (nodes_of c.args.case.now) (c.loop-node.node + 1) sides in
+    let at_next = λ (sides : List Side). IsAtNode c.args.lts.now c.args.problem_case.class c.args.problem_case.problem c.args.problem_case.number
+    (case_tree c.args.case.now) (nodes_of c.args.case.now) (c.loop-node.node + 1) sides in
     elim c.match-content.branch [
       | in-Split+else-not-stands+in_ok-push-in-Split w ↦
           let is = ap node_of w.in-Split.is in
@@ -68,8 +72,10 @@ loop-node-preserved c =
           rw (w.sums-is, w.above-is) (record {
             items = items;
             clear = c.loop-node.invariant.clear;
-            at_node = subst at_next (sym sides) (after_split c.args.lts.now c.args.problem_case.class c.args.problem_case.problem c.args.problem_case.number (case_tree c.args.case.now) (nodes_of c.args.case.now) c.loop-node.node c.loop-node.above.items
-                c.loop-node.invariant.at_node w.in-Split.form w.in-Split.at (rest ∙ ap (λ (n : TreeNode). n ∷ drop (c.loop-node.node + 1) (nodes_of c.args.case.now)) is) range (w.stands.ensures.0 w.if-not-stands.false));
+            at_node = subst at_next (sym sides) (after_split c.args.lts.now c.args.problem_case.class c.args.problem_case.problem
+                c.args.problem_case.number (case_tree c.args.case.now) (nodes_of c.args.case.now) c.loop-node.node c.loop-node.above.items
+                c.loop-node.invariant.at_node w.in-Split.form w.in-Split.at
+                (rest ∙ ap (λ (n : TreeNode). n ∷ drop (c.loop-node.node + 1) (nodes_of c.args.case.now)) is) range (w.stands.ensures.0 w.if-not-stands.false));
           })
       | in-Leaf+in_ok-defect-in-Leaf+in_default w ↦
           let is = ap node_of w.in-Leaf.is ∙ ap (λ rows. leaf_node (map named_row rows)) (sym w.deref-in-Leaf.ensures.value) in
@@ -77,7 +83,9 @@ loop-node-preserved c =
           rw (w.sums-is, w.above-is) (record {
             items = items;
             clear = w.in_ok-defect-in-Leaf.ensures.clear;
-            at_node = subst at_next (sym w.turn.ensures) (after_leaf c.args.lts.now c.args.problem_case.class c.args.problem_case.problem c.args.problem_case.number (case_tree c.args.case.now) (nodes_of c.args.case.now) c.loop-node.node c.loop-node.above.items
+            at_node = subst at_next (sym w.turn.ensures)
+                (after_leaf c.args.lts.now c.args.problem_case.class c.args.problem_case.problem c.args.problem_case.number
+                (case_tree c.args.case.now) (nodes_of c.args.case.now) c.loop-node.node c.loop-node.above.items
                 c.loop-node.invariant.at_node (map named_row w.deref-in-Leaf.result.now) (rest ∙ ap (λ (n : TreeNode). n ∷ drop (c.loop-node.node + 1) (nodes_of c.args.case.now)) is) refutes);
           })
     ]
@@ -85,5 +93,6 @@ loop-node-preserved c =
 pub returns-clause-judged : goal.returns-clause-judged
 returns-clause-judged c =
     let past = subst (λ (xs : List Node). length xs ≤ c.loop-node.node) c.loop-node.invariant.items c.loop-node-test.false in
-    at_last c.args.lts.now c.args.problem_case.class c.args.problem_case.problem c.args.problem_case.number (case_tree c.args.case.now) (nodes_of c.args.case.now) c.loop-node.node c.loop-node.above.items c.loop-node.invariant.at_node
+    at_last c.args.lts.now c.args.problem_case.class c.args.problem_case.problem c.args.problem_case.number (case_tree c.args.case.now)
+    (nodes_of c.args.case.now) c.loop-node.node c.loop-node.above.items c.loop-node.invariant.at_node
     (drop_of_length-le (nodes_of c.args.case.now) (rw length-map past))

@@ -23,13 +23,18 @@ case_defect-requires-clause-in_range c =
 pub returns-in-Some : goal.returns-in-Some
 returns-in-Some c =
     let judged = rw c.in-Some.is at c.in_ok-found.ensures.judged in
-    rw c.refusal_of-in-Some.ensures (defect_states c.args.lts.now c.args.class (States c.args.s c.args.other) case_tree c.args.cases.now c.loop-number.number c.index-cases-number.result c.in-Some.found.node c.in-Some.found.defect
-    (c.requires.state, c.requires.other, c.if-s-other.false) ((c.has_all_cases.ensures.exact c.args.s c.args.other).0 c.if-not-has_all_cases.false) c.loop-number-test.true c.index-cases-number.is c.loop-number.invariant.before judged)
+    rw c.refusal_of-in-Some.ensures (defect_states c.args.lts.now c.args.class
+    (States c.args.s c.args.other) case_tree c.args.cases.now c.loop-number.number c.index-cases-number.result c.in-Some.found.node c.in-Some.found.defect
+    (c.requires.state, c.requires.other, c.if-s-other.false)
+    ((c.has_all_cases.ensures.exact c.args.s c.args.other).0 c.if-not-has_all_cases.false) c.loop-number-test.true c.index-cases-number.is
+    c.loop-number.invariant.before judged)
 
 pub loop-number-preserved : goal.loop-number-preserved
 loop-number-preserved c = record {
   clear = c.in_ok-found.ensures.clear;
-  before = more_refute c.args.lts.now c.args.class (States c.args.s c.args.other) case_tree c.args.cases.now c.loop-number.number c.index-cases-number.result c.loop-number-test.true c.index-cases-number.is c.loop-number.invariant.before
+  before = more_refute c.args.lts.now c.args.class
+      (States c.args.s c.args.other) case_tree c.args.cases.now c.loop-number.number c.index-cases-number.result c.loop-number-test.true
+      c.index-cases-number.is c.loop-number.invariant.before
       (rw c.in_default.is at c.in_ok-found.ensures.judged);
 }
 

@@ -39,7 +39,9 @@ loop-name-preserved c =
     let told = rw k at c.is_multiplier.ensures in
     let P = IsRightRow (StandsIn c.args.lts.now c.args.problem_case c.args.above.now) in
     subst (All P) (sym (map_more named_row c.args.rows.now c.loop-name.name-index no_row c.loop-name-test.true))
-    (All-push P (map named_row (take c.loop-name.name-index c.args.rows.now)) (named_row (get_or c.args.rows.now c.loop-name.name-index no_row)) c.loop-name.invariant (c.stands.ensures.0 c.if-not-stands.false, told.0 c.if-not-is_multiplier.false))
+    (All-push P (map named_row (take c.loop-name.name-index c.args.rows.now))
+    (named_row (get_or c.args.rows.now c.loop-name.name-index no_row)) c.loop-name.invariant
+    (c.stands.ensures.0 c.if-not-stands.false, told.0 c.if-not-is_multiplier.false))
 
 pub returns : goal.returns
 returns c =

@@ -37,4 +37,5 @@ pub returns-in-Ok-arc_between-clause-ok : goal.returns-in-Ok-arc_between-clause-
 returns-in-Ok-arc_between-clause-ok c =
     let d = c.requires.draft in
     let states : c.args.builder.now.state_names ≡ state_names c.args.to = d.1.states ∙ ap state_names d.2 in
-    grown_is c.args.builder.now c.state.new.self c.arc_between.new.self _ c.as_str.result.now states (c.as_str.ensures.value ∙ c.in_ok-name.ensures) c.in-Ok.ensures.added c.in-Ok-arc_between.ensures.ok
+    grown_is c.args.builder.now c.state.new.self c.arc_between.new.self _ c.as_str.result.now states
+    (c.as_str.ensures.value ∙ c.in_ok-name.ensures) c.in-Ok.ensures.added c.in-Ok-arc_between.ensures.ok

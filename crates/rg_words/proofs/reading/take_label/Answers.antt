@@ -25,8 +25,12 @@ grow-requires-clause-label c = slice_get_within c.label_at.new.builder.label_nam
 
 pub grow-requires-clause-draft : goal.grow-requires-clause-draft
 grow-requires-clause-draft c =
-    let new = c.in_ok-index.ensures.new (λ (no : c.in_ok-index.new ≡ false). cc) in
-    (c.args.tree.now.steps.keys, draft_same c.args.tree.now.builder c.label_at.new.builder c.args.tree.now.steps.keys c.as_name-name.result.now c.requires.draft c.in_ok-t.ensures.added c.in_ok-t.ensures.few, ap (λ n. n + 1) (sym new.0))
+    let new = c.in_ok-index.ensures.new (λ (no : c.in_ok-index.new ≡ false). cc) in (
+      c.args.tree.now.steps.keys,
+      draft_same c.args.tree.now.builder c.label_at.new.builder c.args.tree.now.steps.keys c.as_name-name.result.now
+          c.requires.draft c.in_ok-t.ensures.added c.in_ok-t.ensures.few,
+      ap (λ n. n + 1) (sym new.0),
+    )
 
 pub returns-in_ok-grow-clause-draft : goal.returns-in_ok-grow-clause-draft
 returns-in_ok-grow-clause-draft c =

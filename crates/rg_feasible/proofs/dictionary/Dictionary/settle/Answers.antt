@@ -16,8 +16,11 @@ pub returns-in_default : goal.returns-in_default
 returns-in_default c = record {
   outcome = λ system whole. c.descend-settled.ensures.outcome system (subst (IsDictionaryOf system) (sym c.self.view_is) whole);
   free = λ system whole. c.descend-settled.ensures.free system (subst (IsDictionaryOf system) (sym c.self.view_is) whole);
-  left = λ system whole. left_by system _ c.descend-settled.result c.in_default.not-Refuted (λ narrow. c.descend-settled.ensures.stays narrow system (subst (IsDictionaryOf system) (sym c.self.view_is) whole));
-  point = λ e system whole. (let old = subst (IsDictionaryOf system) (sym c.self.view_is) whole in point_by system c.descend-settled.new.table c.descend-settled.result e (λ narrow. c.descend-settled.ensures.stays narrow system old) (c.descend-settled.ensures.outcome system old));
+  left = λ system whole. left_by system _ c.descend-settled.result c.in_default.not-Refuted
+      (λ narrow. c.descend-settled.ensures.stays narrow system (subst (IsDictionaryOf system) (sym c.self.view_is) whole));
+  point = λ e system whole. (let old = subst (IsDictionaryOf system) (sym c.self.view_is) whole in
+      point_by system c.descend-settled.new.table c.descend-settled.result e (λ narrow. c.descend-settled.ensures.stays narrow system old)
+      (c.descend-settled.ensures.outcome system old));
   refutes = λ i e. absurd (c.in_default.not-Refuted i e);
   shape = search rules;
   narrow = λ system whole small. narrow_by system _ c.descend-settled.result small (c.descend-settled.ensures.outcome system (subst (IsDictionaryOf system) (sym c.self.view_is) whole));

@@ -42,7 +42,13 @@ invariant_of-self-2 c =
     let written = with_items_is c.self.inside.pivot_row c.exchange_table.new.pivot_row (c.exchange_table.auto.pivot_row ∙ c.deref_mut-2.ensures.len) in
     stored_exchanged
     (record { columns = c.self.inside.columns; rows = c.self.inside.rows; room = c.self.inside.room; members = c.self.inside.members.items; table = c.self.inside.table.items })
-    (record { columns = c.self.inside.columns; rows = c.self.inside.rows; room = c.self.inside.room; members = c.exchange_members.new.members.items; table = (with_items c.self.inside.table c.exchange_table.new.table).items })
+    (record {
+      columns = c.self.inside.columns;
+      rows = c.self.inside.rows;
+      room = c.self.inside.room;
+      members = c.exchange_members.new.members.items;
+      table = (with_items c.self.inside.table c.exchange_table.new.table).items;
+    })
     c.self.inside.table.cap c.args.pivot c.args.index c.new_index-to.result _ _ c.self.inside.pivot_row.items _ c.self.invariant refl refl refl c.exchange_members.ensures is out.0 out.1 lt bound
     (ap length table ∙ size) (subst RowInRange (sym table) c.exchange_table.ensures.in_range) (ap length written ∙ width) c.exchange_table.ensures.room
 
@@ -60,7 +66,8 @@ returns-clause-exact c = λ system d.
     let table = with_items_is c.self.inside.table c.exchange_table.new.table (c.exchange_table.auto.table ∙ c.deref_mut.ensures.len) in
     let width : length c.self.inside.members.items + 2 ≡ system.columns + 2 = ap (λ n. n + 2) old.free.count in
     let two : c.args.index + 2 ≡ suc (suc c.args.index) = omega arith in
-    let free = free_after system c.self.inside.members.items c.args.pivot c.args.index (length c.self.inside.members.items + 2) (c.args.index + 2) (c.self.inside.columns + c.self.inside.rows) c.self.inside.table.items []
+    let free = free_after system c.self.inside.members.items c.args.pivot c.args.index (length c.self.inside.members.items + 2) (c.args.index + 2)
+    (c.self.inside.columns + c.self.inside.rows) c.self.inside.table.items []
     old.free old.table (ap₂ ◌+◌ (sym old.columns) (sym old.rows)) width two out.0 out.1 lt there in (
       subst (λ (v : Contents). AllFit system v.members c.args.pivot (slice_index v.members c.args.index)) c.self.view_is r.0,
       record {

@@ -23,7 +23,8 @@ of_view c = subst (λ (v : Contents). v.columns + c.args.rows < 2 ^ 32) (sym c.s
 -- the table has the numbers of the columns, which nothing reads
 table_fits : (c : goal.After-self-3-1) → (length c.truncate.new.self.items ≡ c.self.inside.columns * (c.self.inside.columns + 2)) × RowInRange c.truncate.new.self.items
 table_fits c =
-    let items = c.truncate.ensures.items ∙ ap (λ w. take (c.self.inside.columns * w) c.make_room.new.table.items) (width_is c) ∙ ap (take (c.self.inside.columns * (c.self.inside.columns + 2))) c.make_room.ensures.items in
+    let items = c.truncate.ensures.items ∙ ap (λ w. take (c.self.inside.columns * w) c.make_room.new.table.items) (width_is c)
+    ∙ ap (take (c.self.inside.columns * (c.self.inside.columns + 2))) c.make_room.ensures.items in
     subst (λ xs. (length xs ≡ c.self.inside.columns * (c.self.inside.columns + 2)) × RowInRange xs) (sym items)
     (first_fit c.self.inside.table.items (c.self.inside.columns * (c.self.inside.columns + 2))
     (columns_first c.self.inside.columns c.self.inside.rows _ c.self.invariant.size) c.self.invariant.in_range)
@@ -35,9 +36,18 @@ invariant_of-self-2 c =
     let space : (c.self.inside.columns + c.max-room.result) * (c.self.inside.columns + 2) ≤ vec_capacity c.truncate.new.self = subst
     (λ n. (c.self.inside.columns + c.max-room.result) * n ≤ vec_capacity c.truncate.new.self) (width_is c)
     (let r = (c.in_ok-make_room.ensures {u = tt}).room in let e = c.truncate.ensures.capacity in omega arith) in
-    stored_fresh c.self.inside.columns c.max-room.result (vec_capacity c.truncate.new.self) (vec_capacity c.self.inside.named_indices) _ c.truncate.new.self.items c.self.inside.pivot_row.items few (members_are c) fits.0 fits.1 space c.self.invariant.width c.self.invariant.indices
+    stored_fresh c.self.inside.columns c.max-room.result (vec_capacity c.truncate.new.self)
+    (vec_capacity c.self.inside.named_indices) _ c.truncate.new.self.items c.self.inside.pivot_row.items few
+    (members_are c) fits.0 fits.1 space c.self.invariant.width c.self.invariant.indices
 
 pub returns-clause-system : goal.returns-clause-system
 returns-clause-system c =
     let d = dictionary_fresh c.self.inside.columns c.max-room.result (with_items c.self.inside.members c.number_columns.new.members).items c.truncate.new.self.items (members_are c) (table_fits c).0 in
-    subst (λ (v : Contents). IsDictionary (columns_alone v.columns) (record { columns = c.self.inside.columns; rows = 0; room = c.max-room.result; members = (with_items c.self.inside.members c.number_columns.new.members).items; table = c.truncate.new.self.items })) c.self.view_is d
+    subst (λ (v : Contents). IsDictionary (columns_alone v.columns)
+    (record {
+      columns = c.self.inside.columns;
+      rows = 0;
+      room = c.max-room.result;
+      members = (with_items c.self.inside.members c.number_columns.new.members).items;
+      table = c.truncate.new.self.items;
+    })) c.self.view_is d

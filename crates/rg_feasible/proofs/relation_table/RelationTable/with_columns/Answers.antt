@@ -9,7 +9,8 @@ table_fits : (c : goal.In_ok-named_indices) → (length c.resize.new.self.items 
 table_fits c =
     let none = c.make_room.ensures.items ∙ c.new-table.ensures.items in
     zeros_fit (c.args.columns * (c.args.columns + 2)) c.resize.new.self.items
-    (filled c.make_room.new.table.items c.resize.new.self.items (c.args.columns * (c.args.columns + 2)) (vec_len c.make_room.new.table) none (c.make_room.new.table.ok.0 ∙ ap length none) (c.in_ok-resize.ensures {u = tt}).items)
+    (filled c.make_room.new.table.items c.resize.new.self.items (c.args.columns * (c.args.columns + 2)) (vec_len c.make_room.new.table) none
+    (c.make_room.new.table.ok.0 ∙ ap length none) (c.in_ok-resize.ensures {u = tt}).items)
 
 pub invariant_of-result : goal.invariant_of-result
 invariant_of-result c =
@@ -19,7 +20,8 @@ invariant_of-result c =
     let space : (c.args.columns + c.args.rows) * (c.args.columns + 2) ≤ vec_capacity c.resize.new.self = omega arith in
     let indices = (c.in_ok-named_indices.ensures {u = tt}).capacity in
     let width : length c.in_ok-pivot_row.pivot_row.items ≡ c.args.columns + 2 = search (rules, (c.in_ok-pivot_row.ensures {u = tt}).len) in
-    stored_fresh c.args.columns c.args.rows (vec_capacity c.resize.new.self) (vec_capacity c.in_ok-named_indices.named_indices) c.in_ok-members.members.items c.resize.new.self.items c.in_ok-pivot_row.pivot_row.items
+    stored_fresh c.args.columns c.args.rows (vec_capacity c.resize.new.self)
+    (vec_capacity c.in_ok-named_indices.named_indices) c.in_ok-members.members.items c.resize.new.self.items c.in_ok-pivot_row.pivot_row.items
     c.requires (c.in_ok-members.ensures {u = tt}) fits.0 fits.1 space width (omega arith)
 
 pub returns-clause-system : goal.returns-clause-system

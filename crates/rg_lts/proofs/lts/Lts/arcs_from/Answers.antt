@@ -21,7 +21,8 @@ slice_bounds-result-start c = (state_run (goal.at.slice_bounds-result-start c).A
 
 pub returns-clause-members : goal.returns-clause-members
 returns-clause-members c =
-    subst (λ (arcs : List Arc). (a : Arc) → Contains (part c.arcs-arcs.result.now c.first_index-start.result c.first_index-end.result) a ↔ (Contains arcs a × (a.from ≡ c.args.s))) c.arcs-arcs.ensures.value
+    subst (λ (arcs : List Arc). (a : Arc) → Contains (part c.arcs-arcs.result.now c.first_index-start.result c.first_index-end.result) a
+    ↔ (Contains arcs a × (a.from ≡ c.args.s))) c.arcs-arcs.ensures.value
     (run_members c.arcs-arcs.result.now c.args.s c.first_index-start.result c.first_index-end.result (state_run (goal.at.returns-clause-members c).After-first_index-end))
 
 pub returns-clause-order : goal.returns-clause-order

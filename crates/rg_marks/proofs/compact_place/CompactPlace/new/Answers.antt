@@ -42,5 +42,7 @@ returns c =
     let inv = c.loop-t.invariant in
     let all : length place.pre.items ≡ n = (let e = c.len.ensures in let ok = place.pre.ok.0 in omega arith) in
     let end : n ≤ c.loop-t.t = (let past = c.loop-t-test.false in let e = c.len-t-end.ensures in let e' = c.len.ensures in omega arith) in
-    ap (λ (l : List ℕ). record { start = place.start; pre = l; post = kept_numbers (λ w. w.post) n c.loop-t.weights.items }) (below_all (λ w. w.pre) place.pre.items n c.loop-t.weights.items all (λ u lt. inv.pre u (omega arith)))
-    ∙ ap (λ (l : List ℕ). record { start = place.start; pre = place.pre.items; post = l }) (below_all (λ w. w.post) place.post.items n c.loop-t.weights.items (sym c.requires.same ∙ all) (λ u lt. inv.post u (omega arith)))
+    ap (λ (l : List ℕ). record { start = place.start; pre = l; post = kept_numbers (λ w. w.post) n c.loop-t.weights.items })
+    (below_all (λ w. w.pre) place.pre.items n c.loop-t.weights.items all (λ u lt. inv.pre u (omega arith)))
+    ∙ ap (λ (l : List ℕ). record { start = place.start; pre = place.pre.items; post = l })
+    (below_all (λ w. w.post) place.post.items n c.loop-t.weights.items (sym c.requires.same ∙ all) (λ u lt. inv.post u (omega arith)))

@@ -17,7 +17,8 @@ pub mark-requires-clause-within : goal.mark-requires-clause-within
 mark-requires-clause-within c = rw c.deref-3.ensures.value c.in_ok-events.ensures.within
 
 -- so much is separated with the place, whether the cells change or stay
-more_is : (c : goal.Joined-cells) (places more : List Place) → AddsOne (shown_place c.args.place.now) places more → SeparateSoMuch c.args.lts.now places c.args.self.now → SeparateSoMuch c.args.lts.now more c.match-cells.self
+more_is : (c : goal.Joined-cells) (places more : List Place) → AddsOne (shown_place c.args.place.now) places more
+    → SeparateSoMuch c.args.lts.now places c.args.self.now → SeparateSoMuch c.args.lts.now more c.match-cells.self
 more_is c places more adds much =
     let lts = c.args.lts.now in
     let old = c.args.self.now in
@@ -26,9 +27,11 @@ more_is c places more adds much =
     let written = with_items_is old.stops c.mark.new.rows (c.mark.auto.rows ∙ ap (λ (l : List (Vec Bool Global)). length l) c.deref_mut.ensures.value ∙ sym old.stops.ok.0) in
     elim c.match-cells.branch [
       | in-Some w ↦
-          let changed = subst (λ o. IfSome o (λ numbers. AreRefined c.deref-2.result.now c.args.tokens.now numbers.items × (numbers.items ≢ c.deref-2.result.now))) w.in-Some.is c.in_ok-cells.ensures.after in
+          let changed = subst (λ o. IfSome o (λ numbers. AreRefined c.deref-2.result.now c.args.tokens.now numbers.items
+          × (numbers.items ≢ c.deref-2.result.now))) w.in-Some.is c.in_ok-cells.ensures.after in
           rw w.self-is (so_much_more lts (shown_place c.args.place.now) c.args.tokens.now places more old _ c.deref_mut.result.now c.mark.new.rows c.deref-2.result.now w.in-Some.after.items
-          c.requires.narrow c.requires.tokens adds much c.deref_mut.ensures.value written c.mark.ensures.table marks c.deref-2.ensures.value changed.0 (ap (λ (v : Vec ℕ Global). v.items) w.replace.ensures.after))
+          c.requires.narrow c.requires.tokens adds much c.deref_mut.ensures.value written c.mark.ensures.table marks c.deref-2.ensures.value
+          changed.0 (ap (λ (v : Vec ℕ Global). v.items) w.replace.ensures.after))
       | in-None w ↦
           let stay = subst (λ o. IfNone o (AreRefined c.deref-2.result.now c.args.tokens.now c.deref-2.result.now)) w.in-None.is c.in_ok-cells.ensures.stay in
           rw w.self-is (so_much_more lts (shown_place c.args.place.now) c.args.tokens.now places more old _ c.deref_mut.result.now c.mark.new.rows c.deref-2.result.now c.deref-2.result.now
@@ -44,12 +47,14 @@ cells_before c front much =
     ]
 
 -- where none are given the place tells no more states apart
-cells_stay : (c : goal.Joined-cells) (front : List Place) → SeparateSoMuch c.args.lts.now front c.args.self.now → IfNone c.match-cells.cells (TellsNoMore c.args.lts.now front (shown_place c.args.place.now))
+cells_stay : (c : goal.Joined-cells) (front : List Place) → SeparateSoMuch c.args.lts.now front c.args.self.now
+    → IfNone c.match-cells.cells (TellsNoMore c.args.lts.now front (shown_place c.args.place.now))
 cells_stay c front much =
     let p = shown_place c.args.place.now in
     elim c.match-cells.branch [
       | in-Some w ↦ rw w.cells-is tt
-      | in-None w ↦ rw w.cells-is (tells_no_more c.args.lts.now front p c.args.self.now c.match-cells.self much (more_is c front (front ++ p ∷ []) (adds_last p front) much) (ap (λ s. s.cells.items) w.self-is))
+      | in-None w ↦ rw w.cells-is (tells_no_more c.args.lts.now front p c.args.self.now c.match-cells.self much
+          (more_is c front (front ++ p ∷ []) (adds_last p front) much) (ap (λ s. s.cells.items) w.self-is))
     ]
 
 pub returns-clause-separated : goal.returns-clause-separated

@@ -21,7 +21,8 @@ returns-in_err-add_row-clause-passes c =
     let p = err_from_is_err_and c.from_residual.result c.from_residual.ensures.1 in
     let k = back (get_or c.args.rows.now c.loop-name.name-index no_row).1 (multiplier_at c.args.lts.now c.args.rows.now c.loop-name.name-index c.requires.rows c.loop-name-test.true) in
     let passes = rw k at c.in_err-add_row.ensures.passes in
-    rw (p.1, p.2) (λ e small. passes_among c.args.lts.now _ named_row c.args.rows.now c.loop-name.name-index no_row c.row_expression.result c.loop-name.self c.loop-name-test.true c.loop-name.invariant.sums c.row_expression.ensures (passes e) small)
+    rw (p.1, p.2) (λ e small. passes_among c.args.lts.now _ named_row c.args.rows.now c.loop-name.name-index no_row c.row_expression.result
+    c.loop-name.self c.loop-name-test.true c.loop-name.invariant.sums c.row_expression.ensures (passes e) small)
 
 pub loop-name-preserved : goal.loop-name-preserved
 loop-name-preserved c = record {
@@ -30,6 +31,7 @@ loop-name-preserved c = record {
       let k = back (get_or c.args.rows.now c.loop-name.name-index no_row).1 (multiplier_at c.args.lts.now c.args.rows.now c.loop-name.name-index c.requires.rows c.loop-name-test.true) in
       let adds = rw k at c.in_ok-add_row.ensures.ok in
       rw (map_more named_row c.args.rows.now c.loop-name.name-index no_row c.loop-name-test.true)
-      (sums_more c.args.lts.now _ (map named_row (take c.loop-name.name-index c.args.rows.now)) (named_row (get_or c.args.rows.now c.loop-name.name-index no_row)) c.row_expression.result c.loop-name.self c.add_row.new.self
+      (sums_more c.args.lts.now _ (map named_row (take c.loop-name.name-index c.args.rows.now))
+      (named_row (get_or c.args.rows.now c.loop-name.name-index no_row)) c.row_expression.result c.loop-name.self c.add_row.new.self
       c.loop-name.invariant.sums c.row_expression.ensures adds);
 }

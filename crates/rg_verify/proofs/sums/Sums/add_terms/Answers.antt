@@ -20,7 +20,8 @@ returns-in_err-add_term-clause-passes c =
     let k = back c.args.multiplier c.requires.multiplier in
     let added = rw k at c.loop-place.invariant.added in
     let passes = rw k at c.in_err-add_term.ensures.passes in
-    rw (p.1, p.2) (λ e. passes_at c.args.multiplier c.args.terms.now c.loop-place.place-index None c.in-Some.term c.args.self.now c.loop-place.self c.loop-place-test.true c.in-Some.is added (passes e))
+    rw (p.1, p.2) (λ e. passes_at c.args.multiplier c.args.terms.now c.loop-place.place-index None c.in-Some.term c.args.self.now c.loop-place.self
+    c.loop-place-test.true c.in-Some.is added (passes e))
 
 pub loop-place-preserved : goal.loop-place-preserved
 loop-place-preserved c = elim c.match-place.branch [
@@ -30,7 +31,8 @@ loop-place-preserved c = elim c.match-place.branch [
       tokens = w.add_term.ensures.variables.tokens ∙ c.loop-place.invariant.variables.tokens;
       effects = w.add_term.ensures.variables.effects ∙ c.loop-place.invariant.variables.effects;
     };
-    added = adds_at _ c.args.terms.now c.loop-place.place-index None w.in-Some.term c.args.self.now c.loop-place.self w.add_term.new.self c.loop-place-test.true w.in-Some.is c.loop-place.invariant.added w.in_ok-add_term.ensures.ok;
+    added = adds_at _ c.args.terms.now c.loop-place.place-index None w.in-Some.term c.args.self.now c.loop-place.self w.add_term.new.self
+        c.loop-place-test.true w.in-Some.is c.loop-place.invariant.added w.in_ok-add_term.ensures.ok;
   })
   | in_default w ↦ rw w.self-is (record {
     tidy = c.loop-place.invariant.tidy;

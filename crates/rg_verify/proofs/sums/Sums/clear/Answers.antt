@@ -10,7 +10,8 @@ set-requires c =
 
 pub loop-variable-preserved : goal.loop-variable-preserved
 loop-variable-preserved c = record {
-  tidy = tidy_popped c.loop-variable.self _ c.set.new.self c.in-Some.variable c.zero.result c.loop-variable.invariant.tidy (record { tokens = refl; effects = refl }) c.set.ensures.variables c.in-Some.ensures.items c.set.ensures.entries c.zero.ensures.size c.set.ensures.touched;
+  tidy = tidy_popped c.loop-variable.self _ c.set.new.self c.in-Some.variable c.zero.result c.loop-variable.invariant.tidy
+      (record { tokens = refl; effects = refl }) c.set.ensures.variables c.in-Some.ensures.items c.set.ensures.entries c.zero.ensures.size c.set.ensures.touched;
   variables = record {
     tokens = c.set.ensures.variables.tokens ∙ c.loop-variable.invariant.variables.tokens;
     effects = c.set.ensures.variables.effects ∙ c.loop-variable.invariant.variables.effects;

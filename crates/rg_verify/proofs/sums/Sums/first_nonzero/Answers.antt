@@ -19,7 +19,9 @@ loop-variable-preserved c = record {
       let is = ap signed_of c.get.ensures in
       rw more (elim c.if-not-is_zero.branch [
         | then-not-is_zero w ↦ subst (TellsFirst c.args.self.now (before ++ u ∷ [])) (sym w.first-is)
-            (tells_left c.args.self.now before c.loop-variable.first u w.first_of.result c.loop-variable.invariant.found (listed_entry c.args.self.now c.deref-variable-items.result.now c.loop-variable.variable-index (Tokens 0) c.requires c.loop-variable.invariant.items c.loop-variable-test.true)
+            (tells_left c.args.self.now before c.loop-variable.first u w.first_of.result c.loop-variable.invariant.found
+            (listed_entry c.args.self.now c.deref-variable-items.result.now c.loop-variable.variable-index
+            (Tokens 0) c.requires c.loop-variable.invariant.items c.loop-variable-test.true)
             (λ e. absurd (let z = c.is_zero.ensures.1 (sym is ∙ e) in let f = w.if-not-is_zero.true in cc)) w.first_of.ensures)
         | else-not-is_zero w ↦ subst (TellsFirst c.args.self.now (before ++ u ∷ [])) (sym w.first-is)
             (tells_zero c.args.self.now before c.loop-variable.first u c.loop-variable.invariant.found (is ∙ c.is_zero.ensures.0 (let f = w.if-not-is_zero.false in f)))
