@@ -51,6 +51,7 @@ pub(crate) fn new_stops(
 }
 
 // Adds the states that aren't marked and have fewer tokens than the weight, each with the label.
+#[inline(never)]
 fn push_new(
     row: &[bool],
     tokens: &[u128],

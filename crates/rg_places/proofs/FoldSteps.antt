@@ -39,20 +39,6 @@ map_at f xs i x at = ap f at ∙ sym (get_or-map f xs i x)
 pub mapped_left : {A B : Type 0} (f : A → B) (xs : List A) (i : ℕ) (x : A) → i < length xs → x ≡ slice_index_or xs i x → drop i (map f xs) ≡ f x ∷ drop (i + 1) (map f xs)
 mapped_left f xs i x lt at = left_at (map f xs) i (f x) (subst (λ n. i < n) (sym (length-map xs f)) lt) (map_at f xs i x at)
 
-module _ {A B X : Type 0} (make : B → Result X Wide → Type 0) (f : A → B) (xs : List A) (i : ℕ) (ys : List X) (leads : EachLeads make (map f xs) i ys) where
-  pub mapped_end : length xs ≤ i → each make (map f xs) (Ok ys)
-  mapped_end past = all_end make (map f xs) i ys leads (subst (λ n. n ≤ i) (sym (length-map xs f)) past)
-
-  module _ (x : A) (lt : i < length xs) (at : x ≡ slice_index_or xs i x) where
-    below : i < length (map f xs)
-    below = subst (λ n. i < n) (sym (length-map xs f)) lt
-
-    pub mapped_next : (y : X) → make (f x) (Ok y) → EachLeads make (map f xs) (i + 1) (ys ++ y ∷ [])
-    mapped_next y made = next_leads make (map f xs) i ys leads (f x) below (map_at f xs i x at) y made
-
-    pub mapped_fails : (w : Wide) → make (f x) (Err w) → each make (map f xs) (Err w)
-    mapped_fails w made = next_fails make (map f xs) i ys leads (f x) below (map_at f xs i x at) w made
-
 -- ---- a sum
 
 -- what is joined to the sum from place i on leads to the goal

@@ -4,6 +4,7 @@ pub mod ColumnLists
 pub mod Counting
 pub mod Leaving
 pub mod Kept
+pub mod Renewing
 pub mod AlongTree
 pub mod ColumnSteps
 pub mod ShareSteps

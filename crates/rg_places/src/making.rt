@@ -61,7 +61,7 @@ pub fn make_place(
     let Setting { lts, class, .. } = setting;
     let found = found_numbers(alloc, setting, point)?;
     let numbers = along_tree(alloc, lts, setting.tree.arcs(), &found)?;
-    let numbers = shift_and_lift(alloc, lts, class, problem, numbers)?;
+    let numbers = shift_and_lift(lts, class, problem, numbers)?;
     place_of(alloc, lts, class, problem, &found, &numbers)
 }
 

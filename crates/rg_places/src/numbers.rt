@@ -54,7 +54,6 @@ fn after_effect(number: Fraction, effect: Fraction) -> Result<Fraction, Wide>
 // The numbers, moved so that the least is 0 where the class asks that, and then moved back where the start has to be a
 // multiple.
 pub(crate) fn shift_and_lift(
-    alloc: Global,
     lts: &Lts,
     class: Class,
     problem: Problem,
@@ -63,30 +62,25 @@ pub(crate) fn shift_and_lift(
     requires { length numbers.items ≡ states lts.now }
     ensures { Comes (shift_fold lts.now class problem (ratios_of numbers.items)) (λ shifted. ratios_of shifted.items) result }
 {
-    let moved = shift_by_least(alloc, class, numbers)?;
-    lift(alloc, lts, class, problem, moved)
+    let moved = shift_by_least(class, numbers)?;
+    lift(lts, class, problem, moved)
 }
 
 // In a class that isn't bounded, and is plain or not pure, the numbers less the least of them, and in others the
 // numbers.
-fn shift_by_least(
-    alloc: Global,
-    class: Class,
-    numbers: Vec<Fraction>,
-) -> Result<Vec<Fraction>, FoldStop>
+fn shift_by_least(class: Class, numbers: Vec<Fraction>) -> Result<Vec<Fraction>, FoldStop>
     ensures { Comes (moved_fold class (ratios_of numbers.items)) (λ moved. ratios_of moved.items) result }
 {
     if !is_shifted(class) {
         return Ok(numbers);
     }
     let by = least(&numbers);
-    subtract_from_each(alloc, numbers, by)
+    subtract_from_each(numbers, by)
 }
 
 // In a problem of two states of a plain class without bound the numbers and what is missing at the start, which is to
 // be a multiple of the class's marking, and in others the numbers.
 fn lift(
-    alloc: Global,
     lts: &Lts,
     class: Class,
     problem: Problem,
@@ -100,7 +94,7 @@ fn lift(
     }
     let start = numbers[lts.initial() as usize].numerator().unsigned_abs();
     let by = missing(class.marking.unwrap_or(1), start);
-    add_to_each(alloc, numbers, whole_number(by))
+    add_to_each(numbers, whole_number(by))
 }
 
 // Whether the start has to be moved back to a multiple: in a problem of two states of a plain class without bound.
@@ -139,39 +133,31 @@ fn is_shifted(class: Class) -> bool
 }
 
 // Each number less so much; the numbers as they are where that is 0.
-fn subtract_from_each(
-    alloc: Global,
-    numbers: Vec<Fraction>,
-    by: Fraction,
-) -> Result<Vec<Fraction>, FoldStop>
+fn subtract_from_each(numbers: Vec<Fraction>, by: Fraction) -> Result<Vec<Fraction>, FoldStop>
     ensures { Comes (each (λ m. add m (negated (ratio_of by))) (ratios_of numbers.items)) (λ lowered. ratios_of lowered.items) result }
 {
     if by.numerator() == 0 {
         return Ok(numbers);
     }
-    let mut lowered = Vec::with_capacity(alloc, numbers.len())?;
-    for number in &numbers {
-        let difference = number.sub(by)?;
-        lowered.push(difference)?;
+    let mut lowered = numbers;
+    for k in 0..lowered.len() {
+        let difference = lowered[k].sub(by)?;
+        lowered[k] = difference;
     }
     Ok(lowered)
 }
 
 // Each number and so much; the numbers as they are where that is 0.
-fn add_to_each(
-    alloc: Global,
-    numbers: Vec<Fraction>,
-    by: Fraction,
-) -> Result<Vec<Fraction>, FoldStop>
+fn add_to_each(numbers: Vec<Fraction>, by: Fraction) -> Result<Vec<Fraction>, FoldStop>
     ensures { Comes (each (λ m. add m (ratio_of by)) (ratios_of numbers.items)) (λ raised. ratios_of raised.items) result }
 {
     if by.numerator() == 0 {
         return Ok(numbers);
     }
-    let mut raised = Vec::with_capacity(alloc, numbers.len())?;
-    for number in &numbers {
-        let sum = number.add(by)?;
-        raised.push(sum)?;
+    let mut raised = numbers;
+    for k in 0..raised.len() {
+        let sum = raised[k].add(by)?;
+        raised[k] = sum;
     }
     Ok(raised)
 }

@@ -14,6 +14,7 @@ ghost use Rattle.rg_places.specs.Steps.{taken_to_stop};
 use crate::numbers::least;
 use rg_case_parts::states_with;
 use rg_fraction::{FoldStop, Fraction, whole_sum};
+use rg_integers::Wide;
 use rg_lts::Lts;
 use rg_theory::{Class, Problem};
 use std::alloc::{AllocError, Global};
@@ -112,10 +113,23 @@ pub(crate) fn post_weights(
 {
     let mut put = Vec::with_capacity(alloc, taken.len())?;
     for (u, &pre) in taken.iter().enumerate() {
-        let post = whole_sum(pre, found[u].numerator())?;
+        let post = post_weight(pre, found[u].numerator())?;
         put.push(post)?;
     }
     Ok(put)
+}
+
+// What a label puts that takes so much and has this effect. An effect of 0 leaves the number as it is.
+fn post_weight(pre: i128, effect: i128) -> Result<i128, Wide>
+    requires pre_in_range { InRange pre }
+    requires effect_in_range { InRange effect }
+    ensures value { whole_sum pre effect result }
+    ensures in_range { IfOk result InRange }
+{
+    if effect == 0 {
+        return Ok(pre);
+    }
+    whole_sum(pre, effect)
 }
 
 // The numbers without their signs.

@@ -1,7 +1,6 @@
 use Rattle.rg_folds.specs.Fold.{add, ratio_of}
-use Rattle.rg_places.specs.PointValues.{ratios_of}
-use Rattle.rg_places.proofs.FoldSteps.{EachLeads}
+use Rattle.rg_places.proofs.Renewing.{RenewedBefore}
 use Rattle.rg_places.proofs.numbers.add_to_each.Given as goal
 
-abbrev pub invariant-loop-number : goal.invariant-loop-number
-invariant-loop-number l = EachLeads (λ m. add m (ratio_of l.by)) (ratios_of l.number-items) l.number-index (ratios_of l.raised.items)
+abbrev pub invariant-loop-k : goal.invariant-loop-k
+invariant-loop-k l = RenewedBefore (λ m. add m (ratio_of l.by)) l.fn.numbers.items l.k l.raised.items

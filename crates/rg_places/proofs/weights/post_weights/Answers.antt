@@ -17,7 +17,7 @@ returns-in_err-post c =
     let lt : c.loop-u.u < length c.args.found.now = omega arith in
     let top = top_there c.args.found.now c.loop-u.u c.index-found-u.result lt c.index-found-u.is in
     let n = back c.numerator.result c.numerator.ensures.in_range in
-    let made = rw (pre, n, c.numerator.ensures.value, top) at c.whole_sum.ensures.value in
+    let made = rw (pre, n, c.numerator.ensures.value, top) at c.post_weight.ensures.value in
     rw same (counted_fails (λ u. whole_sum (number_at c.args.taken.now u) (top_at (ratios_of c.args.found.now) u))
     (length c.args.taken.now) c.loop-u.u c.loop-u.put.items c.loop-u.invariant c.loop-u-test.true c.in_err-post.field-0.0 (rw c.in_err-post.was at made))
 
@@ -27,7 +27,7 @@ loop-u-preserved c =
     let lt : c.loop-u.u < length c.args.found.now = omega arith in
     let top = top_there c.args.found.now c.loop-u.u c.index-found-u.result lt c.index-found-u.is in
     let n = back c.numerator.result c.numerator.ensures.in_range in
-    let made = rw (pre, n, c.numerator.ensures.value, top) at c.whole_sum.ensures.value in
+    let made = rw (pre, n, c.numerator.ensures.value, top) at c.post_weight.ensures.value in
     let post = back c.in_ok-post.post c.in_ok-post.ensures.in_range in
     rw (c.in_ok-push.ensures.items, post) (counted_next (λ u. whole_sum (number_at c.args.taken.now u) (top_at (ratios_of c.args.found.now) u))
     (length c.args.taken.now) c.loop-u.u c.loop-u.put.items c.loop-u.invariant c.loop-u-test.true c.in_ok-post.post (rw c.in_ok-post.was at made))
