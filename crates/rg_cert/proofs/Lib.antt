@@ -4,7 +4,6 @@ pub mod Forms
 pub mod Decimal
 pub mod Parsed
 pub mod Known
-pub mod NameLookups
 pub mod LineTexts
 pub mod FormKeys
 pub mod NextLines

@@ -5,4 +5,3 @@ pub mod Lines
 pub mod Faults
 pub mod Drafts
 pub mod View
-pub mod NameTables

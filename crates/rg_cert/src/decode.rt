@@ -11,10 +11,11 @@ ghost use Rattle.rg_cert.specs.View.{texts_in, line_form_in, head_in};
 ghost use Rattle.rg_cert.specs.declared.table.LineForm.TheVariants as of_line;
 
 use crate::draft::Head;
-use crate::names::{IndexedLts, label_of, state_of};
+use crate::names::{label_of, state_of};
 use crate::numerals::{depth, multiplier, split_value};
 use crate::table::{LineForm, RowForm};
 use rg_cert_meaning::{Form, RowName};
+use rg_lts::Lts;
 use rg_theory::Arc;
 
 // A field.
@@ -26,7 +27,7 @@ pub(crate) fn text_at<'a>(texts: &[&'a [u8]], i: usize) -> &'a [u8]
 }
 
 // The state that a field names.
-pub(crate) fn state_at(texts: &[&[u8]], i: usize, lts: &IndexedLts) -> u32
+pub(crate) fn state_at(texts: &[&[u8]], i: usize, lts: &Lts) -> u32
     requires { IsGoodAt lts.now (texts_in texts.now) i state_field }
     ensures { (result < states lts.now) × (slice_index_or (texts_in texts.now) i [] ≡ state_name lts.now result) }
 {
@@ -34,7 +35,7 @@ pub(crate) fn state_at(texts: &[&[u8]], i: usize, lts: &IndexedLts) -> u32
 }
 
 // The label that a field names.
-pub(crate) fn label_at(texts: &[&[u8]], i: usize, lts: &IndexedLts) -> u32
+pub(crate) fn label_at(texts: &[&[u8]], i: usize, lts: &Lts) -> u32
     requires { IsGoodAt lts.now (texts_in texts.now) i label_field }
     ensures { (result < labels lts.now) × (slice_index_or (texts_in texts.now) i [] ≡ label_name lts.now result) }
 {
@@ -88,7 +89,7 @@ fn label_row(word: &[u8], t: u32) -> RowName
 }
 
 // The row that a line names.
-fn row_name(row: RowForm, texts: &[&[u8]], lts: &IndexedLts) -> RowName
+fn row_name(row: RowForm, texts: &[&[u8]], lts: &Lts) -> RowName
     requires { IsGood lts.now (line_form_in (of_line.Row row)) (texts_in texts.now) }
     ensures names { IsRowNameOf lts.now result }
     ensures fields { texts_in texts.now ≡ slice_index_or (texts_in texts.now) 0 [] ∷ row_fields lts.now result }
@@ -107,7 +108,7 @@ fn row_name(row: RowForm, texts: &[&[u8]], lts: &IndexedLts) -> RowName
 }
 
 // The row that a line gives, with its multiplier.
-pub(crate) fn row_of(row: RowForm, texts: &[&[u8]], lts: &IndexedLts) -> (RowName, i128)
+pub(crate) fn row_of(row: RowForm, texts: &[&[u8]], lts: &Lts) -> (RowName, i128)
     requires { IsGood lts.now (line_form_in (of_line.Row row)) (texts_in texts.now) }
     ensures row { IsRowOf lts.now (named_row result) }
     ensures fields { texts_in texts.now ≡ named_fields lts.now (named_row result) }
@@ -116,7 +117,7 @@ pub(crate) fn row_of(row: RowForm, texts: &[&[u8]], lts: &IndexedLts) -> (RowNam
 }
 
 // What a split of tokens says.
-pub(crate) fn tokens_split(texts: &[&[u8]], lts: &IndexedLts) -> (Form, i64)
+pub(crate) fn tokens_split(texts: &[&[u8]], lts: &Lts) -> (Form, i64)
     requires { IsGood lts.now (line_form_in of_line.SplitTokens) (texts_in texts.now) }
     ensures { IsSplitLine lts.now (texts_in texts.now) result.0 result.1 }
 {
@@ -127,7 +128,7 @@ pub(crate) fn tokens_split(texts: &[&[u8]], lts: &IndexedLts) -> (Form, i64)
 }
 
 // What a split of an effect says.
-pub(crate) fn effect_split(texts: &[&[u8]], lts: &IndexedLts) -> (Form, i64)
+pub(crate) fn effect_split(texts: &[&[u8]], lts: &Lts) -> (Form, i64)
     requires { IsGood lts.now (line_form_in of_line.SplitEffect) (texts_in texts.now) }
     ensures { IsSplitLine lts.now (texts_in texts.now) result.0 result.1 }
 {
@@ -138,7 +139,7 @@ pub(crate) fn effect_split(texts: &[&[u8]], lts: &IndexedLts) -> (Form, i64)
 }
 
 // What a split of the start says.
-pub(crate) fn start_split(texts: &[&[u8]], lts: &IndexedLts) -> (Form, i64)
+pub(crate) fn start_split(texts: &[&[u8]], lts: &Lts) -> (Form, i64)
     requires { IsGood lts.now (line_form_in of_line.SplitStart) (texts_in texts.now) }
     ensures { IsSplitLine lts.now (texts_in texts.now) result.0 result.1 }
 {
@@ -146,7 +147,7 @@ pub(crate) fn start_split(texts: &[&[u8]], lts: &IndexedLts) -> (Form, i64)
 }
 
 // The reason that a line begins.
-pub(crate) fn head_of(form: LineForm, texts: &[&[u8]], lts: &IndexedLts) -> Head
+pub(crate) fn head_of(form: LineForm, texts: &[&[u8]], lts: &Lts) -> Head
     requires good { IsGood lts.now (line_form_in form) (texts_in texts.now) }
     requires form { IsHeadForm (line_form_in form) }
     ensures head { IsHeadOf lts.now (head_in result) }

@@ -5,12 +5,12 @@ ghost use Rattle.rg_cert.specs.View.{texts_in, line_form_in, version_in, positio
 ghost use Rattle.rg_cert.specs.declared.table.LineForm.TheVariants as of_line;
 
 use crate::decode::{effect_split, row_of, start_split, tokens_split};
-use crate::names::IndexedLts;
 use crate::position::Position;
 use crate::table::{LineForm, RowForm};
 use crate::version::Version;
 use rg_cert_data::{Case, Node};
 use rg_cert_meaning::{Form, RowName};
+use rg_lts::Lts;
 use rg_memory::NoMemory;
 use std::alloc::Global;
 use std::mem;
@@ -68,7 +68,7 @@ impl Draft {
         position: Position,
         form: LineForm,
         texts: &[&[u8]],
-        lts: &IndexedLts,
+        lts: &Lts,
     ) -> Result<(), NoMemory>
         requires { IsGood lts.now (line_form_in form) (texts_in texts.now) }
         ensures { OnOk result (Adds lts.now (position_in position) (line_form_in form) (texts_in texts.now) (draft_in self.old) (draft_in self.new)) }
@@ -94,7 +94,7 @@ impl Draft {
     }
 
     // A row of the leaf that is read.
-    fn take_row(&mut self, row: RowForm, texts: &[&[u8]], lts: &IndexedLts) -> Result<(), NoMemory>
+    fn take_row(&mut self, row: RowForm, texts: &[&[u8]], lts: &Lts) -> Result<(), NoMemory>
         requires { IsGood lts.now (line_form_in (of_line.Row row)) (texts_in texts.now) }
         ensures { OnOk result (AddsRow lts.now (texts_in texts.now) (draft_in self.old) (draft_in self.new)) }
     {

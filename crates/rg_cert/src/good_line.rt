@@ -9,9 +9,9 @@ ghost use Rattle.rg_cert.specs.View.{line_form_in, position_in, HasFewDue};
 
 use crate::fault::CertFault;
 use crate::lines::{first_fields, first_line};
-use crate::names::IndexedLts;
 use crate::position::{Next, Position};
 use crate::table::{LineForm, are_in_range, are_known, form_of};
+use rg_lts::Lts;
 use std::alloc::Global;
 
 /// A line that is right, and what follows it.
@@ -31,7 +31,7 @@ pub(crate) fn good_line<'a>(
     text: &'a [u8],
     number: u32,
     position: Position,
-    lts: &IndexedLts,
+    lts: &Lts,
 ) -> Result<GoodLine<'a>, CertFault>
     requires small { HasFewDue position 4294967294 }
     requires going { position ≢ of_position.End }
@@ -64,7 +64,7 @@ pub(crate) fn good_line<'a>(
 }
 
 // The numbers of a line, and then its names.
-fn check(form: LineForm, texts: &[&[u8]], lts: &IndexedLts, number: u32) -> Result<(), CertFault>
+fn check(form: LineForm, texts: &[&[u8]], lts: &Lts, number: u32) -> Result<(), CertFault>
     requires { AreAsked HasFieldForm (fields_of (line_form_in form)) (map (λ w. w.now) texts.now) }
     ensures ok { OnOk result (IsRight lts.now (line_form_in form) (map (λ w. w.now) texts.now)) }
     ensures err { IfErr result (IsWrong lts.now (line_form_in form) (map (λ w. w.now) texts.now) number) }

@@ -7,7 +7,6 @@ mod fault;
 mod good_line;
 mod laws;
 mod lines;
-mod name_table;
 mod names;
 mod numerals;
 mod position;

@@ -18,7 +18,6 @@ use crate::draft::{Draft, Head};
 use crate::fault::CertFault;
 use crate::good_line::good_line;
 use crate::lines::first_line;
-use crate::names::IndexedLts;
 use crate::position::Position;
 use crate::version::Version;
 use rg_cert_data::{Case, Certificate, Reason};
@@ -38,9 +37,8 @@ pub fn read(alloc: Global, bytes: &[u8], lts: &Lts) -> Result<Certificate, CertF
     lts.is_well_formed();
     let (version, rest) = after_heading(bytes)?;
     let (class, rest) = class_line(version, rest)?;
-    let indexed = IndexedLts::new(alloc, lts)?;
-    let (head, rest) = head_line(alloc, version, rest, &indexed)?;
-    let cases = cases(alloc, version, rest, head, &indexed)?;
+    let (head, rest) = head_line(alloc, version, rest, lts)?;
+    let cases = cases(alloc, version, rest, head, lts)?;
     Ok(Certificate {
         class,
         reason: reason_of(head, cases),
@@ -110,7 +108,7 @@ fn head_line<'a>(
     alloc: Global,
     version: Version,
     text: &'a [u8],
-    lts: &IndexedLts,
+    lts: &Lts,
 ) -> Result<(Head, &'a [u8]), CertFault>
     ensures ok { IfOk result (λ r. IsHeadLine lts.now text.entry.now (head_in r.0) r.1.now) }
     ensures err { IfErr result (λ e. e ≢ fault.NoMemory → FaultFrom lts.now (at_reason (version_in version)) text.entry.now 3 e) }
@@ -125,7 +123,7 @@ fn cases(
     version: Version,
     text: &[u8],
     head: Head,
-    lts: &IndexedLts,
+    lts: &Lts,
 ) -> Result<Vec<Case>, CertFault>
     requires { length text.now ≤ most_bytes }
     ensures ok { IfOk result (λ cases. AreCasesOf lts.now (version_in version) (head_in head) text.now (map nodes_of cases.items)) }

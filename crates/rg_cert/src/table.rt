@@ -5,8 +5,9 @@ ghost use Rattle.rg_cert.specs.declared.table.LineForm.TheVariants as of_line;
 ghost use Rattle.rg_cert.specs.Lines.{fields_of, IsIn, HasFieldForm, IsFieldInRange, IsFieldKnown, AreAsked};
 ghost use Rattle.rg_cert.specs.View.{range_in, texts_in, field_in, line_form_in};
 
-use crate::names::{IndexedLts, label_in, state_in};
+use crate::names::{label_in, state_in};
 use crate::numerals::{is_numeral, number};
+use rg_lts::Lts;
 use rg_text::is_name;
 
 /// The ranges of numbers.
@@ -228,7 +229,7 @@ impl Field {
     }
 
     // Whether the text, if it is a name, is that of a state or label.
-    fn is_known(self, text: &[u8], lts: &IndexedLts) -> bool
+    fn is_known(self, text: &[u8], lts: &Lts) -> bool
         requires { HasFieldForm (field_in self) text.now }
         ensures { IsTrue result ↔ IsFieldKnown lts.now (field_in self) text.now }
     {
@@ -255,7 +256,7 @@ pub(crate) fn are_in_range(fields: &[Field], texts: &[&[u8]]) -> bool
 }
 
 // Whether the names of a line are those of states and labels.
-pub(crate) fn are_known(fields: &[Field], texts: &[&[u8]], lts: &IndexedLts) -> bool
+pub(crate) fn are_known(fields: &[Field], texts: &[&[u8]], lts: &Lts) -> bool
     requires { AreAsked HasFieldForm (map field_in fields.now) (map (λ w. w.now) texts.now) }
     ensures { IsTrue result ↔ AreAsked (IsFieldKnown lts.now) (map field_in fields.now) (map (λ w. w.now) texts.now) }
 {

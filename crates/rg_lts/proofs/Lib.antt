@@ -1,4 +1,3 @@
-pub mod NameLemmas
 pub mod OrderedArcs
 pub mod Drafts
 mod ArcOrder

@@ -1,5 +1,5 @@
 //! Building a system call by call.
-ghost use Rattle.std.specs.Prelude.{◌≡◌, ◌↔◌, ◌⊎◌, ℕ, ◌<◌, ◌≤◌, length, Contains, Some, None, [], ◌∷◌, ◌++◌, slice_get, IfOk, IfErr, OnOk, OnErr, IfSome, IfNone, IsErrOf, map, string_bytes};
+ghost use Rattle.std.specs.Prelude.{◌≡◌, ◌↔◌, ◌⊎◌, ℕ, ◌<◌, ◌≤◌, length, Contains, Some, None, [], ◌∷◌, ◌++◌, slice_get, IfOk, IfErr, OnOk, OnErr, IfSome, IfNone, IsErrOf};
 ghost use Rattle.rg_text.specs.Byte.{IsName};
 ghost use Rattle.rg_theory.specs.declared.Arc.{Arc};
 ghost use Rattle.rg_theory.specs.Limits.{most_states, most_labels, most_arcs};
@@ -8,10 +8,11 @@ ghost use Rattle.rg_lts.specs.Draft.{Draft, IsWellFormedDraft, blank, finished, 
 ghost use Rattle.rg_lts.specs.Faults.{IsStateFault, IsLabelFault, IsArcFault, IsInitialFault, IsFinishFault};
 ghost use Rattle.rg_lts.specs.declared.fault.BuildFault.TheVariants as fault;
 
+use crate::arc_set;
 use crate::fault::BuildFault;
 use crate::lts::Lts;
-use crate::{arc_set, names};
-use indexmap::IndexSet;
+use crate::names::number_of;
+use rg_names::NameList;
 use rg_theory::Arc;
 use std::alloc::Global;
 use std::collections::BTreeSet;
@@ -27,21 +28,20 @@ pub const MOST_LABELS: usize = 256;
 #[derive(Drop)]
 pub struct LtsBuilder {
     alloc: Global,
-    state_names: IndexSet<String>,
-    label_names: IndexSet<String>,
+    state_names: NameList,
+    label_names: NameList,
     arcs: BTreeSet<Arc>,
     initial: Option<u32>,
 }
 
 impl Model for LtsBuilder {
-    ghost use Rattle.std.specs.Prelude.{map, string_bytes};
     ghost use Rattle.rg_lts.specs.Draft.{Draft, IsWellFormedDraft, draft_of};
 
     ghost Value = { Draft };
 
-    ghost view = { λ b. draft_of (map string_bytes b.state_names.keys) (map string_bytes b.label_names.keys) b.arcs.keys b.initial };
+    ghost view = { λ b. draft_of b.state_names b.label_names b.arcs.keys b.initial };
 
-    ghost invariant = { λ b. IsWellFormedDraft (draft_of (map string_bytes b.state_names.keys) (map string_bytes b.label_names.keys) b.arcs.keys b.initial) };
+    ghost invariant = { λ b. IsWellFormedDraft (draft_of b.state_names b.label_names b.arcs.keys b.initial) };
 }
 
 impl LtsBuilder {
@@ -51,8 +51,8 @@ impl LtsBuilder {
     {
         LtsBuilder {
             alloc,
-            state_names: IndexSet::new(alloc),
-            label_names: IndexSet::new(alloc),
+            state_names: NameList::new(alloc, MOST_STATES),
+            label_names: NameList::new(alloc, MOST_LABELS),
             arcs: BTreeSet::new(alloc),
             initial: None,
         }
@@ -69,14 +69,14 @@ impl LtsBuilder {
         ensures cause { IfErr result IsStateFault }
         ensures err { OnErr result (self.new ≡ self.old) }
     {
-        if let Some(_) = names::number_of(&self.state_names, name) {
+        if let Some(_) = number_of(&self.state_names, name) {
             return Err(BuildFault::TwiceState);
         }
         let s = self.state_names.len();
         if s >= MOST_STATES {
             return Err(BuildFault::TooManyStates);
         }
-        names::add(self.alloc, &mut self.state_names, name)?;
+        self.state_names.add(self.alloc, name)?;
         Ok(s as u32)
     }
 
@@ -91,14 +91,14 @@ impl LtsBuilder {
         ensures cause { IfErr result IsLabelFault }
         ensures err { OnErr result (self.new ≡ self.old) }
     {
-        if let Some(_) = names::number_of(&self.label_names, name) {
+        if let Some(_) = number_of(&self.label_names, name) {
             return Err(BuildFault::TwiceLabel);
         }
         let t = self.label_names.len();
         if t >= MOST_LABELS {
             return Err(BuildFault::TooManyLabels);
         }
-        names::add(self.alloc, &mut self.label_names, name)?;
+        self.label_names.add(self.alloc, name)?;
         Ok(t as u32)
     }
 
@@ -108,7 +108,7 @@ impl LtsBuilder {
         ensures found { IfSome result (λ s. slice_get self.now.state_names s ≡ Some name.now) }
         ensures none { IfNone result (¬ Contains self.now.state_names name.now) }
     {
-        names::number_of(&self.state_names, name)
+        number_of(&self.state_names, name)
     }
 
     /// Returns the label with the name, or None if there is none.
@@ -117,7 +117,7 @@ impl LtsBuilder {
         ensures found { IfSome result (λ t. slice_get self.now.label_names t ≡ Some name.now) }
         ensures none { IfNone result (¬ Contains self.now.label_names name.now) }
     {
-        names::number_of(&self.label_names, name)
+        number_of(&self.label_names, name)
     }
 
     /// Adds the arc between two states that were added before. An arc that is there already changes nothing. Returns
@@ -160,7 +160,7 @@ impl LtsBuilder {
         ensures cause { IfErr result IsInitialFault }
         ensures err { OnErr result (self.new ≡ self.old) }
     {
-        let Some(s) = names::number_of(&self.state_names, name) else {
+        let Some(s) = number_of(&self.state_names, name) else {
             return Err(BuildFault::UnknownState);
         };
         match self.initial {
@@ -189,29 +189,29 @@ impl LtsBuilder {
 
 // The arc with these names.
 fn named_arc(
-    state_names: &IndexSet<String>,
-    label_names: &IndexSet<String>,
+    state_names: &NameList,
+    label_names: &NameList,
     from: &str,
     label: &str,
     to: &str,
 ) -> Result<Arc, BuildFault>
-    requires states { length state_names.now.keys ≤ most_states }
-    requires labels { length label_names.now.keys ≤ most_labels }
-    ensures ok { let d = names_alone (map string_bytes state_names.now.keys) (map string_bytes label_names.now.keys) in
+    requires states { length state_names.now ≤ most_states }
+    requires labels { length label_names.now ≤ most_labels }
+    ensures ok { let d = names_alone state_names.now label_names.now in
         IfOk result (IsArcNamed d from.now label.now to.now) }
-    ensures unknown_state { let d = names_alone (map string_bytes state_names.now.keys) (map string_bytes label_names.now.keys) in
+    ensures unknown_state { let d = names_alone state_names.now label_names.now in
         IsErrOf result fault.UnknownState ↔ LacksState d from.now label.now to.now }
-    ensures unknown_label { let d = names_alone (map string_bytes state_names.now.keys) (map string_bytes label_names.now.keys) in
+    ensures unknown_label { let d = names_alone state_names.now label_names.now in
         IsErrOf result fault.UnknownLabel ↔ LacksLabel d from.now label.now }
     ensures cause { IfErr result (λ e. (e ≡ fault.UnknownState) ⊎ (e ≡ fault.UnknownLabel)) }
 {
-    let Some(from) = names::number_of(state_names, from) else {
+    let Some(from) = number_of(state_names, from) else {
         return Err(BuildFault::UnknownState);
     };
-    let Some(label) = names::number_of(label_names, label) else {
+    let Some(label) = number_of(label_names, label) else {
         return Err(BuildFault::UnknownLabel);
     };
-    let Some(to) = names::number_of(state_names, to) else {
+    let Some(to) = number_of(state_names, to) else {
         return Err(BuildFault::UnknownState);
     };
     Ok(Arc { from, label, to })

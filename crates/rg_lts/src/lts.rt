@@ -1,11 +1,11 @@
 //! Systems whose numbers, names and order are right.
-ghost use Rattle.std.specs.Prelude.{◌≡◌, ℕ, ◌<◌, ◌≤◌, length, AllPairs, IsTrue, false, slice_index_or, Contains, Some, IfSome, IfNone, slice_get, map, string_bytes};
+ghost use Rattle.std.specs.Prelude.{◌≡◌, ℕ, ◌<◌, ◌≤◌, length, AllPairs, IsTrue, false, slice_index_or, Contains, Some, IfSome, IfNone, slice_get};
 ghost use Rattle.rg_theory.specs.declared.Arc.{Arc};
 ghost use Rattle.rg_theory.specs.System.{arc, System, HasArc, IsArcBefore, states, labels};
 ghost use Rattle.rg_lts.specs.WellFormed.{IsWellFormed, system_of, is_earlier};
 
-use crate::names;
-use indexmap::IndexSet;
+use crate::names::number_of;
+use rg_names::NameList;
 use rg_theory::Arc;
 use std::marker::Model;
 
@@ -13,34 +13,33 @@ use std::marker::Model;
 /// in the order of their names.
 #[derive(Drop)]
 pub struct Lts {
-    state_names: IndexSet<String>,
-    label_names: IndexSet<String>,
+    state_names: NameList,
+    label_names: NameList,
     arcs: Vec<Arc>,
     initial: u32,
 }
 
 impl Model for Lts {
-    ghost use Rattle.std.specs.Prelude.{map, string_bytes};
     ghost use Rattle.rg_theory.specs.System.{System};
     ghost use Rattle.rg_lts.specs.WellFormed.{IsWellFormed, system_of};
 
     ghost Value = { System };
 
-    ghost view = { λ l. system_of (map string_bytes l.state_names.keys) (map string_bytes l.label_names.keys) l.arcs.items l.initial };
+    ghost view = { λ l. system_of l.state_names l.label_names l.arcs.items l.initial };
 
-    ghost invariant = { λ l. IsWellFormed (system_of (map string_bytes l.state_names.keys) (map string_bytes l.label_names.keys) l.arcs.items l.initial) };
+    ghost invariant = { λ l. IsWellFormed (system_of l.state_names l.label_names l.arcs.items l.initial) };
 }
 
 impl Lts {
     // The system of these parts.
     pub(crate) fn from_parts(
-        state_names: IndexSet<String>,
-        label_names: IndexSet<String>,
+        state_names: NameList,
+        label_names: NameList,
         arcs: Vec<Arc>,
         initial: u32,
     ) -> Lts
-        requires { IsWellFormed (system_of (map string_bytes state_names.keys) (map string_bytes label_names.keys) arcs.items initial) }
-        ensures { result ≡ system_of (map string_bytes state_names.keys) (map string_bytes label_names.keys) arcs.items initial }
+        requires { IsWellFormed (system_of state_names label_names arcs.items initial) }
+        ensures { result ≡ system_of state_names label_names arcs.items initial }
     {
         Lts {
             state_names,
@@ -107,7 +106,7 @@ impl Lts {
         requires { s < states self.now }
         ensures { slice_get self.now.state_names s ≡ Some result.now }
     {
-        names::name_at(&self.state_names, s)
+        self.state_names.name(s as usize)
     }
 
     /// The name of label `t`.
@@ -115,7 +114,7 @@ impl Lts {
         requires { t < labels self.now }
         ensures { slice_get self.now.label_names t ≡ Some result.now }
     {
-        names::name_at(&self.label_names, t)
+        self.label_names.name(t as usize)
     }
 
     /// Returns the state with the name, or None if there is none.
@@ -124,7 +123,7 @@ impl Lts {
         ensures found { IfSome result (λ s. slice_get self.now.state_names s ≡ Some name.now) }
         ensures none { IfNone result (¬ Contains self.now.state_names name.now) }
     {
-        names::number_of(&self.state_names, name)
+        number_of(&self.state_names, name)
     }
 
     /// Returns the label with the name, or None if there is none.
@@ -133,7 +132,7 @@ impl Lts {
         ensures found { IfSome result (λ t. slice_get self.now.label_names t ≡ Some name.now) }
         ensures none { IfNone result (¬ Contains self.now.label_names name.now) }
     {
-        names::number_of(&self.label_names, name)
+        number_of(&self.label_names, name)
     }
 }
 

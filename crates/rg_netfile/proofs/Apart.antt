@@ -1,8 +1,7 @@
 -- Lists in which nothing stands twice.
-use Rattle.std.proofs.Common.{◌≡◌, ◌≢◌, ℕ, zero, suc, ◌+◌, ◌⊎◌, inl, inr, ⊎_elim, Bool, true, false, cond, List, [], ◌∷◌, ◌++◌, length, take, slice_get, Contains, count_by, AllPairs, Some, refl, sym, ap, subst, ◌∙◌, ◌↔◌, ◌<◌, arith}
+use Rattle.std.proofs.Common.{◌≡◌, ◌≢◌, ℕ, zero, suc, ◌+◌, ◌⊎◌, inl, inr, ⊎_elim, Bool, true, false, cond, List, [], ◌∷◌, ◌++◌, length, slice_get, Contains, count_by, AllPairs, Some, refl, sym, ap, subst, ◌∙◌, ◌↔◌, arith}
 use Rattle.std.proofs.lemmas.Bool.{cases_order}
 use Rattle.std.specs.Str.{bytes_eq}
-use Rattle.std.proofs.lemmas.List.{length-take, get_or-take}
 use Rattle.std.proofs.lemmas.List.Elements.{Contains-push, Contains-append_left}
 use Rattle.std.proofs.lemmas.List.Sums.{sum_by-cons}
 use Rattle.std.proofs.lemmas.Option.{slice_get_read, slice_get_within, get_or_from_slice_get}
@@ -30,16 +29,6 @@ apart_more xs x apart absent = record {
       (λ last. ⊎_elim (λ second. absurd (absent (there xs j x (second ∙ ap Some (sym last.1))))) (λ end. last.0 ∙ sym end.0) (pushed xs x y j at'))
       (pushed xs x y i at);
 }
-
--- what is among the first i isn't at i too
-pub apart_absent : {X : Type 0} (xs : List X) (i : ℕ) (x : X) → AreApart xs → slice_get xs i ≡ Some x → Contains (take i xs) x → ⊥
-apart_absent xs i x apart at (k, lt, e) =
-    let long = length-take i xs in
-    let within = slice_get_within xs i x at in
-    let less : k < i = omega arith in
-    let there = slice_get_read xs (length xs) k x refl (omega arith) (sym e ∙ get_or-take i xs k x less) in
-    let same = apart.same k i x there at in
-    absurd (omega arith)
 
 -- what is there with one more is there or is that one
 contains_last : {X : Type 0} (xs : List X) (x y : X) → Contains (xs ++ x ∷ []) y → Contains xs y ⊎ (x ≡ y)

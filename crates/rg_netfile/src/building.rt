@@ -1,5 +1,5 @@
 //! The net of what a file declares.
-ghost use Rattle.std.specs.Prelude.{◌≡◌, ◌≢◌, ◌≤◌, ◌<◌, ◌⊎◌, [], ◌∷◌, ◌++◌, length, map, string_bytes, All, Contains, IfOk, IfErr, IsErrOf, OnOk};
+ghost use Rattle.std.specs.Prelude.{◌≡◌, ◌≢◌, ◌≤◌, ◌<◌, ◌⊎◌, [], ◌∷◌, ◌++◌, length, map, All, Contains, IfOk, IfErr, IsErrOf, OnOk};
 ghost use Rattle.rg_lexer.specs.Lexeme.{Lexeme};
 ghost use Rattle.rg_theory.specs.System.{labels};
 ghost use Rattle.rg_grammar.specs.Entry.{IsNameOf};
@@ -14,12 +14,12 @@ use crate::fault::NetFault;
 use crate::filling::fill;
 use crate::known::Known;
 use crate::labels::label_numbers;
-use crate::names::{add, number_of, see};
+use crate::names::see;
 use crate::sums::Sums;
-use indexmap::IndexSet;
 use rg_grammar::name_of;
 use rg_lexer::Token;
 use rg_lts::Lts;
+use rg_names::NameList;
 use rg_net::Net;
 use rg_net_grammar::{Found, FoundTransition};
 use std::alloc::Global;
@@ -29,39 +29,35 @@ use std::collections::BTreeSet;
 const PLACE_LIMIT: usize = 16_384;
 
 // Adds the name of a place, which stands at a position.
-fn add_place(
-    alloc: Global,
-    table: &mut IndexSet<String>,
-    name: &str,
-    at: u32,
-) -> Result<(), NetFault>
-    ensures ok { OnOk result (map string_bytes table.new.keys ≡ map string_bytes table.old.keys ++ name.now ∷ []) }
-    ensures absent { OnOk result (¬ Contains (map string_bytes table.old.keys) name.now) }
-    ensures few { OnOk result (length table.old.keys < most_places) }
-    ensures fault { IfErr result (λ f. f ≢ fault.NoMemory → ((f ≡ fault.TwicePlace at) × Contains (map string_bytes table.old.keys) name.now)
-        ⊎ ((f ≡ fault.TooManyPlaces at) × (¬ Contains (map string_bytes table.old.keys) name.now) × (most_places ≤ length table.old.keys))) }
-    ensures memory { IsErrOf result fault.NoMemory → ¬ Contains (map string_bytes table.old.keys) name.now }
-    ensures room { IsErrOf result fault.NoMemory → ¬ (most_places ≤ length table.old.keys) }
+fn add_place(alloc: Global, table: &mut NameList, name: &str, at: u32) -> Result<(), NetFault>
+    ensures ok { OnOk result (table.new ≡ table.old ++ name.now ∷ []) }
+    ensures absent { OnOk result (¬ Contains table.old name.now) }
+    ensures few { OnOk result (length table.old < most_places) }
+    ensures fault { IfErr result (λ f. f ≢ fault.NoMemory → ((f ≡ fault.TwicePlace at) × Contains table.old name.now)
+        ⊎ ((f ≡ fault.TooManyPlaces at) × (¬ Contains table.old name.now) × (most_places ≤ length table.old))) }
+    ensures memory { IsErrOf result fault.NoMemory → ¬ Contains table.old name.now }
+    ensures room { IsErrOf result fault.NoMemory → ¬ (most_places ≤ length table.old) }
 {
-    if let Some(_) = number_of(table, name) {
+    if let Some(_) = table.number_of(name) {
         return Err(NetFault::TwicePlace(at));
     }
     if table.len() >= PLACE_LIMIT {
         return Err(NetFault::TooManyPlaces(at));
     }
-    add(alloc, table, name)
+    table.add(alloc, name)?;
+    Ok(())
 }
 
 // The names of the places.
-fn place_table(alloc: Global, bytes: &[u8], places: &[Token]) -> Result<IndexSet<String>, NetFault>
+fn place_table(alloc: Global, bytes: &[u8], places: &[Token]) -> Result<NameList, NetFault>
     requires { All (IsNameOf bytes.now) places.now }
-    ensures names { IfOk result (λ table. map string_bytes table.keys ≡ map (λ (x : Lexeme). x.text) (places_in bytes.now places.now)) }
-    ensures apart { IfOk result (λ table. AreApart (map string_bytes table.keys)) }
+    ensures names { IfOk result (λ table. table ≡ map (λ (x : Lexeme). x.text) (places_in bytes.now places.now)) }
+    ensures apart { IfOk result (λ table. AreApart table) }
     ensures few { OnOk result (length places.now ≤ most_places) }
     ensures none { OnOk result (AreNone (faults_after place_fault [] (places_in bytes.now places.now))) }
     ensures fault { IfErr result (λ f. f ≢ fault.NoMemory → IsFirst (faults_after place_fault [] (places_in bytes.now places.now)) f) }
 {
-    let mut table = IndexSet::new(alloc);
+    let mut table = NameList::new(alloc, places.len().min(PLACE_LIMIT));
     for place in places {
         add_place(alloc, &mut table, name_of(bytes, *place), place.from)?;
     }
@@ -89,20 +85,19 @@ fn check_transition_names(
     Ok(())
 }
 
-// The names of the transitions, which differ.
+// The names of the transitions.
 fn transition_table(
     alloc: Global,
     bytes: &[u8],
     transitions: &[FoundTransition],
-) -> Result<IndexSet<String>, NetFault>
-    requires names { All (IsTransitionOf bytes.now) transitions.now }
-    requires apart { AreApart (map (λ (t : Transition). t.name.text) (transitions_in bytes.now transitions.now)) }
-    ensures names { IfOk result (λ table. map string_bytes table.keys ≡ map (λ (t : Transition). t.name.text) (transitions_in bytes.now transitions.now)) }
+) -> Result<NameList, NetFault>
+    requires { All (IsTransitionOf bytes.now) transitions.now }
+    ensures names { IfOk result (λ table. table ≡ map (λ (t : Transition). t.name.text) (transitions_in bytes.now transitions.now)) }
     ensures cause { IfErr result (λ f. f ≡ fault.NoMemory) }
 {
-    let mut table = IndexSet::new(alloc);
+    let mut table = NameList::new(alloc, transitions.len());
     for transition in transitions {
-        add(alloc, &mut table, name_of(bytes, transition.name))?;
+        table.add(alloc, name_of(bytes, transition.name))?;
     }
     Ok(table)
 }

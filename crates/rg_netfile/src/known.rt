@@ -1,36 +1,31 @@
 //! The names that flows and markings may use.
-ghost use Rattle.std.specs.Prelude.{◌≡◌, ℕ, ◌<◌, length, Contains, Some, IfSome, IfNone, map, string_bytes, slice_get};
+ghost use Rattle.std.specs.Prelude.{◌≡◌, ℕ, ◌<◌, length, Contains, Some, IfSome, IfNone, slice_get};
 ghost use Rattle.rg_netfile.specs.Built.{KnownNames, IsKnown, HasLabel};
 
-use crate::names::number_of;
-use indexmap::IndexSet;
+use rg_names::NameList;
 use std::marker::Model;
 
 /// The names of places and of transitions, and the number of each transition's label.
 #[derive(Drop)]
 pub(crate) struct Known {
-    places: IndexSet<String>,
-    transitions: IndexSet<String>,
+    places: NameList,
+    transitions: NameList,
     labels: Vec<u32>,
 }
 
 impl Model for Known {
     ghost Value = { KnownNames };
 
-    ghost view = { λ k. record { places = map string_bytes k.places.keys; transitions = map string_bytes k.transitions.keys; labels = k.labels.items } };
+    ghost view = { λ k. record { places = k.places; transitions = k.transitions; labels = k.labels.items } };
 
-    ghost invariant = { λ k. IsKnown (record { places = map string_bytes k.places.keys; transitions = map string_bytes k.transitions.keys; labels = k.labels.items }) };
+    ghost invariant = { λ k. IsKnown (record { places = k.places; transitions = k.transitions; labels = k.labels.items }) };
 }
 
 impl Known {
     /// These names and numbers. Names differ, each transition has a label, and no two have the same.
-    pub(crate) fn new(
-        places: IndexSet<String>,
-        transitions: IndexSet<String>,
-        labels: Vec<u32>,
-    ) -> Known
-        requires { IsKnown (record { places = map string_bytes places.keys; transitions = map string_bytes transitions.keys; labels = labels.items }) }
-        ensures { result ≡ record { places = map string_bytes places.keys; transitions = map string_bytes transitions.keys; labels = labels.items } }
+    pub(crate) fn new(places: NameList, transitions: NameList, labels: Vec<u32>) -> Known
+        requires { IsKnown (record { places = places; transitions = transitions; labels = labels.items }) }
+        ensures { result ≡ record { places = places; transitions = transitions; labels = labels.items } }
     {
         Known {
             places,
@@ -46,7 +41,7 @@ impl Known {
         ensures found { IfSome result (λ i. slice_get self.now.places i ≡ Some name.now) }
         ensures none { IfNone result (¬ Contains self.now.places name.now) }
     {
-        number_of(&self.places, name)
+        self.places.number_of(name)
     }
 
     /// The label's number of the transition with the name.
@@ -55,7 +50,7 @@ impl Known {
         ensures found { IfSome result (HasLabel self.now name.now) }
         ensures none { IfNone result (¬ Contains self.now.transitions name.now) }
     {
-        match number_of(&self.transitions, name) {
+        match self.transitions.number_of(name) {
             Some(i) => Some(self.labels[i]),
             None => None,
         }

@@ -9,6 +9,8 @@ mod family_counts;
 #[cfg(test)]
 mod laws;
 #[cfg(test)]
+mod name_lists;
+#[cfg(test)]
 mod net_items;
 #[cfg(test)]
 mod nets;

@@ -1,4 +1,4 @@
-use Rattle.std.proofs.Common.{◌≡◌, Contains, ◌<◌, ℕ, List, length, get_or, take, map, string_bytes, sym, ap, subst, ◌∙◌, arith}
+use Rattle.std.proofs.Common.{◌≡◌, Contains, ◌<◌, ℕ, List, length, get_or, take, map, sym, ap, subst, ◌∙◌, arith}
 use Rattle.std.proofs.lemmas.Result.{err_from_is_err_and}
 use Rattle.std.proofs.lemmas.List.{get_or_default, length-map, length-take-le}
 use Rattle.rg_lexer.specs.declared.token.Kind.TheVariants.{Name}
@@ -20,9 +20,9 @@ same_read xs i within = get_or_default xs i past_end (get_or xs i past_end) with
 
 pub loop-place-init : goal.loop-place-init
 loop-place-init c = record {
-  names = ap (map string_bytes) c.new-table.ensures.empty;
+  names = c.new-table.ensures;
   few = omega arith;
-  apart = apart_from (ap (map string_bytes) c.new-table.ensures.empty) apart_none;
+  apart = apart_from c.new-table.ensures apart_none;
   left = left_start (lexeme c.args.bytes.now) place_fault c.args.places.now;
 }
 
@@ -35,14 +35,14 @@ returns-in_err-add_place-clause-fault c =
     let within : i < length xs = omega arith in
     let x = get_or xs i past_end in
     let before = places_in bytes (take i xs) in
-    let names = map string_bytes c.loop-place.table.keys in
+    let names = c.loop-place.table in
     let many : length before ≡ i = length-map (take i xs) (lexeme bytes) ∙ length-take-le i xs (omega arith) in
-    let size : length c.loop-place.table.keys ≡ length before =
-    omega (arith, length-map c.loop-place.table.keys string_bytes, ap length c.loop-place.invariant.names, length-map before text_of) in
+    let size : length c.loop-place.table ≡ length before =
+    omega (arith, ap length c.loop-place.invariant.names, length-map before text_of) in
     let f = c.in_err-add_place.field-0.0 in
     rw (p.1, p.2)
     (λ memory. left_first (lexeme bytes) place_fault xs i x f within (same_read xs i within)
-    (place_fault_of before (lexeme bytes x) names c.name_of.result.now f c.loop-place.invariant.names c.name_of.ensures.value (length c.loop-place.table.keys) size
+    (place_fault_of before (lexeme bytes x) names c.name_of.result.now f c.loop-place.invariant.names c.name_of.ensures.value (length c.loop-place.table) size
     (c.in_err-add_place.ensures.fault memory)) c.loop-place.invariant.left)
 
 pub loop-place-preserved : goal.loop-place-preserved
@@ -54,16 +54,16 @@ loop-place-preserved c =
     let x = get_or xs i past_end in
     let before = places_in bytes (take i xs) in
     let more = before_is (lexeme bytes) xs i x within (same_read xs i within) in
-    let absent = subst (λ n. Contains (map string_bytes c.loop-place.table.keys) n → ⊥) c.name_of.ensures.value c.in_ok-add_place.ensures.absent in
+    let absent = subst (λ n. Contains c.loop-place.table n → ⊥) c.name_of.ensures.value c.in_ok-add_place.ensures.absent in
     let many : length before ≡ i = length-map (take i xs) (lexeme bytes) ∙ length-take-le i xs (omega arith) in
     let room : i < most_places =
-    omega (arith, c.in_ok-add_place.ensures.few, length-map c.loop-place.table.keys string_bytes, ap length c.loop-place.invariant.names, length-map before text_of) in
+    omega (arith, c.in_ok-add_place.ensures.few, ap length c.loop-place.invariant.names, length-map before text_of) in
     record {
       names = c.in_ok-add_place.ensures.ok ∙ names_more before (lexeme bytes x) _ _ c.loop-place.invariant.names c.name_of.ensures.value ∙ ap (map text_of) (sym more);
       few = omega arith;
-      apart = apart_from c.in_ok-add_place.ensures.ok (apart_more (map string_bytes c.loop-place.table.keys) c.name_of.result.now c.loop-place.invariant.apart c.in_ok-add_place.ensures.absent);
+      apart = apart_from c.in_ok-add_place.ensures.ok (apart_more c.loop-place.table c.name_of.result.now c.loop-place.invariant.apart c.in_ok-add_place.ensures.absent);
       left = left_more (lexeme bytes) place_fault xs i x within (same_read xs i within)
-          (place_fine before (lexeme bytes x) (map string_bytes c.loop-place.table.keys) c.loop-place.invariant.names absent (omega arith)) c.loop-place.invariant.left;
+          (place_fine before (lexeme bytes x) c.loop-place.table c.loop-place.invariant.names absent (omega arith)) c.loop-place.invariant.left;
     }
 
 pub returns-clause-names : goal.returns-clause-names

@@ -1,4 +1,4 @@
-use Rattle.std.proofs.Common.{◌≡◌, ◌≤◌, map, take, string_bytes}
+use Rattle.std.proofs.Common.{◌≡◌, ◌≤◌, map, take}
 use Rattle.rg_lexer.specs.Lexeme.{Lexeme, lexeme}
 use Rattle.rg_text.proofs.Left.{LeftAt}
 use Rattle.rg_net_grammar.specs.FoundView.{places_in}
@@ -9,8 +9,8 @@ use Rattle.rg_netfile.proofs.building.place_table.Given as goal
 -- the names so far are there, without a fault
 abbrev pub invariant-loop-place : goal.invariant-loop-place
 invariant-loop-place l = record {
-  names : map string_bytes l.table.keys ≡ map (λ (x : Lexeme). x.text) (places_in l.bytes (take l.place-index l.places));
+  names : l.table ≡ map (λ (x : Lexeme). x.text) (places_in l.bytes (take l.place-index l.places));
   few : l.place-index ≤ most_places;
-  apart : AreApart (map string_bytes l.table.keys);
+  apart : AreApart l.table;
   left : LeftAt (lexeme l.bytes) place_fault l.places l.place-index;
 }
