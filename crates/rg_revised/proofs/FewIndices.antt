@@ -1,7 +1,7 @@
 -- A short list of the indices at which numbers aren't 0, made index by index.
-use Rattle.std.proofs.Common.{◌≡◌, ◌≢◌, ⊎_elim, ℕ, ◌+◌, ◌<◌, ◌≤◌, List, length, refl, subst, sym, ◌∙◌, arith, get_or-set_other, get_or-set_same}
+use Rattle.std.proofs.Common.{◌≡◌, ◌≢◌, ⊎_elim, ℕ, ◌+◌, ◌<◌, ◌≤◌, Bool, true, false, if◌then◌else◌, List, length, refl, ap, subst, sym, ◌∙◌, arith, get_or-set_other, get_or-set_same}
 use Rattle.std.proofs.Math.ListN.{set, length-set}
-use Rattle.std.specs.Prelude.{ℤ, pos, slice_index}
+use Rattle.std.specs.Prelude.{ℤ, pos, neg_ℤ, slice_index}
 use Rattle.std.proofs.lemmas.Bool.{cases_lt}
 use Rattle.rg_integers.specs.Sum.{number_at}
 use Rattle.rg_linear.proofs.Members.{equal_or_not}
@@ -45,13 +45,19 @@ few_more numbers indices count n r lt = record {
     last : (k : ℕ) → k ≡ count → slice_index (set indices count n) k ≡ n
     last k e = subst (λ m. slice_index (set indices count n) m ≡ n) (sym e) (get_or-set_same indices count n 0 lt)
 
--- all are listed
-pub all_few : (numbers : List ℤ) (indices : List ℕ) (count n : ℕ) → AreFewBelow numbers indices count n → n ≡ length numbers → AreFew numbers indices count
-all_few numbers indices count n r end = record {
+-- 0 has no other sign
+pub zero_signed : (negative : Bool) (x : ℤ) → x ≡ pos 0 → (if negative then neg_ℤ x else x) ≡ pos 0
+zero_signed true x zero = ap neg_ℤ zero
+zero_signed false x zero = zero
+
+-- all are listed, also where their signs were turned
+pub all_few : (negative : Bool) (old new : List ℤ) (indices : List ℕ) (count n : ℕ) → AreFewBelow old indices count n → n ≡ length old → length new ≡ length old
+    → ((k : ℕ) → k < n → number_at new k ≡ (if negative then neg_ℤ (number_at old k) else number_at old k)) → AreFew new indices count
+all_few negative old new indices count n r end same signed = record {
   room = r.room;
-  inside = λ k lt. subst (λ m. slice_index indices k < m) end (r.inside k lt);
+  inside = λ k lt. subst (λ m. slice_index indices k < m) (end ∙ sym same) (r.inside k lt);
   ordered = r.ordered;
-  all = λ m lt ne. r.all m (subst (λ k. m < k) (sym end) lt) ne;
+  all = λ m lt ne. let less : m < n = omega (arith, same, end, lt) in r.all m less (λ zero. ne (signed m less ∙ zero_signed negative (number_at old m) zero));
 }
 
 -- what holds of each number but one still holds where that one is written

@@ -41,11 +41,16 @@ impl Divisor {
         }
     }
 
+    /// The quotient where there is no rest, and else some number.
+    pub(crate) fn candidate(self, n: i64) -> i64 {
+        n.wrapping_shr(self.twos).wrapping_mul(self.inverse)
+    }
+
     // The quotient that the inverse gives, where it is one.
     fn product_quotient(self, n: i64) -> Option<i64>
         ensures { IfSome result (λ q. self.value *ℤ q ≡ n) }
     {
-        let quotient = n.wrapping_shr(self.twos).wrapping_mul(self.inverse);
+        let quotient = self.candidate(n);
         match self.value.checked_mul(quotient) {
             Some(product) if product == n => Some(quotient),
             _ => None,

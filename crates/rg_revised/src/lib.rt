@@ -21,6 +21,7 @@ mod reading;
 mod revised;
 mod room;
 mod row;
+mod row_factors;
 mod rows;
 mod starting;
 mod step;

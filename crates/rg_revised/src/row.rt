@@ -9,9 +9,7 @@ ghost use Rattle.rg_revised.specs.Few.{AreFew};
 use crate::divisor::Divisor;
 use crate::few::Few;
 use crate::pivot::Pivot;
-
-// A number is short where its size is below this one: 2^31. The product of two short ones fits 64 bits.
-const SHORT: i64 = 2_147_483_648;
+use crate::row_factors::{Factors, difference, is_short};
 
 // a*b - c*d, which is never out of range.
 pub(crate) fn short_term(a: i64, b: i64, c: i64, d: i64) -> i128
@@ -33,25 +31,6 @@ pub(crate) fn keep_in_range(z: i128, most: i64) -> Option<i64>
         return None;
     }
     Some(z as i64)
-}
-
-// Whether the number is short.
-fn is_short(z: i64) -> bool
-    ensures { IsTrue result ↔ (unsigned_abs z < 2 ^ 31) }
-{
-    z < SHORT && z > -SHORT
-}
-
-// a*b - c*d in 64 bits.
-fn difference(a: i64, b: i64, c: i64, d: i64) -> i64
-    requires a { unsigned_abs a < 2 ^ 31 }
-    requires b { unsigned_abs b < 2 ^ 31 }
-    requires c { unsigned_abs c < 2 ^ 31 }
-    requires d { unsigned_abs d < 2 ^ 31 }
-    ensures value { result ≡ (a *ℤ b) -ℤ (c *ℤ d) }
-    ensures above_least { unsigned_abs result < 2 ^ 63 }
-{
-    a * b - c * d
 }
 
 // The number, where its size is at most `most`.
@@ -117,8 +96,9 @@ fn divide_term(a: i64, b: i64, c: i64, d: i64, by: Divisor, most: i64) -> Option
     }
 }
 
-// The same, where the size of `a` is at most `most` already: nothing is computed where it stays.
-fn renew_number(a: i64, b: i64, c: i64, d: i64, by: Divisor, most: i64) -> Option<i64>
+/// The same, where the size of `a` is at most `most` already: nothing is computed where it stays.
+#[inline(never)]
+pub(crate) fn renew_number(a: i64, b: i64, c: i64, d: i64, by: Divisor, most: i64) -> Option<i64>
     requires positive { pos 0 <ℤ by.value }
     requires not_negative { pos 0 ≤ℤ most }
     requires small { unsigned_abs a ≤ unsigned_abs most }
@@ -131,8 +111,8 @@ fn renew_number(a: i64, b: i64, c: i64, d: i64, by: Divisor, most: i64) -> Optio
     divide_term(a, b, c, d, by, most)
 }
 
-// The number, or its negative.
-fn with_sign(z: i64, negative: bool, most: i64) -> i64
+/// The number, or its negative.
+pub(crate) fn with_sign(z: i64, negative: bool, most: i64) -> i64
     requires small { unsigned_abs z ≤ unsigned_abs most }
     requires not_negative { pos 0 ≤ℤ most }
     ensures value { result ≡ (if negative then neg_ℤ z else z) }
@@ -157,10 +137,10 @@ fn renew_each(
     requires within { RowWithin (unsigned_abs most) row.old }
     ensures renewed { IsTrue result → RowRenewed pivot.now row.old row.new p negative d.value (unsigned_abs most) }
 {
-    let size = pivot[p];
     let leaving = row[p];
+    let factors = Factors::new(pivot[p], leaving, d, most);
     for n in 0..row.len() {
-        match renew_number(row[n], size, pivot[n], leaving, d, most) {
+        match factors.renewed(row[n], pivot[n]) {
             Some(q) => row[n] = q,
             None => return false,
         }
@@ -205,9 +185,10 @@ fn renew_few(row: &mut [i64], few: &Few, pivot: &[i64], leaving: i64, d: Divisor
     ensures renewed { IsTrue result → (n : ℕ) → n < length row.old → d.value *ℤ number_at row.new n ≡ (number_at row.old n *ℤ d.value) -ℤ (number_at pivot.now n *ℤ leaving) }
     ensures within { IsTrue result → RowWithin (unsigned_abs most) row.new }
 {
+    let factors = Factors::new(d.value, leaving, d, most);
     for k in 0..few.count {
         let n = few.indices[k];
-        match divide_term(row[n], d.value, pivot[n], leaving, d, most) {
+        match factors.renewed(row[n], pivot[n]) {
             Some(q) => row[n] = q,
             None => return false,
         }
@@ -217,21 +198,21 @@ fn renew_few(row: &mut [i64], few: &Few, pivot: &[i64], leaving: i64, d: Divisor
 
 /// As `renew_row`, where the pivot's number at its index is the denominator and few of its numbers aren't 0: the others of the
 /// row stay.
-pub(crate) fn renew_row_at(row: &mut [i64], pivot: &Pivot, few: &Few, d: Divisor, most: i64) -> bool
+pub(crate) fn renew_row_at(row: &mut [i64], pivot: &Pivot, d: Divisor, most: i64) -> bool
     requires same_length { length pivot.now.numbers.now ≡ length row.old }
     requires index { pivot.now.p < length row.old }
     requires size { number_at pivot.now.numbers.now pivot.now.p ≡ d.value }
     requires positive { pos 0 <ℤ d.value }
     requires not_negative { pos 0 ≤ℤ most }
     requires within { RowWithin (unsigned_abs most) row.old }
-    requires few { AreFew pivot.now.numbers.now few.now.indices few.now.count }
+    requires few { AreFew pivot.now.numbers.now pivot.now.few.now.indices pivot.now.few.now.count }
     ensures renewed { IsTrue result → RowRenewed pivot.now.numbers.now row.old row.new pivot.now.p pivot.now.negative d.value (unsigned_abs most) }
 {
     let leaving = row[pivot.p];
     if leaving == 0 {
         return true;
     }
-    if !renew_few(row, few, pivot.numbers, leaving, d, most) {
+    if !renew_few(row, pivot.few, pivot.numbers, leaving, d, most) {
         return false;
     }
     row[pivot.p] = with_sign(leaving, pivot.negative, most);

@@ -7,7 +7,6 @@ ghost use Rattle.rg_revised.specs.Few.{AreFew};
 ghost use Rattle.rg_revised.specs.Starting.{AreUnitWhereUnchanged};
 
 use crate::divisor::Divisor;
-use crate::few::{Few, list_few};
 use crate::pivot::Pivot;
 use crate::row::{renew_row, renew_row_at};
 
@@ -25,6 +24,7 @@ pub(crate) fn renew_table(
     requires width { length pivot.now.numbers.now ≡ length changed.old + 1 }
     requires size { length table.old ≡ length changed.old * length pivot.now.numbers.now }
     requires index { pivot.now.p < length changed.old }
+    requires few { IsTrue pivot.now.listed → AreFew pivot.now.numbers.now pivot.now.few.now.indices pivot.now.few.now.count }
     requires positive { pos 0 <ℤ d.value }
     requires not_negative { pos 0 ≤ℤ most }
     requires within { TableWithin (length pivot.now.numbers.now) (length changed.old) (unsigned_abs most) table.old }
@@ -35,10 +35,8 @@ pub(crate) fn renew_table(
     ensures same_length { length changed.new ≡ length changed.old }
 {
     change_rows(changed, pivot, d);
-    if pivot.numbers[pivot.p] == d.value {
-        if let Some(few) = list_few(pivot.numbers) {
-            return renew_rows_at(table, changed, pivot, &few, d, most);
-        }
+    if pivot.listed && pivot.numbers[pivot.p] == d.value {
+        return renew_rows_at(table, changed, pivot, d, most);
     }
     renew_rows(table, changed, pivot, d, most)
 }
@@ -105,21 +103,14 @@ fn renew_rows(table: &mut [i64], changed: &[bool], pivot: &Pivot, d: Divisor, mo
 }
 
 // The same where few of the pivot's numbers aren't 0: each row is renewed at these alone.
-fn renew_rows_at(
-    table: &mut [i64],
-    changed: &[bool],
-    pivot: &Pivot,
-    few: &Few,
-    d: Divisor,
-    most: i64,
-) -> bool
+fn renew_rows_at(table: &mut [i64], changed: &[bool], pivot: &Pivot, d: Divisor, most: i64) -> bool
     requires length { length table.old ≡ length changed.now * length pivot.now.numbers.now }
     requires index { pivot.now.p < length pivot.now.numbers.now }
     requires size { number_at pivot.now.numbers.now pivot.now.p ≡ d.value }
     requires positive { pos 0 <ℤ d.value }
     requires not_negative { pos 0 ≤ℤ most }
     requires within { TableWithin (length pivot.now.numbers.now) (length changed.now) (unsigned_abs most) table.old }
-    requires few { AreFew pivot.now.numbers.now few.now.indices few.now.count }
+    requires few { AreFew pivot.now.numbers.now pivot.now.few.now.indices pivot.now.few.now.count }
     requires unit { AreUnitWhereUnchanged (length pivot.now.numbers.now) changed.now table.old }
     requires leaving { get_or changed.now pivot.now.p true ≡ true }
     ensures renewed { IsTrue result → TableRenewed (length pivot.now.numbers.now) pivot.now.numbers.now table.old table.new
@@ -130,7 +121,7 @@ fn renew_rows_at(
     for t in 0..changed.len() {
         if changed[t] {
             let start = t * width;
-            if !renew_row_at(&mut table[start..start + width], pivot, few, d, most) {
+            if !renew_row_at(&mut table[start..start + width], pivot, d, most) {
                 return false;
             }
         }

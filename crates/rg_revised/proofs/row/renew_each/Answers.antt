@@ -23,13 +23,14 @@ loop-n-preserved c =
     let m = to_z-of_z w64 c.args.most fm in
     let lt : c.loop-n.n < length c.loop-n.row = omega arith in
     let same = c.loop-n.invariant.left c.loop-n.n (le_refl c.loop-n.n) in
-    let is = rw (x, y, p, l, same) at c.in-Some.ensures.value in
-    let small = rw m at c.in-Some.ensures.within in
-    let done = rw (p, l) at c.loop-n.invariant.done in
+    let f = c.new-factors.ensures in
+    let is = rw (x, y, f.0, f.1, f.2, p, l, same) at c.in-Some.ensures.value in
+    let small = rw (f.3, m) at c.in-Some.ensures.within in
+    let done = rw l at c.loop-n.invariant.done in
     let within = rw m at c.loop-n.invariant.within in
     record {
       same_length = length-set c.loop-n.row c.loop-n.n _ ∙ c.loop-n.invariant.same_length;
-      done = rw (p, l, q)
+      done = rw (l, q)
           (below_set (λ k z. c.args.d.value *ℤ z ≡ (number_at c.args.row.now k *ℤ number_at c.args.pivot.now c.args.p) -ℤ (number_at c.args.pivot.now k *ℤ number_at c.args.row.now c.args.p))
           c.loop-n.row c.loop-n.n c.in-Some.q lt done is);
       left = λ k ge. let ne : k ≢ c.loop-n.n = omega arith in get_or-set_other c.loop-n.row c.loop-n.n k _ (pos 0) ne ∙ c.loop-n.invariant.left k (omega arith);
@@ -47,7 +48,7 @@ returns c =
     let m = to_z-of_z w64 c.args.most fm in
     let z = to_z-of_z w64 c.with_sign.result fz in
     let end : length c.args.row.now ≤ c.loop-n.n = omega arith in
-    let done = rw (p, l) at c.loop-n.invariant.done in
+    let done = rw l at c.loop-n.invariant.done in
     let within = rw m at c.loop-n.invariant.within in
     let is = rw l at c.with_sign.ensures.value in
     let small = rw m at c.with_sign.ensures.within in

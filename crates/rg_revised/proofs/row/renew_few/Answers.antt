@@ -31,8 +31,9 @@ loop-k-preserved c =
     let d = to_z-of_z w64 c.args.d.value fd in
     let r = rw (l, m) at c.loop-k.invariant in
     let same = r.left c.loop-k.k (le_refl c.loop-k.k) c.loop-k-test.true in
-    let is = rw (x, y, l, d, same) at c.in-Some.ensures.value in
-    let small = rw m at c.in-Some.ensures.within in
+    let f = c.new-factors.ensures in
+    let is = rw (x, y, f.0, f.1, f.2, l, d, same) at c.in-Some.ensures.value in
+    let small = rw (f.3, m) at c.in-Some.ensures.within in
     rw (l, m, q) (more_renewed c.args.pivot.now c.args.row.now c.loop-k.row c.args.d.value c.args.leaving (unsigned_abs c.args.most) c.args.few.now.indices c.args.few.now.count c.loop-k.k
     c.in-Some.q c.requires.few c.requires.same_length r c.loop-k-test.true is small)
 

@@ -3,7 +3,7 @@ use Rattle.std.specs.Prelude.{◌*ℤ◌, ◌-ℤ◌, unsigned_abs}
 use Rattle.std.specs.Int.{w64}
 use Rattle.std.proofs.lemmas.Int.{to_z-of_z}
 use Rattle.rg_revised.proofs.Products.{short_product, short_difference, fits_short}
-use Rattle.rg_revised.proofs.row.difference.Goals as goal
+use Rattle.rg_revised.proofs.row_factors.difference.Goals as goal
 
 pub overflow_sub-result : goal.overflow_sub-result
 overflow_sub-result c =
