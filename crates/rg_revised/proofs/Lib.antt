@@ -29,7 +29,9 @@ pub mod Primitives
 pub mod WalkStates
 pub mod FewIndices
 pub mod FewRenewed
+pub mod FewAdded
 pub mod Telling
 pub mod LongRows
 pub mod Crossed
 pub mod Advancing
+pub mod Supported

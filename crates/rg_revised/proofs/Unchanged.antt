@@ -11,6 +11,8 @@ use Rattle.rg_linear.specs.Table.{row_at}
 use Rattle.rg_linear.proofs.Members.{differs}
 use Rattle.rg_linear.proofs.TableRows.{row_other, length-row}
 use Rattle.rg_revised.specs.Rows.{RowWithin, RowRenewed, TableWithin, TableRenewed}
+use Rattle.rg_revised.specs.Supports.{AreSupports}
+use Rattle.rg_revised.specs.declared.support.Support.{Support}
 use Rattle.rg_revised.specs.Starting.{IsUnitRow, IsUnitTable, AreUnitWhereUnchanged, IsKept}
 
 true_or_false : (b : Bool) → b ≡ true → b ≡ false → ⊥
@@ -100,10 +102,12 @@ unit_again width changed table row t n k size lt is same left v le less isnt = s
 
 -- ---- the invariant
 
-pub kept : (slots : List ℕ) (d : ℤ) (table : List ℤ) (changed : List Bool) (n : ℕ) → length slots ≡ n → n < 2 ^ 32 → length table ≡ n * (n + 1) → length changed ≡ n
-    → AreUnitWhereUnchanged (n + 1) changed table → IsKept (record { slots = slots; d = d; table = table }) changed
-kept slots d table changed n count few size each unit = record {
+pub kept : (slots : List ℕ) (d : ℤ) (table : List ℤ) (changed : List Bool) (supports : List Support) (n : ℕ) → length slots ≡ n → n < 2 ^ 32 → length table ≡ n * (n + 1) → length changed ≡ n
+    → AreUnitWhereUnchanged (n + 1) changed table → length supports ≡ n → AreSupports (n + 1) table supports → IsKept (record { slots = slots; d = d; table = table }) changed supports
+kept slots d table changed supports n count few size each unit support known = record {
   shape = record { few = subst (λ k. k < 2 ^ 32) (sym count) few; size = size ∙ ap (λ k. k * (k + 1)) (sym count) };
   count = each ∙ sym count;
   unit = subst (λ k. AreUnitWhereUnchanged (k + 1) changed table) (sym count) unit;
+  known_count = support ∙ sym count;
+  known = subst (λ k. AreSupports (k + 1) table supports) (sym count) known;
 }

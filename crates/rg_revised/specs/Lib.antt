@@ -6,6 +6,7 @@ pub mod Long
 pub mod Held
 pub mod Reading
 pub mod State
+pub mod Supports
 pub mod Ending
 pub mod Starting
 pub mod View

@@ -25,6 +25,7 @@ mod row_factors;
 mod rows;
 mod starting;
 mod step;
+mod support;
 mod table;
 mod tableau;
 mod value;

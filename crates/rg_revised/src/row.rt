@@ -5,11 +5,13 @@ ghost use Rattle.rg_integers.specs.Range.{InRange};
 ghost use Rattle.rg_integers.specs.Sum.{number_at};
 ghost use Rattle.rg_revised.specs.Rows.{RowWithin, RowRenewed};
 ghost use Rattle.rg_revised.specs.Few.{AreFew};
+ghost use Rattle.rg_revised.specs.Supports.{IsSupport};
 
 use crate::divisor::Divisor;
 use crate::few::Few;
 use crate::pivot::Pivot;
 use crate::row_factors::{Factors, difference, is_short};
+use crate::support::Support;
 
 // a*b - c*d, which is never out of range.
 pub(crate) fn short_term(a: i64, b: i64, c: i64, d: i64) -> i128
@@ -149,29 +151,29 @@ fn renew_each(
     true
 }
 
-/// The row after the exchange of the pivot with the member at index `p`: `pivot` is the pivot's row with the sign at which its
-/// number at `p` is positive, and `negative` says that it was turned for that. False where a number is larger than `most` or
-/// isn't a multiple of `d`; then nothing is said of the row.
+/// Makes the row that after the exchange of the pivot with the member at its index. Its support is forgotten, unless the row stays.
+/// False where a number is larger than `most` or isn't a multiple of `d`; then nothing is said of the row.
 pub(crate) fn renew_row(
     row: &mut [i64],
-    pivot: &[i64],
-    p: usize,
-    negative: bool,
+    support: &mut Support,
+    pivot: &Pivot,
     d: Divisor,
     most: i64,
 ) -> bool
-    requires same_length { length pivot.now ≡ length row.old }
-    requires index { p < length row.old }
+    requires same_length { length pivot.now.numbers.now ≡ length row.old }
+    requires index { pivot.now.p < length row.old }
     requires positive { pos 0 <ℤ d.value }
     requires not_negative { pos 0 ≤ℤ most }
     requires within { RowWithin (unsigned_abs most) row.old }
-    ensures renewed { IsTrue result → RowRenewed pivot.now row.old row.new p negative d.value (unsigned_abs most) }
+    ensures renewed { IsTrue result → RowRenewed pivot.now.numbers.now row.old row.new pivot.now.p pivot.now.negative d.value (unsigned_abs most) }
+    ensures support { IsSupport row.old support.old → IsSupport row.new support.new }
 {
-    let size = pivot[p];
-    if row[p] == 0 && size == d.value {
+    let size = pivot.numbers[pivot.p];
+    if row[pivot.p] == 0 && size == d.value {
         return true;
     }
-    renew_each(row, pivot, p, negative, d, most)
+    support.forget();
+    renew_each(row, pivot.numbers, pivot.p, pivot.negative, d, most)
 }
 
 // The numbers of the row at the listed indices after an exchange whose pivot has the denominator at its own index.
@@ -198,7 +200,13 @@ fn renew_few(row: &mut [i64], few: &Few, pivot: &[i64], leaving: i64, d: Divisor
 
 /// As `renew_row`, where the pivot's number at its index is the denominator and few of its numbers aren't 0: the others of the
 /// row stay.
-pub(crate) fn renew_row_at(row: &mut [i64], pivot: &Pivot, d: Divisor, most: i64) -> bool
+pub(crate) fn renew_row_at(
+    row: &mut [i64],
+    support: &mut Support,
+    pivot: &Pivot,
+    d: Divisor,
+    most: i64,
+) -> bool
     requires same_length { length pivot.now.numbers.now ≡ length row.old }
     requires index { pivot.now.p < length row.old }
     requires size { number_at pivot.now.numbers.now pivot.now.p ≡ d.value }
@@ -207,11 +215,13 @@ pub(crate) fn renew_row_at(row: &mut [i64], pivot: &Pivot, d: Divisor, most: i64
     requires within { RowWithin (unsigned_abs most) row.old }
     requires few { AreFew pivot.now.numbers.now pivot.now.few.now.indices pivot.now.few.now.count }
     ensures renewed { IsTrue result → RowRenewed pivot.now.numbers.now row.old row.new pivot.now.p pivot.now.negative d.value (unsigned_abs most) }
+    ensures support { IsSupport row.old support.old → IsSupport row.new support.new }
 {
     let leaving = row[pivot.p];
     if leaving == 0 {
         return true;
     }
+    support.forget();
     if !renew_few(row, pivot.few, pivot.numbers, leaving, d, most) {
         return false;
     }

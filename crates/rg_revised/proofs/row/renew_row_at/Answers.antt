@@ -24,4 +24,8 @@ returns c =
           (λ k lt. subst (λ q. c.args.d.value *ℤ number_at c.renew_few.new.row k
           ≡ (number_at c.args.row.now k *ℤ q) -ℤ (number_at c.args.pivot.now.numbers.now k *ℤ number_at c.args.row.now c.args.pivot.now.p)) (sym c.requires.size) (done k lt))
           within is small);
+      support = λ before. c.forget.ensures _;
     }
+
+pub returns-then-not-renew_few-clause-support : goal.returns-then-not-renew_few-clause-support
+returns-then-not-renew_few-clause-support c = λ before. c.forget.ensures c.renew_few.new.row

@@ -7,6 +7,7 @@ use Rattle.std.proofs.lemmas.List.{get_or_default, with_items_is}
 use Rattle.rg_integers.specs.Sum.{number_at}
 use Rattle.rg_revised.specs.Rows.{TableRenewed}
 use Rattle.rg_revised.specs.Held.{IsPivot}
+use Rattle.rg_revised.specs.declared.support.Support.{Support}
 use Rattle.rg_revised.specs.View.{BasisState}
 use Rattle.rg_linear.specs.System.{LinearSystem}
 use Rattle.rg_revised.specs.State.{IsExchangeOf, IsSmallHeld}
@@ -26,7 +27,18 @@ renew_table-requires c =
     let width : length c.turn_and_list-turned.new.numbers ≡ length c.self.inside.slots.items + 1 =
     signed.same_length ∙ c.requires.width ∙ ap (λ (b : BasisState). length b.slots + 1) (sym c.self.view_is) in
     let lt = subst (λ (b : BasisState). c.args.p < length b.slots) (sym c.self.view_is) c.requires.index in
-    rw (c.new.ensures, to_z-of_z w64 c.self.inside.d fd, to_z-of_z w64 c.args.most fm, pv, width, c.deref_mut-2.ensures.value, c.deref_mut-3.ensures.value, c.self.invariant.count) (record {
+    rw (
+      c.new.ensures,
+      to_z-of_z w64 c.self.inside.d fd,
+      to_z-of_z w64 c.args.most fm,
+      pv,
+      width,
+      c.deref_mut-2.ensures.value,
+      c.deref_mut-3.ensures.value,
+      c.deref_mut-4.ensures.value,
+      c.self.invariant.count,
+    ) (record {
+      supports = c.self.invariant.known_count;
       width = refl;
       size = c.self.invariant.shape.size;
       index = lt;
@@ -77,10 +89,14 @@ invariant_of-self c =
     signed.same_length ∙ c.requires.width ∙ ap (λ (b : BasisState). length b.slots + 1) (sym c.self.view_is) in
     let table = with_items_is c.self.inside.table c.renew_table.new.table (c.renew_table.auto.table ∙ c.deref_mut-2.ensures.len) in
     let changed = with_items_is c.self.inside.changed c.renew_table.new.changed (c.renew_table.auto.changed ∙ c.deref_mut-3.ensures.len) in
-    rw (table, changed) (kept c.self.inside.slots.items c.self.inside.d c.renew_table.new.table c.renew_table.new.changed (length c.self.inside.slots.items) refl c.self.invariant.shape.few
+    let supports = with_items_is c.self.inside.supports c.renew_table.new.supports (c.renew_table.auto.supports ∙ c.deref_mut-4.ensures.len) in
+    rw (table, changed, supports) (kept c.self.inside.slots.items c.self.inside.d c.renew_table.new.table c.renew_table.new.changed c.renew_table.new.supports
+    (length c.self.inside.slots.items) refl c.self.invariant.shape.few
     (c.renew_table.auto.table ∙ ap (λ (xs : List ℤ). length xs) c.deref_mut-2.ensures.value ∙ c.self.invariant.shape.size)
     (c.renew_table.auto.changed ∙ ap (λ (xs : List Bool). length xs) c.deref_mut-3.ensures.value ∙ c.self.invariant.count)
-    (rw (pv, width) at c.renew_table.ensures.unit))
+    (rw (pv, width) at c.renew_table.ensures.unit)
+    (c.renew_table.auto.supports ∙ ap (λ (xs : List Support). length xs) c.deref_mut-4.ensures.value ∙ c.self.invariant.known_count)
+    ((rw (pv, width, c.deref_mut-2.ensures.value, c.deref_mut-4.ensures.value) at c.renew_table.ensures.supports) c.self.invariant.known))
 
 pub invariant_of-self-2 : goal.invariant_of-self-2
 invariant_of-self-2 c =
@@ -91,8 +107,11 @@ invariant_of-self-2 c =
     signed.same_length ∙ c.requires.width ∙ ap (λ (b : BasisState). length b.slots + 1) (sym c.self.view_is) in
     let table = with_items_is c.self.inside.table c.renew_table.new.table (c.renew_table.auto.table ∙ c.deref_mut-2.ensures.len) in
     let changed = with_items_is c.self.inside.changed c.renew_table.new.changed (c.renew_table.auto.changed ∙ c.deref_mut-3.ensures.len) in
-    rw (table, changed) (kept (set c.self.inside.slots.items c.args.p c.args.variable) _ c.renew_table.new.table c.renew_table.new.changed
+    let supports = with_items_is c.self.inside.supports c.renew_table.new.supports (c.renew_table.auto.supports ∙ c.deref_mut-4.ensures.len) in
+    rw (table, changed, supports) (kept (set c.self.inside.slots.items c.args.p c.args.variable) _ c.renew_table.new.table c.renew_table.new.changed c.renew_table.new.supports
     (length c.self.inside.slots.items) (length-set c.self.inside.slots.items c.args.p c.args.variable) c.self.invariant.shape.few
     (c.renew_table.auto.table ∙ ap (λ (xs : List ℤ). length xs) c.deref_mut-2.ensures.value ∙ c.self.invariant.shape.size)
     (c.renew_table.auto.changed ∙ ap (λ (xs : List Bool). length xs) c.deref_mut-3.ensures.value ∙ c.self.invariant.count)
-    (rw (pv, width) at c.renew_table.ensures.unit))
+    (rw (pv, width) at c.renew_table.ensures.unit)
+    (c.renew_table.auto.supports ∙ ap (λ (xs : List Support). length xs) c.deref_mut-4.ensures.value ∙ c.self.invariant.known_count)
+    ((rw (pv, width, c.deref_mut-2.ensures.value, c.deref_mut-4.ensures.value) at c.renew_table.ensures.supports) c.self.invariant.known))

@@ -8,6 +8,7 @@ use Rattle.rg_integers.proofs.Casts.{back}
 use Rattle.rg_fraction.specs.Rows.{IsPrimitivePart}
 use Rattle.rg_revised.specs.Rows.{RowWithin}
 use Rattle.rg_revised.specs.Long.{TableCrossed}
+use Rattle.rg_revised.specs.declared.support.Support.{Support}
 use Rattle.rg_revised.specs.View.{BasisState}
 use Rattle.rg_revised.specs.State.{IsLongExchangeOf}
 use Rattle.rg_revised.proofs.States.{written_back}
@@ -53,7 +54,7 @@ returns-in-Some-clause-exchanged c =
     let (g, whole) = c.reduce.ensures.part in
     let part : IsPrimitivePart ((c.self.inside.d *ℤ number_at c.turn-negative.new.numbers c.args.p) ∷ c.cross_table.new.crossed) c.reduce.new.q g =
     rw (back c.product.result c.product.ensures.in_range, is, d) at whole in
-    let same : length c.narrow.new.numbers ≡ length c.self.inside.table.items = c.in-Some.ensures.same_length ∙ ap (λ (xs : List ℤ). length xs) c.deref_mut-2.ensures.value in
+    let same : length c.narrow.new.numbers ≡ length c.self.inside.table.items = c.in-Some.ensures.same_length ∙ ap (λ (xs : List ℤ). length xs) c.deref_mut-3.ensures.value in
     let table = written_back c.self.inside.table.len c.narrow.new.numbers (drop (length c.narrow.new.numbers) c.self.inside.table.items) (same ∙ sym c.self.inside.table.ok.0) in
     rw (to_z-of_z w64 c.in-Some.d fz, table) (λ yes. subst
     (λ (b : BasisState). IsLongExchangeOf b c.args.numbers.now c.args.over c.args.p c.args.variable
@@ -65,27 +66,34 @@ returns-in-Some-clause-exchanged c =
 
 pub returns-in-Some-clause-small : goal.returns-in-Some-clause-small
 returns-in-Some-clause-small c =
-    let same : length c.narrow.new.numbers ≡ length c.self.inside.table.items = c.in-Some.ensures.same_length ∙ ap (λ (xs : List ℤ). length xs) c.deref_mut-2.ensures.value in
+    let same : length c.narrow.new.numbers ≡ length c.self.inside.table.items = c.in-Some.ensures.same_length ∙ ap (λ (xs : List ℤ). length xs) c.deref_mut-3.ensures.value in
     let table = written_back c.self.inside.table.len c.narrow.new.numbers (drop (length c.narrow.new.numbers) c.self.inside.table.items) (same ∙ sym c.self.inside.table.ok.0) in
     λ yes. subst (RowWithin (2 ^ 63 - 1)) (sym table) c.in-Some.ensures.narrowed.small
 
 pub invariant_of-self : goal.invariant_of-self
 invariant_of-self c =
-    let table = with_items_is c.self.inside.table c.narrow.new.numbers (c.narrow.auto.numbers ∙ c.deref_mut-2.ensures.len) in
+    let table = with_items_is c.self.inside.table c.narrow.new.numbers (c.narrow.auto.numbers ∙ c.deref_mut-3.ensures.len) in
     let changed = with_items_is c.self.inside.changed c.change_all.new.changed (c.change_all.auto.changed ∙ c.deref_mut.ensures.len) in
-    rw (table, changed) (kept (set c.self.inside.slots.items c.args.p c.args.variable) _ c.narrow.new.numbers c.change_all.new.changed
+    let supports = with_items_is c.self.inside.supports c.forget_supports.new.supports (c.forget_supports.auto.supports ∙ c.deref_mut-2.ensures.len) in
+    rw (table, changed, supports) (kept (set c.self.inside.slots.items c.args.p c.args.variable) _ c.narrow.new.numbers c.change_all.new.changed c.forget_supports.new.supports
     (length c.self.inside.slots.items) (length-set c.self.inside.slots.items c.args.p c.args.variable) c.self.invariant.shape.few
-    (c.narrow.auto.numbers ∙ ap (λ (xs : List ℤ). length xs) c.deref_mut-2.ensures.value ∙ c.self.invariant.shape.size)
+    (c.narrow.auto.numbers ∙ ap (λ (xs : List ℤ). length xs) c.deref_mut-3.ensures.value ∙ c.self.invariant.shape.size)
     (c.change_all.auto.changed ∙ ap (λ (xs : List Bool). length xs) c.deref_mut.ensures.value ∙ c.self.invariant.count)
     (all_changed (length c.self.inside.slots.items + 1) c.change_all.new.changed c.narrow.new.numbers
-    (λ t lt. c.change_all.ensures.all t (subst (λ n. t < n) c.change_all.ensures.same_length lt))))
+    (λ t lt. c.change_all.ensures.all t (subst (λ n. t < n) c.change_all.ensures.same_length lt)))
+    (c.forget_supports.auto.supports ∙ ap (λ (xs : List Support). length xs) c.deref_mut-2.ensures.value ∙ c.self.invariant.known_count)
+    (c.forget_supports.ensures (length c.self.inside.slots.items + 1) c.narrow.new.numbers))
 
 pub invariant_of-self-in-None : goal.invariant_of-self-in-None
 invariant_of-self-in-None c =
-    let table = with_items_is c.self.inside.table c.narrow.new.numbers (c.narrow.auto.numbers ∙ c.deref_mut-2.ensures.len) in
+    let table = with_items_is c.self.inside.table c.narrow.new.numbers (c.narrow.auto.numbers ∙ c.deref_mut-3.ensures.len) in
     let changed = with_items_is c.self.inside.changed c.change_all.new.changed (c.change_all.auto.changed ∙ c.deref_mut.ensures.len) in
-    rw (table, changed) (kept c.self.inside.slots.items c.self.inside.d c.narrow.new.numbers c.change_all.new.changed (length c.self.inside.slots.items) refl c.self.invariant.shape.few
-    (c.narrow.auto.numbers ∙ ap (λ (xs : List ℤ). length xs) c.deref_mut-2.ensures.value ∙ c.self.invariant.shape.size)
+    let supports = with_items_is c.self.inside.supports c.forget_supports.new.supports (c.forget_supports.auto.supports ∙ c.deref_mut-2.ensures.len) in
+    rw (table, changed, supports) (kept c.self.inside.slots.items c.self.inside.d c.narrow.new.numbers c.change_all.new.changed c.forget_supports.new.supports
+    (length c.self.inside.slots.items) refl c.self.invariant.shape.few
+    (c.narrow.auto.numbers ∙ ap (λ (xs : List ℤ). length xs) c.deref_mut-3.ensures.value ∙ c.self.invariant.shape.size)
     (c.change_all.auto.changed ∙ ap (λ (xs : List Bool). length xs) c.deref_mut.ensures.value ∙ c.self.invariant.count)
     (all_changed (length c.self.inside.slots.items + 1) c.change_all.new.changed c.narrow.new.numbers
-    (λ t lt. c.change_all.ensures.all t (subst (λ n. t < n) c.change_all.ensures.same_length lt))))
+    (λ t lt. c.change_all.ensures.all t (subst (λ n. t < n) c.change_all.ensures.same_length lt)))
+    (c.forget_supports.auto.supports ∙ ap (λ (xs : List Support). length xs) c.deref_mut-2.ensures.value ∙ c.self.invariant.known_count)
+    (c.forget_supports.ensures (length c.self.inside.slots.items + 1) c.narrow.new.numbers))

@@ -12,4 +12,4 @@ returns-clause-read c = λ system members i is row.
     let fd : FitsSigned w64 c.d-self-inside.result = search rules in
     let at = subst (IsTableauOf system members) (sym c.self.view_is) is in
     let read = rw (to_z-of_z w128 c.args.constant fk) at c.read.ensures.read in
-    rw (to_z-of_z w64 c.d-self-inside.result fd, c.d-self-inside.ensures, ← c.self.view_is) (short_read system members _ i _ _ at row c.read.new.numbers.items read)
+    rw (to_z-of_z w64 c.d-self-inside.result fd, c.d-self-inside.ensures, c.read.ensures.same, ← c.self.view_is) (short_read system members _ i _ _ at row c.read.new.numbers.items read)

@@ -17,14 +17,14 @@ exchange-requires-clause-held c =
     let fm : FitsSigned w64 c.self.inside.most = search rules in
     let (system, is, lt, coeffs, constant) = c.requires.whole in
     let at = subst (IsWalkOf system) (sym c.self.view_is) is in
-    rw (to_z-of_z w64 c.self.inside.most fm) (system, c.self.inside.members.variables.items, at.held)
+    rw (to_z-of_z w64 c.self.inside.most fm, c.read.ensures.same) (system, c.self.inside.members.variables.items, at.held)
 
 pub replace-requires-clause-member : goal.replace-requires-clause-member
 replace-requires-clause-member c =
     let (system, is, lt, coeffs, constant) = c.requires.whole in
-    let named = rw (c.columns-columns.ensures, c.slots.ensures, c.deref-2.ensures.value) at c.in-Some.ensures.is in
+    let named = rw (c.columns-columns.ensures, c.slots.ensures, c.deref-2.ensures.value, c.read.ensures.same) at c.in-Some.ensures.is in
     let t = takes _ _ _ _ _ c.self.view_is refl is lt coeffs constant c.requires.each c.requires.ahead in
-    rw c.slots-2.ensures (walk_leaves _ _ _ _ t _ c.read.ensures.read c.in-Some.p named)
+    rw (c.slots-2.ensures, c.read.ensures.same) (walk_leaves _ _ _ _ t _ c.read.ensures.read c.in-Some.p named)
 
 pub replace-requires-clause-last : goal.replace-requires-clause-last
 replace-requires-clause-last c =
@@ -41,17 +41,17 @@ returns-then-not-has_column-clause-told c = λ system is lt coeffs constant.
 
 pub returns-in_default-clause-told : goal.returns-in_default-clause-told
 returns-in_default-clause-told c = λ system is lt coeffs constant.
-    let none = rw (c.columns-columns.ensures, c.slots.ensures, c.deref-2.ensures.value) at c.in_default.ensures.none in
+    let none = rw (c.columns-columns.ensures, c.slots.ensures, c.deref-2.ensures.value, c.read.ensures.same) at c.in_default.ensures.none in
     let t = takes _ _ _ _ _ c.self.view_is refl is lt coeffs constant c.requires.each c.requires.ahead in
-    rw (← c.self.view_is) (walk_passes _ _ _ _ t _ c.read.ensures.read none)
+    rw (c.read.ensures.same, ← c.self.view_is) (walk_passes _ _ _ _ t _ c.read.ensures.read none)
 
 pub returns-clause-told : goal.returns-clause-told
 returns-clause-told c = λ system is lt coeffs constant.
     let fm : FitsSigned w64 c.self.inside.most = search rules in
-    let named = rw (c.columns-columns.ensures, c.slots.ensures, c.deref-2.ensures.value) at c.in-Some.ensures.is in
-    let least = rw (c.columns-columns.ensures, c.slots.ensures, c.deref-2.ensures.value) at c.in-Some.ensures.least in
-    let exchange = rw (to_z-of_z w64 c.self.inside.most fm, c.columns-columns.ensures) at c.if-not-exchange.ensures.exchanged refl in
-    let members = rw (c.slots-2.ensures, c.columns-columns.ensures) at c.replace.ensures.exchanged in
+    let named = rw (c.columns-columns.ensures, c.slots.ensures, c.deref-2.ensures.value, c.read.ensures.same) at c.in-Some.ensures.is in
+    let least = rw (c.columns-columns.ensures, c.slots.ensures, c.deref-2.ensures.value, c.read.ensures.same) at c.in-Some.ensures.least in
+    let exchange = rw (to_z-of_z w64 c.self.inside.most fm, c.columns-columns.ensures, c.read.ensures.same) at c.if-not-exchange.ensures.exchanged refl in
+    let members = rw (c.slots-2.ensures, c.columns-columns.ensures, c.read.ensures.same) at c.replace.ensures.exchanged in
     let t = takes _ _ _ _ _ c.self.view_is refl is lt coeffs constant c.requires.each c.requires.ahead in
     rw (← c.self.view_is) (walk_exchanged _ _ _ _ t _ c.read.ensures.read c.in-Some.p named least
     (record { columns = length c.exchange.new.self.slots; members = c.replace.new.self.variables.items; basis = c.exchange.new.self; most = unsigned_abs c.self.inside.most })
