@@ -31,7 +31,7 @@ pub fn steps_are_one()
     ensures multiple { (numbers : List ℤ) → IsOne (multiple_of_all numbers) }
 {}
 
-/// What a call of `Fraction` answers is the result of its step.
+/// What a call of `Fraction` returns is the result of its step.
 pub fn calls_are_steps()
     ensures new { (f : Fraction) (n d : ℤ) → d ≢ pos 0 → IsValue f n d → quotient n d (Ok (ratio_of f)) }
     ensures add { (f g : Fraction) (r : Result Fraction Wide) → IsSum (numerator_of f) (denominator_of f) (numerator_of g) (denominator_of g) r → add (ratio_of f) (ratio_of g) (shown_result ratio_of r) }

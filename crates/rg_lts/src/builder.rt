@@ -58,8 +58,8 @@ impl LtsBuilder {
         }
     }
 
-    /// Adds a state, and answers its number. `TwiceState` where the name is there already,
-    /// `TooManyStates` where it is new and there are 4,096 states.
+    /// Adds a state, and returns its number. Returns `TwiceState` if there is a state of that name,
+    /// `TooManyStates` if the name is new and there are 4,096 states, and `NoMemory` if memory runs out.
     pub fn state(&mut self, name: &str) -> Result<u32, BuildFault>
         requires { IsName name.now }
         ensures ok { IfOk result (λ s. s ≡ length self.old.state_names) }
@@ -80,8 +80,8 @@ impl LtsBuilder {
         Ok(s as u32)
     }
 
-    /// Adds a label, and answers its number. `TwiceLabel` where the name is there already,
-    /// `TooManyLabels` where it is new and there are 256 labels.
+    /// Adds a label, and returns its number. Returns `TwiceLabel` if there is a label of that name,
+    /// `TooManyLabels` if the name is new and there are 256 labels, and `NoMemory` if memory runs out.
     pub fn label(&mut self, name: &str) -> Result<u32, BuildFault>
         requires { IsName name.now }
         ensures ok { IfOk result (λ t. t ≡ length self.old.label_names) }
@@ -138,7 +138,7 @@ impl LtsBuilder {
     }
 
     /// Adds the arc between two states that are there, by their numbers. An arc that is there already changes nothing.
-    /// `TooManyArcs` where the arc is new and there are 262,144 arcs.
+    /// Returns `TooManyArcs` if the arc is new and there are 262,144 arcs, and `NoMemory` if memory runs out.
     pub fn arc_between(&mut self, arc: Arc) -> Result<(), BuildFault>
         requires { IsArcWithin self.old arc }
         ensures ok { OnOk result (AddsArc self.old self.new arc) }
@@ -151,8 +151,8 @@ impl LtsBuilder {
         Ok(())
     }
 
-    /// Names the initial state. Naming the same state again changes nothing. `UnknownState` where the
-    /// name isn't there, else `TwoInitial` where another state is initial. It takes no memory.
+    /// Names the initial state. Naming the same state again changes nothing. Returns `UnknownState` if there is no
+    /// state of that name, and `TwoInitial` if another state is initial. It takes no memory.
     pub fn initial(&mut self, name: &str) -> Result<(), BuildFault>
         ensures ok { OnOk result ((s : ℕ) × (slice_get self.old.state_names s ≡ Some name.now) × (self.new ≡ record self.old { initial = Some s })) }
         ensures unknown { IsErrOf result fault.UnknownState ↔ (¬ Contains self.old.state_names name.now) }
@@ -172,7 +172,7 @@ impl LtsBuilder {
         }
     }
 
-    /// The system of the names and arcs; `NoInitial` where no state is initial.
+    /// Returns the system of the names and arcs. Returns `NoInitial` if no state is initial.
     pub fn finish(self) -> Result<Lts, BuildFault>
         ensures ok { IfOk result (λ lts. (self.initial ≡ Some lts.initial) × (lts ≡ finished self lts.initial)) }
         ensures well_formed { IfOk result IsWellFormed }

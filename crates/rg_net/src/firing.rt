@@ -45,7 +45,7 @@ pub fn enabled(net: &Net, marking: &[u128], t: u32) -> bool
 }
 
 /// The marking after the firing of label `t`, which is enabled at the marking. The marking has one number for each
-/// place, none over `2^127 - 1`. `Passes` where a place would get more than `2^127 - 1` tokens.
+/// place, none over `2^127 - 1`. Returns `Passes` if a place would get more than `2^127 - 1` tokens.
 pub fn fire(alloc: Global, net: &Net, marking: &[u128], t: u32) -> Result<Vec<u128>, FireStop>
     requires enabled { IsEnabled net.now marking.now t }
     requires places { length marking.now ≡ length net.now.places }

@@ -81,8 +81,8 @@ fn are_ones(numbers: &[usize]) -> bool
     numbers.iter().all(|n| *n == 1)
 }
 
-/// The number of each transition's label. `TransitionsDiffer` where the transitions' labels aren't each
-/// label of the system once.
+/// The number of each transition's label. Returns `TransitionsDiffer` if the transitions' labels aren't each label of
+/// the system once.
 pub(crate) fn label_numbers(
     alloc: Global,
     bytes: &[u8],

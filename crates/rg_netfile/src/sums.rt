@@ -46,7 +46,7 @@ impl Sums {
         Ok(Sums { labels, places })
     }
 
-    /// Adds tokens to a number of place `i`. `NumberPasses` where it would pass the greatest number.
+    /// Adds tokens to a number of place `i`. Returns `NumberPasses` if it would pass the greatest number.
     pub(crate) fn add(&mut self, i: usize, slot: Slot, count: u128, at: u32) -> Result<(), NetFault>
         requires place { i < length self.old.places }
         requires slot { IsSlotIn self.old.labels slot }

@@ -116,8 +116,8 @@ fn descend_twice(
 }
 
 impl Revised {
-    /// A revised dictionary for systems of so many columns. It takes all memory that a descent needs. `AllocError` where there
-    /// is none.
+    /// A revised dictionary for systems of so many columns. It takes all memory that a descent needs. Returns
+    /// `AllocError` if there is none.
     pub fn new(alloc: Global, columns: u32) -> Result<Revised, AllocError>
         ensures { IfOk result (λ r. r.columns ≡ columns) }
     {
