@@ -1,3 +1,5 @@
+pub mod DealLemmas
+pub mod GatherLemmas
 pub mod LeftLemmas
 pub mod RankLemmas
 pub mod NotingLemmas

@@ -1,40 +1,16 @@
 -- What is said of all problems of a block, and its last one.
-use Rattle.std.proofs.Common.{◌≡◌, ℕ, suc, ◌+◌, ◌-◌, ◌<◌, List, [], ◌∷◌, length, get_or, drop, All, Option, Some, Result, Ok, Err, IfOk, refl, sym, ap, ap₂, subst, ◌∙◌, arith}
-use Rattle.std.specs.Prelude.{slice_get}
-use Rattle.std.proofs.lemmas.Option.{same_Some, slice_get-get_or}
+use Rattle.std.proofs.Common.{◌≡◌, ℕ, suc, ◌-◌, ◌<◌, List, [], ◌∷◌, length, get_or, drop, All, Option, Some, refl, sym, ap, subst, ◌∙◌, arith}
 use Rattle.std.proofs.lemmas.List.{drop-map}
 use Rattle.std.proofs.lemmas.List.Elements.{All-cons, All-drop}
 use Rattle.rg_theory.specs.System.{System}
 use Rattle.rg_theory.specs.Net.{Place}
 use Rattle.rg_theory.specs.declared.Problem.{Problem}
 use Rattle.rg_theory.specs.Problem.{IsProblem}
-use Rattle.rg_phase.specs.Answers.{AreAnswers}
-use Rattle.rg_marks.specs.declared.region_place.RegionPlace.{RegionPlace}
-use Rattle.rg_outcome.specs.Solving.{Solved}
 use Rattle.rg_outcome.specs.Coming.{IsBehind}
 use Rattle.rg_outcome.specs.Blocks.{IsBlock, last_of}
 use Rattle.rg_outcome.proofs.BlockLemmas.{behind_too}
 use Rattle.rg_blocks.specs.declared.solving.SolvedProblem.{SolvedProblem}
-use Rattle.rg_blocks.specs.Taking.{IsSolvedBy, problems_of}
-
-same_list : (problems : List Problem) (xs : List SolvedProblem) → length xs ≡ length problems
-    → ((i : ℕ) (x : SolvedProblem) → slice_get xs i ≡ Some x → slice_get problems i ≡ Some x.problem) → problems_of xs ≡ problems
-same_list [] [] e each = refl
-same_list [] (x ∷ xs) e each = absurd (omega arith)
-same_list (p ∷ problems) [] e each = absurd (omega arith)
-same_list (p ∷ problems) (x ∷ xs) e each = ap₂ ◌∷◌ (sym (same_Some p x.problem (each 0 x refl))) (same_list problems xs (omega arith) (λ i y at. each (suc i) y at))
-
-pub same_problems : {E V : Type 0} (items : V → List SolvedProblem) (problems : List Problem) (comes : Problem → Solved → Type 0) (makes : RegionPlace → Type 0) (r : Result V E)
-    → IfOk r (λ v. AreAnswers (λ i s. (slice_get problems i ≡ Some s.problem) × IsSolvedBy comes makes s) 0 (length problems - 0) (items v)) → IfOk r (λ v. problems_of (items v) ≡ problems)
-same_problems items problems comes makes (Ok v) are =
-    same_list problems (items v) (let e = are.one_each in omega arith)
-    (λ i x at. (let e : 0 + i ≡ i = omega arith in subst (λ k. slice_get problems k ≡ Some x.problem) e (are.each i x at).0))
-same_problems items problems comes makes (Err e) are = are
-
-pub all_solved : {E V : Type 0} (items : V → List SolvedProblem) (problems : List Problem) (comes : Problem → Solved → Type 0) (makes : RegionPlace → Type 0) (r : Result V E)
-    → IfOk r (λ v. AreAnswers (λ i s. (slice_get problems i ≡ Some s.problem) × IsSolvedBy comes makes s) 0 (length problems - 0) (items v)) → IfOk r (λ v. All (IsSolvedBy comes makes) (items v))
-all_solved items problems comes makes (Ok v) are = λ i d lt. (are.each i (get_or (items v) i d) (slice_get-get_or (items v) i d lt)).1
-all_solved items problems comes makes (Err e) are = are
+use Rattle.rg_blocks.specs.Taking.{problems_of}
 
 -- the problems of a block are of the system
 pub block_has : (lts : System) (kept : List Place) (last : Option Problem) (block : List Problem) → IsBlock lts kept last block → All (IsProblem lts) block

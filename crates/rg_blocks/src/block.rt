@@ -1,12 +1,15 @@
 //! A block of problems: how it is formed and solved.
-ghost use Rattle.std.specs.Prelude.{◌≡◌, ◌<◌, ◌≤◌, All, Some, IfSome, IfOk, OnOk, length, slice_get};
+ghost use Rattle.std.specs.Prelude.{◌≡◌, ◌<◌, ◌≤◌, All, IfSome, IfOk, OnOk, length};
 ghost use Rattle.rg_theory.specs.Problem.{IsProblem};
 ghost use Rattle.rg_outcome.specs.Blocks.{IsBlock, last_of};
 ghost use Rattle.rg_outcome.specs.Coming.{IsDone};
 ghost use Rattle.rg_marks.specs.Separated.{AreSome};
+ghost use Rattle.rg_phase.specs.Answers.{AreAnswers};
 ghost use Rattle.rg_blocks.specs.Blocks.{most_in_block};
+ghost use Rattle.rg_blocks.specs.Dealing.{IsDealt};
 ghost use Rattle.rg_blocks.specs.Taking.{IsOutcome, IsWaiting, IsSolvedBy, AreNotable, problems_of};
 
+use crate::dealing::{Deal, PlaceGate};
 use crate::keeping::Keeping;
 use crate::left::next_problem;
 use crate::search::Search;
@@ -65,12 +68,14 @@ pub fn next_block<K: Keeping>(
     Ok(block)
 }
 
-// The solving of the problems of a block that aren't taken over yet, by their numbers in it. Each part has a workspace of its own.
+// The solving of the problems of a block that aren't taken over yet, by the numbers with which they are dealt. Each part has a workspace of
+// its own.
 #[derive(Drop)]
 struct Problems<'a, K, S, G> {
     search: &'a Search<'a, S, G>,
     kept: &'a K,
     problems: &'a [Problem],
+    deal: Deal,
     taken: usize,
 }
 
@@ -92,9 +97,9 @@ where
 
     ghost holds = { λ s part. AreSome s.search.now.lts.now part.separated × S.serves s.search.now.solving.now part.workspace };
 
-    ghost asks = { λ s i. (i < length s.problems.now) × All (IsProblem s.search.now.lts.now) s.problems.now × All (S.asks s.search.now.solving.now) s.problems.now × AreNotable s.search.now.lts.now (S.makes s.search.now.solving.now) × K.keeps_for s.kept.now s.search.now.lts.now };
+    ghost asks = { λ s i. (i < length s.problems.now) × (s.deal.dealt ≤ length s.problems.now) × All (IsProblem s.search.now.lts.now) s.problems.now × All (S.asks s.search.now.solving.now) s.problems.now × AreNotable s.search.now.lts.now (S.makes s.search.now.solving.now) × K.keeps_for s.kept.now s.search.now.lts.now };
 
-    ghost answers = { λ s i v. (slice_get s.problems.now i ≡ Some v.problem) × IsSolvedBy (S.comes s.search.now.solving.now) (S.makes s.search.now.solving.now) v };
+    ghost answers = { λ s i v. IsDealt s.deal.deals s.deal.parts s.problems.now i v.problem × IsSolvedBy (S.comes s.search.now.solving.now) (S.makes s.search.now.solving.now) v };
 
     fn begin(&self) -> Result<Part<S::Workspace>, NoMemory> {
         let separated = Separated::nothing(self.search.alloc, self.search.lts)?;
@@ -106,9 +111,10 @@ where
     }
 
     fn run(&self, part: &mut Part<S::Workspace>, i: u32) -> Result<SolvedProblem, NoMemory> {
-        let problem = self.problems[i as usize];
+        let place = self.deal.place(i as usize);
+        let problem = self.problems[place];
         let lts = self.search.lts;
-        if (i as usize) < self.taken
+        if place < self.taken
             || self.kept.separates(lts, problem)
             || part.separated.separates(lts, problem)
         {
@@ -156,8 +162,29 @@ fn note<S: Solving, G>(
     }
 }
 
-/// Returns the outcomes of the problems of a block, in their order, computed by parts that run in parallel, each for a
-/// run of neighbours. The first `taken` problems are left unsolved, and so is a problem that a kept place separates,
+// Returns the outcomes of the problems of a block in the order of the problems. They are given by the numbers of the deal.
+fn gather<S: Solving, G>(
+    search: &Search<'_, S, G>,
+    deal: Deal,
+    problems: &[Problem],
+    solved: &mut [SolvedProblem],
+) -> Result<Vec<SolvedProblem>, NoMemory>
+    requires dealt { deal.dealt ≤ length problems.now }
+    requires solved { AreAnswers (λ i v. IsDealt deal.deals deal.parts problems.now i v.problem × IsSolvedBy (S.comes search.now.solving.now) (S.makes search.now.solving.now) v) 0 (length problems.now) solved.old }
+    ensures solved { IfOk result (λ v. All (IsSolvedBy (S.comes search.now.solving.now) (S.makes search.now.solving.now)) v.items) }
+    ensures same { IfOk result (λ v. problems_of v.items ≡ problems.now) }
+{
+    let mut all = Vec::new(search.alloc);
+    for place in 0..problems.len() {
+        let outcome = solved[deal.number(place)].outcome.take();
+        let problem = problems[place];
+        all.push(SolvedProblem { problem, outcome })?;
+    }
+    Ok(all)
+}
+
+/// Returns the outcomes of the problems of a block, in their order, computed by parts that run in parallel. Of as many
+/// neighbours as there are parts each part gets one, as cards are dealt. The first `taken` problems are left unsolved, and so is a problem that a kept place separates,
 /// or a place that its own part made before: its outcome is None. Each part solves with a workspace of its own, and
 /// keeps no proof. The gate is entered before each number of the block and left after it, also for a problem that is
 /// left unsolved. Returns `NoMemory` if memory runs out.
@@ -180,12 +207,19 @@ where
     ensures solved { IfOk result (λ v. All (IsSolvedBy (S.comes search.now.solving.now) (S.makes search.now.solving.now)) v.items) }
     ensures same { IfOk result (λ v. problems_of v.items ≡ problems.now) }
 {
+    let many = problems.len();
+    let deal = Deal::new(many, usize::from(search.jobs));
+    let gate = PlaceGate {
+        gate: search.gate,
+        deal,
+    };
     let task = Problems {
         search,
         kept,
         problems,
+        deal,
         taken,
     };
-    let many = problems.len() as u32;
-    block_of_parts(rt, search.alloc, &task, 0, many, search.jobs, search.gate)
+    let mut solved = block_of_parts(rt, search.alloc, &task, 0, many as u32, search.jobs, &gate)?;
+    gather(search, deal, problems, &mut solved)
 }

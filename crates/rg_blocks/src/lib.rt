@@ -10,6 +10,7 @@
 #![tactic(auto)]
 
 mod block;
+mod dealing;
 mod keeping;
 mod left;
 mod search;

@@ -17,7 +17,7 @@ use std::test::Fail;
 use std::thread::Threads;
 
 // The answers to the problems of labels, what all of them come to, the labels whose places are kept, and how many problems are solved: by one job,
-// by two or three and how many of these inside the gate, and the same where each label has a part of its own.
+// by two and how many of these inside the gate, the same by three, and where each label has a part of its own.
 type Row = (
     &'static [Given],
     Option<SeparationOutcome>,
@@ -25,18 +25,20 @@ type Row = (
     u64,
     (u64, u64),
     (u64, u64),
+    (u64, u64),
 );
 
 // Each is one block of less than 64 problems: the first label is solved in turn, before the gate is entered, and the others as long as the one
-// after a label that was solved is stopped. What is left then is solved by parts: of four labels two jobs have 0 and 1, and 2 and 3; of three
+// after a label that was solved is stopped. What is left then is solved by parts: of four labels two jobs have 0 and 2, and 1 and 3; of three
 // jobs the first two have one label each, and the third one has labels 2 and 3. A part leaves what a place kept so far stops, or one of its own.
 // At last those are solved that were left for a place that isn't kept. One job solves each inside.
-const ROWS: [Row; 16] = [
+const ROWS: [Row; 17] = [
     (
         &[Given::Stops(1), Given::Stops(0), Given::Stops(2)],
         Some(SeparationOutcome::Separated),
         &[0, 2],
         2,
+        (2, 0),
         (2, 0),
         (2, 0),
     ),
@@ -47,6 +49,7 @@ const ROWS: [Row; 16] = [
         2,
         (2, 0),
         (2, 0),
+        (2, 0),
     ),
     (
         &[Given::Stops(1), Given::Refuted, Given::Stops(0)],
@@ -55,12 +58,14 @@ const ROWS: [Row; 16] = [
         2,
         (2, 0),
         (2, 0),
+        (2, 0),
     ),
     (
         &[Given::TooWide, Given::Stops(0)],
         Some(SeparationOutcome::Separated),
         &[1],
         2,
+        (2, 1),
         (2, 1),
         (2, 1),
     ),
@@ -76,6 +81,7 @@ const ROWS: [Row; 16] = [
         4,
         (4, 3),
         (4, 3),
+        (4, 3),
     ),
     (
         &[
@@ -89,6 +95,7 @@ const ROWS: [Row; 16] = [
         3,
         (4, 3),
         (4, 3),
+        (4, 3),
     ),
     (
         &[Given::Refuted, Given::Stops(1)],
@@ -97,13 +104,15 @@ const ROWS: [Row; 16] = [
         1,
         (1, 0),
         (1, 0),
+        (1, 0),
     ),
-    (&[Given::NoMemory], None, &[], 1, (1, 0), (1, 0)),
+    (&[Given::NoMemory], None, &[], 1, (1, 0), (1, 0), (1, 0)),
     (
         &[Given::Stops(0), Given::NoMemory],
         None,
         &[],
         2,
+        (2, 1),
         (2, 1),
         (2, 1),
     ),
@@ -112,6 +121,7 @@ const ROWS: [Row; 16] = [
         Some(SeparationOutcome::Separated),
         &[0],
         1,
+        (1, 0),
         (1, 0),
         (1, 0),
     ),
@@ -128,6 +138,7 @@ const ROWS: [Row; 16] = [
         2,
         (2, 0),
         (2, 0),
+        (2, 0),
     ),
     // the place of label 0 is kept before the parts begin, so that label 2 is left
     (
@@ -140,6 +151,7 @@ const ROWS: [Row; 16] = [
         Some(SeparationOutcome::Separated),
         &[0, 1, 3],
         3,
+        (3, 2),
         (3, 2),
         (3, 2),
     ),
@@ -155,6 +167,7 @@ const ROWS: [Row; 16] = [
         Some(SeparationOutcome::Separated),
         &[0, 1, 3],
         3,
+        (4, 3),
         (4, 2),
         (4, 3),
     ),
@@ -168,6 +181,7 @@ const ROWS: [Row; 16] = [
         Some(SeparationOutcome::TooWide(Problem::Event(0, 3))),
         &[0, 1],
         3,
+        (4, 3),
         (4, 2),
         (4, 3),
     ),
@@ -181,6 +195,7 @@ const ROWS: [Row; 16] = [
         Some(SeparationOutcome::Unsolvable(Problem::Event(0, 3))),
         &[0, 1],
         3,
+        (4, 3),
         (4, 2),
         (4, 3),
     ),
@@ -194,7 +209,22 @@ const ROWS: [Row; 16] = [
         None,
         &[],
         3,
+        (4, 3),
         (4, 2),
+        (4, 3),
+    ),
+    (
+        &[
+            Given::Stops(0),
+            Given::Stops(3),
+            Given::Stops(2),
+            Given::TooWide,
+        ],
+        Some(SeparationOutcome::Separated),
+        &[0, 1, 2],
+        3,
+        (3, 2),
+        (4, 3),
         (4, 3),
     ),
 ];
@@ -358,7 +388,7 @@ fn count_made(jobs: u8, labels: usize, inside: u64) -> u64 {
 
 #[test]
 fn rows(rt: HostRuntime) -> Result<(), Fail> {
-    for (given, wanted, labels, by_one, by_two, by_each) in ROWS {
+    for (given, wanted, labels, by_one, by_two, by_three, by_each) in ROWS {
         let Some(lts) = system_with_labels(rt.alloc(), given.len()) else {
             assert!(rt; false);
             return Ok(());
@@ -366,7 +396,7 @@ fn rows(rt: HostRuntime) -> Result<(), Fail> {
         for (jobs, solved) in [
             (1u8, (by_one, by_one)),
             (2, by_two),
-            (3, by_two),
+            (3, by_three),
             (7, by_each),
             (16, by_each),
         ] {
@@ -428,7 +458,7 @@ fn see_held<R: Threads + Sync>(
 // All labels wait for each other, since each has a part of its own. A part without a label makes no workspace.
 #[test]
 fn each_part_does_one(rt: HostRuntime) -> Result<(), Fail> {
-    for (given, wanted, labels, _, _, (solved, inside)) in ROWS {
+    for (given, wanted, labels, _, _, _, (solved, inside)) in ROWS {
         if inside == 0 {
             continue;
         }
@@ -458,7 +488,7 @@ fn each_part_does_one(rt: HostRuntime) -> Result<(), Fail> {
 //
 // One job solves all but the last two labels of the first two blocks. More jobs solve 1, 1, 1, 2, 4, 8, 8 and 1 of the problems of the blocks in
 // turn, 26 in all. So the place that stops the last label of either of the first two blocks is kept before the parts begin, and that label is
-// left. The last but one is solved as well, since the first part makes the place that stops it, and the last part solves it. Each of the parts, 16
+// left. The last but one is solved as well, since one part makes the place that stops it, and another part solves it. Each of the parts, 16
 // at most, has one to solve in each of the eight blocks.
 #[test]
 fn growing_blocks(rt: HostRuntime) -> Result<(), Fail> {

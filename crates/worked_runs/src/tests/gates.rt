@@ -18,21 +18,21 @@ const RING: &str =
 const RING_AND_LABEL: &str =
     "file f\n| .type LTS .states s0[initial]\ncount 1 8 s#\n| .labels\ncount 0 8 a#\n| x .arcs\ncount 0 7 s# a# s%\n| s8 a8 s0\nstatus 0\n";
 
-// The first numbers of the parts, where 64 numbers are cut for sixteen jobs.
-const OF_SIXTEEN: [u32; 16] = [0, 4, 8, 12, 16, 20, 24, 28, 32, 36, 40, 44, 48, 52, 56, 60];
+// The first problems of the parts, where the problems of a block are dealt to sixteen jobs.
+const OF_SIXTEEN: [u32; 16] = [0, 1, 2, 3, 4, 5, 6, 7, 8, 9, 10, 11, 12, 13, 14, 15];
 
-// Words and files of a run, and the numbers of the first block that are inside at once: the first number of each part. The range is cut in
-// proportion to the jobs of the two sides, until each part has one job. Of the word's eleven numbers one part has 0 to 4, and the other 5 to 10.
+// Words and files of a run, and the problems of the first block that are inside at once: the first one of each part. They are dealt to the
+// parts one by one. Of the word's eleven problems one part has 0, 2, 4, 6 and 8, and the other 1, 3, 5, 7, 9 and 10.
 const RUNS: [(&str, &str, &[u32]); 10] = [
     ("words synthesize none f\n", RING, &[0]),
-    ("words synthesize none f --jobs 2\n", RING, &[0, 32]),
-    ("words synthesize none f --jobs 3\n", RING, &[0, 21, 42]),
-    ("words synthesize none f --jobs 4\n", RING, &[0, 16, 32, 48]),
-    ("words split f --jobs 4\n", RING, &[0, 16, 32, 48]),
+    ("words synthesize none f --jobs 2\n", RING, &[0, 1]),
+    ("words synthesize none f --jobs 3\n", RING, &[0, 1, 2]),
+    ("words synthesize none f --jobs 4\n", RING, &[0, 1, 2, 3]),
+    ("words split f --jobs 4\n", RING, &[0, 1, 2, 3]),
     (
         "words factor f --class none --jobs 2\n",
         RING_AND_LABEL,
-        &[0, 32],
+        &[0, 1],
     ),
     ("words synthesize none f --jobs 16\n", RING, &OF_SIXTEEN),
     ("words split f --jobs 16\n", RING, &OF_SIXTEEN),
