@@ -5,7 +5,7 @@
 
 For each seed (1 unless some are named) it makes random systems until `synthesize` has written so many certificates (100 unless a
 number is named), for random classes of all words, with bounds and markings. Each is judged by both as it is written, and changed: of
-each eighth one by every change that is listed below, of the others by some twenty of them. It prints each difference, and behind each
+each eighth one by every change that is listed below, of the others by some twenty of them. It prints each difference, and after each
 seed a table of all so far: how many certificates both accept, both refuse, and where only the program refuses, by rule 4 of
 docs/certificates.md (`sum passes`), which the checker leaves out. Each other difference is an error, and status 1. One in a hundred is
 judged by the checker's command line too. It is run by hand and is no test.

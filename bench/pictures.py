@@ -187,13 +187,15 @@ def region():
 
 
 def speed_up():
-    """How many times as fast two and four jobs are as one, for each row of the table of threads."""
+    """How many times as fast two and four jobs are as one, for each row of the table of threads with 0.05 seconds at least."""
     head, rows = table_rows('## Measured: threads')
     body, height = [], 30
     for row in rows:
         if len(row) != len(head):
             continue
         one, two, four = (float(row[i]) for i in (2, 3, 4))
+        if one < 0.05:
+            continue
         body.append(f'<text x="250" y="{height + 11}" text-anchor="end">{row[0]}, {row[1]}</text>')
         for k, (jobs, seconds) in enumerate(((2, two), (4, four))):
             width = 60 * one / seconds
