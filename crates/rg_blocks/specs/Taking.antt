@@ -1,8 +1,9 @@
 -- What the problems of a block come to, and what comes of it.
-use Rattle.std.specs.Prelude.{◌≡◌, ◌≤◌, List, length, take, map, Option, None, Some, IfSome}
+use Rattle.std.specs.Prelude.{◌≡◌, ◌≤◌, List, All, length, take, map, Option, None, Some, IfSome}
 use Rattle.rg_theory.specs.System.{System}
 use Rattle.rg_theory.specs.Net.{Place}
 use Rattle.rg_theory.specs.declared.Problem.{Problem}
+use Rattle.rg_theory.specs.Problem.{IsProblem}
 use Rattle.rg_net.specs.Shown.{shown_place}
 use Rattle.rg_marks.specs.Tokens.{IsNarrow, AreTokens}
 use Rattle.rg_marks.specs.declared.region_place.RegionPlace.{RegionPlace}
@@ -51,6 +52,10 @@ pub record AreKeepable (makes may_keep : RegionPlace → Type 0) (may_keep_compa
 -- each place that is made is a region whose tokens come with it, so that what it separates may be noted
 pub record AreNotable (lts : System) (makes : RegionPlace → Type 0) : Type 0 where
   pub each : (r : RegionPlace) → makes r → IsNarrow lts (shown_place r.place) × AreTokens lts (shown_place r.place) r.tokens.items
+
+-- what parts solve: problems of the system for which the solving may be asked, where each place that is made may be noted
+abbrev pub MayBeSolved : System → (Problem → Type 0) → (RegionPlace → Type 0) → List Problem → Type 0
+MayBeSolved lts asks makes problems = All (IsProblem lts) problems × All asks problems × AreNotable lts makes
 
 -- after the problems these places are kept, or this problem was refuted
 abbrev pub IsTakenOver : System → (Problem → Solved → Type 0) → List Place → List Problem → List Place → Option Problem → Type 0

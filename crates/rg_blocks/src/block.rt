@@ -7,7 +7,7 @@ ghost use Rattle.rg_marks.specs.Separated.{AreSome};
 ghost use Rattle.rg_phase.specs.Answers.{AreAnswers};
 ghost use Rattle.rg_blocks.specs.Blocks.{most_in_block};
 ghost use Rattle.rg_blocks.specs.Dealing.{IsDealt};
-ghost use Rattle.rg_blocks.specs.Taking.{IsOutcome, IsWaiting, IsSolvedBy, AreNotable, problems_of};
+ghost use Rattle.rg_blocks.specs.Taking.{IsOutcome, IsWaiting, IsSolvedBy, AreNotable, MayBeSolved, problems_of};
 
 use crate::dealing::{Deal, PlaceGate};
 use crate::keeping::Keeping;
@@ -97,7 +97,8 @@ where
 
     ghost holds = { λ s part. AreSome s.search.now.lts.now part.separated × S.serves s.search.now.solving.now part.workspace };
 
-    ghost asks = { λ s i. (i < length s.problems.now) × (s.deal.dealt ≤ length s.problems.now) × All (IsProblem s.search.now.lts.now) s.problems.now × All (S.asks s.search.now.solving.now) s.problems.now × AreNotable s.search.now.lts.now (S.makes s.search.now.solving.now) × K.keeps_for s.kept.now s.search.now.lts.now };
+    ghost asks = { λ s i. (i < length s.problems.now) × (s.deal.dealt ≤ length s.problems.now) × K.keeps_for s.kept.now s.search.now.lts.now
+        × MayBeSolved s.search.now.lts.now (S.asks s.search.now.solving.now) (S.makes s.search.now.solving.now) s.problems.now };
 
     ghost answers = { λ s i v. IsDealt s.deal.deals s.deal.parts s.problems.now i v.problem × IsSolvedBy (S.comes s.search.now.solving.now) (S.makes s.search.now.solving.now) v };
 
@@ -184,10 +185,10 @@ fn gather<S: Solving, G>(
 }
 
 /// Returns the outcomes of the problems of a block, in their order, computed by parts that run in parallel. Of as many
-/// neighbours as there are parts each part gets one, as cards are dealt. The first `taken` problems are left unsolved, and so is a problem that a kept place separates,
-/// or a place that its own part made before: its outcome is None. Each part solves with a workspace of its own, and
-/// keeps no proof. The gate is entered before each number of the block and left after it, also for a problem that is
-/// left unsolved. Returns `NoMemory` if memory runs out.
+/// neighbours as there are parts each part gets one, as cards are dealt. The first `taken` problems are left unsolved,
+/// and so is a problem that a kept place separates, or a place that its own part made before: its outcome is None. Each
+/// part solves with a workspace of its own, and keeps no proof. The gate is entered before each number of the block and
+/// left after it, also for a problem that is left unsolved. Returns `NoMemory` if memory runs out.
 pub fn solve_block<R: Threads + Sync, K: Keeping + Sync, S: Solving + Sync, G: Gate + Sync>(
     rt: &R,
     search: &Search<'_, S, G>,

@@ -69,7 +69,7 @@ impl NameList {
         }
     }
 
-    /// Adds a name at the end.
+    /// Adds a name at the end. Returns `AllocError` if memory runs out; then the list is as before.
     pub fn add(&mut self, alloc: Global, name: &str) -> Result<(), AllocError>
         ensures ok { OnOk result (self.new ≡ self.old ++ name.now ∷ []) }
         ensures err { OnErr result (self.new ≡ self.old) }
