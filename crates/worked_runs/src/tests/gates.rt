@@ -1,10 +1,12 @@
-//! As many numbers are at work in parallel as the words say, and each is inside the gate while it is.
+//! How many numbers of a block are at work in parallel, each inside the gate while it is, and how many problems the rounds of `split` have.
 use crate::case::{Case, Fails};
 use crate::outside::Outside;
 use crate::stop::Stop;
 use crate::tests::holding::Holding;
 use crate::tests::lines::case_of;
+use rg_ports::Gate;
 use std::alloc::Global;
+use std::sync::atomic::{AtomicU64, Ordering};
 use std::thread::Threads;
 
 // The word a b a: eleven problems, all in one block.
@@ -48,6 +50,35 @@ const RUNS: [(&str, &str, &[u32]); 10] = [
     ),
 ];
 
+// Counts the problems of blocks.
+#[derive(Drop)]
+struct Counter {
+    entered: AtomicU64,
+}
+
+impl Counter {
+    fn new() -> Counter {
+        Counter {
+            entered: AtomicU64::new(0),
+        }
+    }
+
+    fn count(&self) -> u64 {
+        self.entered.load(Ordering::SeqCst)
+    }
+}
+
+impl Gate for Counter {
+    fn enter(&self, i: u32) {
+        let _ = i;
+        self.entered.fetch_add(1, Ordering::SeqCst);
+    }
+
+    fn leave(&self, i: u32) {
+        let _ = i;
+    }
+}
+
 // The case of these lines.
 fn run_of(alloc: Global, words: &str, files: &str) -> Result<Case, Stop> {
     let mut text = String::from_str(alloc, "case run\n")?;
@@ -57,11 +88,11 @@ fn run_of(alloc: Global, words: &str, files: &str) -> Result<Case, Stop> {
 }
 
 // Whether the run has status 0, through this gate.
-fn is_done<R: Threads + Sync>(
+fn is_done<R: Threads + Sync, G: Gate + Sync>(
     rt: &R,
     alloc: Global,
     case: &Case,
-    gate: &Holding<'_>,
+    gate: &G,
 ) -> Result<bool, Stop> {
     let Some(words) = case.runs.first() else {
         return Ok(false);
@@ -78,6 +109,22 @@ fn so_many_numbers_are_at_work(rt: HostRuntime) -> Result<(), Stop> {
         assert!(rt; is_done(&rt, rt.alloc(), &case, &gate)?, "{words}");
         assert!(rt; gate.were_alone(), "{words}");
         assert!(rt; files != WORD || gate.has_passed_once(11), "{words}");
+    }
+    Ok(())
+}
+
+// Six states and the labels a and b have 22 problems, and one of them is refused. With three labels there are 28, of which two regions of the
+// first round separate 20. No problem of these 28 is refused, and then all of them are solved for the net.
+#[test]
+fn rounds_of_split_begin_with_known_regions(rt: HostRuntime) -> Result<(), Stop> {
+    for words in [
+        "words split f --from words\n",
+        "words split f --from words --jobs 4\n",
+    ] {
+        let case = run_of(rt.alloc(), words, "file f\n> a b b a a\nstatus 0\n")?;
+        let gate = Counter::new();
+        assert!(rt; is_done(&rt, rt.alloc(), &case, &gate)?, "{words}");
+        assert!(rt; gate.count() == 22 + 8 + 28, "{words}");
     }
     Ok(())
 }
