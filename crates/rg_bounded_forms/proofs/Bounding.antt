@@ -1,5 +1,5 @@
 -- Single rows bound a form.
-use Rattle.std.proofs.Common.{◌≡◌, ⊎_elim, ℕ, suc, ◌+◌, ◌^◌, ◌<◌, List, [], ◌∷◌, length, All, ap, subst, sym, ◌∙◌, arith}
+use Rattle.std.proofs.Common.{◌≡◌, ⊎_elim, ℕ, zero, suc, ◌+◌, ◌<◌, ◌≤◌, List, [], ◌∷◌, length, All, ap, subst, sym, ◌∙◌, arith}
 use Rattle.std.specs.Prelude.{ℤ, pos, neg_ℤ, ◌+ℤ◌, ◌-ℤ◌, ◌*ℤ◌, ◌≤ℤ◌, ◌<ℤ◌, slice_index_or, FitsSigned}
 use Rattle.std.specs.Int.{w128}
 use Rattle.std.proofs.lemmas.Int.{ints}
@@ -14,7 +14,7 @@ use Rattle.rg_linear.specs.declared.row.Row.{Row}
 use Rattle.rg_linear.specs.View.{linear_row, IsWellFormed}
 use Rattle.rg_linear.specs.System.{LinearSystem, LinearRow, row_variable, row_at, entry}
 use Rattle.rg_linear.specs.Branching.{Form, scaled_value}
-use Rattle.rg_linear.specs.Room.{gap_of, gap, total}
+use Rattle.rg_linear.specs.Room.{gap_of, gap, total, room}
 use Rattle.rg_linear.proofs.Members.{equal_or_not}
 use Rattle.rg_branch.specs.declared.bounded.Bounded.{Bounded}
 use Rattle.rg_branch.specs.View.{form_of, forms_of}
@@ -22,7 +22,8 @@ use Rattle.rg_branch.specs.Asked.{IsFormOf, CanBranch}
 use Rattle.rg_branch.proofs.Values.{form_value, most_of_times}
 use Rattle.rg_branch.proofs.Nodes.{form_here}
 use Rattle.rg_branch.proofs.Points.{form_is}
-use Rattle.rg_bounded_forms.specs.Bounds.{AreTimes, IsLow, IsTop, IsBoundedForm}
+use Rattle.rg_bounded_forms.specs.declared.asking.Top.{Top}
+use Rattle.rg_bounded_forms.specs.Bounds.{AreTimes, IsLow, IsTop, IsBoundedForm, IsByRows, EachIsByRows, AreByRows}
 
 -- ---- numbers
 
@@ -75,46 +76,20 @@ bounded_form system before b row times is low top = record {
 
 -- ---- all forms
 
--- what is known of the first n forms
-pub record AreKnown (system : LinearSystem) (before : ℕ) (forms : List Bounded) (n sum : ℕ) : Type 0 where
-  pub bounded : (k : ℕ) (b : Bounded) → k < n → k < length forms → IsBoundedForm system before (slice_index_or forms k b)
-  pub sum_is : sum ≡ total n (gap (forms_of forms) [])
+abbrev pub a_top : Top
+a_top = record { row = 0; times = pos 0 }
 
-gap_is : (h l : ℤ) (n : ℕ) → pos n ≡ h -ℤ l → gap_of (h -ℤ l) ≡ n
-gap_is h l n e = sym (ap gap_of e)
-
-pub one_more_known : (system : LinearSystem) (before : ℕ) (forms : List Bounded) (n sum more : ℕ) (b : Bounded) → n < length forms
-    → b ≡ slice_index_or forms n b → AreKnown system before forms n sum → IsBoundedForm system before b → pos more ≡ b.high -ℤ b.low
-    → AreKnown system before forms (n + 1) (sum + more)
-one_more_known system before forms n sum more b lt at known is size = record {
-  bounded = λ k d below within. ⊎_elim
-      (λ e. subst (λ m. IsBoundedForm system before (slice_index_or forms m d)) (sym e) (subst (IsBoundedForm system before) (at ∙ get_or_default forms n b d lt) is))
-      (λ ne. known.bounded k d (omega arith) within)
-      (equal_or_not k n);
-  sum_is = (let s = known.sum_is in let g = here in let t = next n in omega arith);
-}
-  where
-    here : gap (forms_of forms) [] n ≡ more
-    here = subst (λ (form : Form). gap_of (form.high -ℤ form.low) ≡ more) (form_is forms n b lt at) (gap_is b.high b.low more size)
-
-    next : (n : ℕ) → total (n + 1) (gap (forms_of forms) []) ≡ total n (gap (forms_of forms) []) + gap (forms_of forms) [] n
-    next n = ap (λ m. total m (gap (forms_of forms) [])) (one n)
-      where
-        one : (n : ℕ) → n + 1 ≡ suc n
-        one n = omega arith
-
-pub all_known : (system : LinearSystem) (before : ℕ) (forms : List Bounded) (sum : ℕ) → AreKnown system before forms (length forms) sum
-    → length forms < 2 ^ 32 → system.columns + length system.rows + sum < 2 ^ 32 → CanBranch system before forms
-all_known system before forms sum known few_forms few = record {
-  each = λ k b lt. (known.bounded k b lt lt).form;
+pub can_by_rows : (system : LinearSystem) (before : ℕ) (forms : List Bounded) (tops : List Top) → AreByRows system before forms tops → CanBranch system before forms
+can_by_rows system before forms tops by = record {
+  each = λ k b lt. (by.each k b a_top lt).form;
   bounded = record {
-    positive = λ f lt. (let w = below f lt in let b = some_form forms f w in subst (λ (form : Form). pos 0 <ℤ form.scale) (form_here forms f b w) (known.bounded f b w w).form.positive);
+    positive = λ f lt. (let w = below f lt in let b = some_form forms f w in subst (λ (form : Form). pos 0 <ℤ form.scale) (form_here forms f b w) (by.each f b a_top w).form.positive);
     between = λ f scale x lt p meets. (let w = below f lt in let b = some_form forms f w in subst
         (λ (form : Form). ((form.low *ℤ (form.scale *ℤ scale)) ≤ℤ scaled_value system form x) × (scaled_value system form x ≤ℤ (form.high *ℤ (form.scale *ℤ scale))))
-        (form_here forms f b w) ((known.bounded f b w w).between scale x p meets));
+        (form_here forms f b w) ((bounded f b w).between scale x p meets));
   };
-  few_forms = few_forms;
-  few = (let s = known.sum_is in let e = ap (λ n. total n (gap (forms_of forms) [])) (length-map forms form_of) in omega arith);
+  few_forms = (let few = by.few_forms in omega arith);
+  few = by.few;
 }
   where
     below : (f : ℕ) → f < length (forms_of forms) → f < length forms
@@ -123,6 +98,58 @@ all_known system before forms sum known few_forms few = record {
     some_form : (forms : List Bounded) (f : ℕ) → f < length forms → Bounded
     some_form [] f lt = absurd (omega arith)
     some_form (x ∷ forms) f lt = x
+
+    bounded : (f : ℕ) (b : Bounded) → f < length forms → IsBoundedForm system before (slice_index_or forms f b)
+    bounded f b lt = let shown = by.each f b a_top lt in
+        bounded_form system before (slice_index_or forms f b) (before + (slice_index_or tops f a_top).row) (slice_index_or tops f a_top).times shown.form shown.low shown.high
+
+-- one more form with its top
+pub one_more_by_rows : (system : LinearSystem) (before : ℕ) (forms : List Bounded) (tops : List Top) (n : ℕ) (b : Bounded)
+    → n < length forms → length tops ≡ length forms → b ≡ slice_index_or forms n b → IsByRows system before b (slice_index_or tops n a_top)
+    → ((f : ℕ) (b : Bounded) (t : Top) → f < n → IsByRows system before (slice_index_or forms f b) (slice_index_or tops f t))
+    → (f : ℕ) (b : Bounded) (t : Top) → f < n + 1 → IsByRows system before (slice_index_or forms f b) (slice_index_or tops f t)
+one_more_by_rows system before forms tops n b lt size at is known f d t below = ⊎_elim
+    (λ same. subst (λ m. IsByRows system before (slice_index_or forms m d) (slice_index_or tops m t)) (sym same)
+    (subst (IsByRows system before (slice_index_or forms n d)) (get_or_default tops n a_top t (subst (λ m. n < m) (sym size) lt))
+    (subst (λ x. IsByRows system before x (slice_index_or tops n a_top)) (at ∙ get_or_default forms n b d lt) is)))
+    (λ ne. known f d t (omega arith))
+    (equal_or_not f n)
+
+-- a form that isn't shown with its top
+pub not_each : (system : LinearSystem) (before : ℕ) (forms : List Bounded) (tops : List Top) (n : ℕ) (b : Bounded) → n < length forms
+    → b ≡ slice_index_or forms n b → ¬ IsByRows system before b (slice_index_or tops n a_top) → ¬ EachIsByRows system before forms tops
+not_each system before forms tops n b lt at not each = not (subst (λ x. IsByRows system before x (slice_index_or tops n a_top)) (sym at) (each n b a_top lt))
+
+-- ---- how many splits the bounds allow
+
+gap_is : (h l : ℤ) (n : ℕ) → pos n ≡ h -ℤ l → gap_of (h -ℤ l) ≡ n
+gap_is h l n e = sym (ap gap_of e)
+
+next : (n : ℕ) (g : ℕ → ℕ) → total (n + 1) g ≡ total n g + g n
+next n g = ap (λ m. total m g) (one n)
+  where
+    one : (n : ℕ) → n + 1 ≡ suc n
+    one n = omega arith
+
+pub one_more_gap : (forms : List Bounded) (n more : ℕ) (b : Bounded) → n < length forms → b ≡ slice_index_or forms n b → pos more ≡ b.high -ℤ b.low
+    → total (n + 1) (gap (forms_of forms) []) ≡ total n (gap (forms_of forms) []) + more
+one_more_gap forms n more b lt at size = next n (gap (forms_of forms) []) ∙ ap (λ g. total n (gap (forms_of forms) []) + g) here
+  where
+    here : gap (forms_of forms) [] n ≡ more
+    here = subst (λ (form : Form). gap_of (form.high -ℤ form.low) ≡ more) (form_is forms n b lt at) (gap_is b.high b.low more size)
+
+pub total_at_most : (n m : ℕ) (g : ℕ → ℕ) → n ≤ m → total n g ≤ total m g
+total_at_most n zero g le = subst (λ k. total k g ≤ 0) (sym none) (omega arith)
+  where
+    none : n ≡ 0
+    none = omega arith
+total_at_most n (suc m) g le = ⊎_elim
+    (λ same. subst (λ k. total k g ≤ total m g + g m) (sym same) (omega arith))
+    (λ ne. (let more = total_at_most n m g (omega arith) in omega arith))
+    (equal_or_not n (suc m))
+
+pub room_is : (forms : List Bounded) → total (length forms) (gap (forms_of forms) []) ≡ room (forms_of forms) []
+room_is forms = ap (λ n. total n (gap (forms_of forms) [])) (sym (length-map forms form_of))
 
 -- ---- what the code has tested
 
@@ -151,22 +178,58 @@ module _ (system : LinearSystem) (b : Bounded) (item : Row) (i : ℕ) (lt : i < 
       in_range : (z : ℤ) → pos 0 ≤ℤ z → FitsSigned w128 z → InRange z
       in_range z h fits = omega (arith, ints)
 
-  pub low_asked : (before : ℕ) → i ≡ before + b.row → (product low : ℤ) → product ≡ b.times *ℤ item.constant → low ≡ b.scale *ℤ b.low → product ≤ℤ neg_ℤ low → IsLow system before b
-  low_asked before here product low is_product is_low least = record {
+  pub low_asked : (before : ℕ) → i ≡ before + b.row → (product low : ℤ) → InRange product → product ≡ b.times *ℤ item.constant → low ≡ b.scale *ℤ b.low
+      → product ≤ℤ neg_ℤ low → IsLow system before b
+  low_asked before here product low fits is_product is_low least = record {
     row = subst (λ k. k < length system.rows) here lt;
+    in_range = subst (λ (r : LinearRow). InRange (b.times *ℤ r.constant)) (is ∙ ap (row_at system) here) (subst InRange is_product fits);
     constant = subst (λ (r : LinearRow). (b.times *ℤ r.constant) ≤ℤ neg_ℤ (b.scale *ℤ b.low)) (is ∙ ap (row_at system) here)
         (subst (λ z. z ≤ℤ neg_ℤ (b.scale *ℤ b.low)) is_product (subst (λ z. product ≤ℤ neg_ℤ z) is_low least));
   }
 
   pub top_asked : (times : ℤ) → IsWellFormed system → pos 0 <ℤ times → (high most : ℤ)
-      → high ≡ b.scale *ℤ b.high → most ≡ times *ℤ high → item.constant ≤ℤ most → AreTimes (linear_row item).coeffs (neg_ℤ times) (arc_slice_items b.coeffs)
+      → high ≡ b.scale *ℤ b.high → most ≡ times *ℤ high → InRange most → item.constant ≤ℤ most → AreTimes (linear_row item).coeffs (neg_ℤ times) (arc_slice_items b.coeffs)
       → IsTop system b i times
-  top_asked times well positive high most is_high is_most constant same = record {
+  top_asked times well positive high most is_high is_most fits constant same = record {
     within = lt;
     positive = positive;
     entries = λ j less. ap (λ (r : LinearRow). slice_index_or r.coeffs j (pos 0)) (sym is) ∙ same.each j (subst (λ n. j < n) (sym size) less);
+    in_range = subst InRange (is_most ∙ ap (λ z. times *ℤ z) is_high) fits;
     constant = subst (λ (r : LinearRow). r.constant ≤ℤ (times *ℤ (b.scale *ℤ b.high))) is (subst (λ z. item.constant ≤ℤ z) (is_most ∙ ap (λ z. times *ℤ z) is_high) constant);
   }
     where
       size : length (linear_row item).coeffs ≡ system.columns
       size = ap (λ (r : LinearRow). length r.coeffs) is ∙ well.one_each i lt
+
+  -- ---- what it can't miss
+
+  pub low_met : (before : ℕ) → i ≡ before + b.row → IsLow system before b → InRange (b.times *ℤ item.constant) × ((b.times *ℤ item.constant) ≤ℤ neg_ℤ (b.scale *ℤ b.low))
+  low_met before here low =
+      subst (λ (r : LinearRow). InRange (b.times *ℤ r.constant) × ((b.times *ℤ r.constant) ≤ℤ neg_ℤ (b.scale *ℤ b.low))) (sym (is ∙ ap (row_at system) here)) (low.in_range, low.constant)
+
+  pub top_met : (times : ℤ) → IsTop system b i times → item.constant ≤ℤ (times *ℤ (b.scale *ℤ b.high))
+  top_met times top = subst (λ (r : LinearRow). r.constant ≤ℤ (times *ℤ (b.scale *ℤ b.high))) (sym is) top.constant
+
+  pub top_times : (times : ℤ) → IsWellFormed system → length (arc_slice_items b.coeffs) ≡ system.columns → IsTop system b i times
+      → AreTimes (linear_row item).coeffs (neg_ℤ times) (arc_slice_items b.coeffs)
+  top_times times well size top = record {
+    size = wide ∙ sym size;
+    each = λ j less. ap (λ (r : LinearRow). slice_index_or r.coeffs j (pos 0)) is ∙ top.entries j (subst (λ n. j < n) wide less);
+  }
+    where
+      wide : length (linear_row item).coeffs ≡ system.columns
+      wide = ap (λ (r : LinearRow). length r.coeffs) is ∙ well.one_each i lt
+
+  pub form_times : (before : ℕ) → i ≡ before + b.row → IsWellFormed system → IsFormOf system before b → AreTimes (arc_slice_items b.coeffs) b.times (linear_row item).coeffs
+  form_times before here well form = record {
+    size = form.one_each ∙ sym wide;
+    each = λ j less. form.multiple j (subst (λ n. j < n) form.one_each less)
+        ∙ ap (λ (r : LinearRow). b.times *ℤ slice_index_or r.coeffs j (pos 0)) (sym (is ∙ ap (row_at system) here));
+  }
+    where
+      wide : length (linear_row item).coeffs ≡ system.columns
+      wide = ap (λ (r : LinearRow). length r.coeffs) is ∙ well.one_each i lt
+
+pub form_in_range : (system : LinearSystem) (before : ℕ) (b : Bounded) → IsFormOf system before b → All InRange (arc_slice_items b.coeffs)
+form_in_range system before b form j d lt =
+    subst InRange (get_or_default (arc_slice_items b.coeffs) j (pos 0) d lt) (form.coeffs_in_range j (subst (λ n. j < n) form.one_each lt))

@@ -1,27 +1,24 @@
-use Rattle.std.proofs.Common.{rules, ◌≡◌, ◌+◌, ◌^◌, ◌<◌, length, refl, subst, sym, arith}
-use Rattle.std.specs.Prelude.{FitsSigned}
-use Rattle.std.specs.Int.{w64}
-use Rattle.std.proofs.lemmas.Int.{to_z-of_z}
-use Rattle.rg_branch.specs.Asked.{IsFormOf}
-use Rattle.rg_bounded_forms.proofs.Bounding.{AreKnown, bounded_form, one_more_known, all_known}
+use Rattle.std.proofs.Common.{rules, ◌≡◌, ◌+◌, ◌^◌, ◌<◌, ◌≤◌, [], length, refl}
+use Rattle.rg_linear.specs.Room.{room}
+use Rattle.rg_branch.specs.View.{forms_of}
+use Rattle.rg_bounded_forms.proofs.Bounding.{a_top, can_by_rows}
 use Rattle.rg_bounded_forms.proofs.asking.can_branch_after.Goals as goal
 
-pub loop-f-preserved : goal.loop-f-preserved
-loop-f-preserved c =
-    let form : IsFormOf c.args.system.now c.args.before c.index-forms-f.result = c.if-not-is_form.ensures refl in
-    let low : FitsSigned w64 c.index-forms-f.result.low = search rules in
-    let high : FitsSigned w64 c.index-forms-f.result.high = search rules in
-    let size = rw (to_z-of_z w64 c.index-forms-f.result.low low, to_z-of_z w64 c.index-forms-f.result.high high) at c.gap.ensures in
-    let sum : c.in-Some.more ≡ c.loop-f.room + c.gap.result = search rules in
-    subst (AreKnown c.args.system.now c.args.before c.args.forms.now (c.loop-f.f + 1)) (sym sum)
-    (one_more_known c.args.system.now c.args.before c.args.forms.now c.loop-f.f c.loop-f.room c.gap.result c.index-forms-f.result c.loop-f-test.true c.index-forms-f.is c.loop-f.invariant
-    (bounded_form c.args.system.now c.args.before c.index-forms-f.result _ _ form (c.if-not-is_low.ensures refl) (c.if-not-is_top.ensures refl)) (size form.ordered))
+pub room_of-requires : goal.room_of-requires
+room_of-requires c = record { ordered = λ k d lt. (c.if-not-are_by_rows.ensures.shown refl k d a_top lt).form.ordered }
 
-pub returns : goal.returns
-returns c = λ e.
-    let end : c.loop-f.f ≡ length c.args.forms.now = (let past = c.loop-f-test.false in let most = c.loop-f.auto.f-end in omega arith) in
-    let few_forms : length c.args.forms.now < 2 ^ 32 = search rules in
+shown : goal.returns-clause-shown
+shown c = λ e.
+    let size : length c.args.tops.now ≡ length c.args.forms.now = search rules in
+    let few_forms : length c.args.forms.now ≤ 1000 = search rules in
+    let is : c.in-Some.room ≡ room (forms_of c.args.forms.now) [] = search rules in
+    let columns = c.columns.ensures.value in
     let rows = c.count.ensures.value in
-    let few : c.args.system.now.columns + length c.args.system.now.rows + c.loop-f.room < 2 ^ 32 = search rules in
-    all_known c.args.system.now c.args.before c.args.forms.now c.loop-f.room
-    (subst (λ n. AreKnown c.args.system.now c.args.before c.args.forms.now n c.loop-f.room) end c.loop-f.invariant) few_forms few
+    let few : c.args.system.now.columns + length c.args.system.now.rows + room (forms_of c.args.forms.now) [] < 2 ^ 32 = search rules in
+    record { one_each = size; few_forms = few_forms; each = c.if-not-are_by_rows.ensures.shown refl; few = few }
+
+pub returns-clause-can : goal.returns-clause-can
+returns-clause-can c = λ e. can_by_rows c.args.system.now c.args.before c.args.forms.now c.args.tops.now (shown c e)
+
+pub returns-clause-shown : goal.returns-clause-shown
+returns-clause-shown = shown

@@ -6,11 +6,11 @@ use Rattle.rg_integers.specs.Range.{InRange}
 use Rattle.rg_integers.proofs.Casts.{casts}
 use Rattle.rg_linear.specs.View.{linear_row}
 use Rattle.rg_bounded_forms.specs.Bounds.{AreTimes}
-use Rattle.rg_bounded_forms.proofs.Bounding.{form_asked}
+use Rattle.rg_bounded_forms.proofs.Bounding.{form_asked, form_in_range}
 use Rattle.rg_bounded_forms.proofs.asking.is_form.Goals as goal
 
-pub returns-then-is_in_range : goal.returns-then-is_in_range
-returns-then-is_in_range c = λ e.
+pub returns-then-is_in_range-clause-form : goal.returns-then-is_in_range-clause-form
+returns-then-is_in_range-clause-form c = λ e.
     let row = c.in-Some.ensures in
     let size : length (arc_slice_items c.args.form.now.coeffs) ≡ c.args.system.now.columns = search rules in
     let positive : pos 0 <ℤ c.args.form.now.scale = search (rules, casts) in
@@ -23,3 +23,8 @@ returns-then-is_in_range c = λ e.
     let coeffs : All InRange (arc_slice_items c.args.form.now.coeffs) = search rules in
     let are : AreTimes (arc_slice_items c.args.form.now.coeffs) c.args.form.now.times (linear_row c.in-Some.row.now).coeffs = search (rules, casts) in
     form_asked c.args.system.now c.args.form.now c.in-Some.row.now _ row.within row.value c.args.before refl size positive ordered not_negative scale times low high coeffs are
+
+pub returns-else-is_in_range-clause-no_form : goal.returns-else-is_in_range-clause-no_form
+returns-else-is_in_range-clause-no_form c = λ e within is.
+    let all = form_in_range c.args.system.now c.args.before c.args.form.now is in
+    absurd (search rules)
