@@ -1,45 +1,58 @@
 //! What the program does: words, files and streams of the process are handed to `run`, and its status is the exit status.
 #![tactic(auto)]
 
+ghost use Rattle.std.specs.Prelude.{◌≡◌};
+ghost use Rattle.std.specs.Process.{exit_status};
+ghost use Rattle.rg_program.specs.Exit.{exit_number};
+
 use rg_ports::{FolderShelf, NoGate, StdSink};
-use rg_top::run;
+use rg_top::{Status, run};
 use std::env;
 use std::io::ErrorKind;
 use std::process::ExitCode;
 use std::thread::Threads;
 
-// Why there are no words.
-enum NoWords {
-    Memory,
-    Other,
+/// How the program ends.
+#[derive(Drop)]
+pub enum End {
+    /// With what `run` returned.
+    Ran(Status),
+    /// Memory ran out before the words were there.
+    NoMemory,
+    /// The words can't be had for another cause, such as a word that isn't UTF-8.
+    NoWords,
 }
 
-// The words after the program's name.
-fn words_given(rt: &HostRuntime) -> Result<Vec<String>, NoWords> {
-    let args = match env::args(rt) {
-        Ok(args) => args,
-        Err(e) => {
-            return Err(if e.kind() == ErrorKind::OutOfMemory {
-                NoWords::Memory
-            } else {
-                NoWords::Other
-            });
-        }
-    };
-    match args.skip(1).collect(rt.alloc()) {
-        Ok(words) => Ok(words),
-        Err(_) => Err(NoWords::Memory),
+/// Returns the exit status: the number of what `run` returned, 7 if memory ran out before the words were there, 9 if
+/// the words couldn't be had for another cause.
+pub fn exit_code(end: &End) -> ExitCode
+    ensures { exit_status result ≡ exit_number end.now }
+{
+    match end {
+        End::Ran(status) => ExitCode::from(status.number()),
+        End::NoMemory => ExitCode::from(7),
+        End::NoWords => ExitCode::from(9),
     }
 }
 
-/// Runs the command that the process's words name, over the files of the current folder and the standard streams, and returns the exit
-/// status: `Status::number` of what `run` returns, 7 if memory runs out before the words are there, 9 if the words can't be had for another
-/// cause, such as a word that isn't UTF-8. The threads are those of `main`'s runtime, which only `main` can hand on.
-pub fn run_program<R: Threads + Sync>(rt: HostRuntime, threads: &R) -> ExitCode {
+// The words after the program's name, or the end if there are none.
+fn words_given(rt: &HostRuntime) -> Result<Vec<String>, End> {
+    let args = match env::args(rt) {
+        Ok(args) => args,
+        Err(e) if e.kind() == ErrorKind::OutOfMemory => return Err(End::NoMemory),
+        Err(_) => return Err(End::NoWords),
+    };
+    match args.skip(1).collect(rt.alloc()) {
+        Ok(words) => Ok(words),
+        Err(_) => Err(End::NoMemory),
+    }
+}
+
+// Runs the command that the process's words name.
+fn end_of_run<R: Threads + Sync>(rt: HostRuntime, threads: &R) -> End {
     let words = match words_given(&rt) {
         Ok(words) => words,
-        Err(NoWords::Memory) => return ExitCode::from(7),
-        Err(NoWords::Other) => return ExitCode::from(9),
+        Err(end) => return end,
     };
     let mut shelf = FolderShelf::new(rt);
     let mut out = StdSink::out(rt);
@@ -53,5 +66,11 @@ pub fn run_program<R: Threads + Sync>(rt: HostRuntime, threads: &R) -> ExitCode 
         &mut err,
         &NoGate,
     );
-    ExitCode::from(status.number())
+    End::Ran(status)
+}
+
+/// Runs the command that the process's words name, over the files of the current folder and the standard streams, and
+/// returns the exit status. The threads are those of `main`'s runtime, which only `main` can hand on.
+pub fn run_program<R: Threads + Sync>(rt: HostRuntime, threads: &R) -> ExitCode {
+    exit_code(&end_of_run(rt, threads))
 }
