@@ -1,6 +1,7 @@
 -- Which files were asked for, and read.
 use Rattle.std.specs.Option.{option_to_list}
 use Rattle.std.proofs.Common.{◌≡◌, inl, inr, ℕ, ◌<◌, Bool, List, [], ◌∷◌, ◌++◌, Option, Some, None, option_map, append-nil, append_assoc, refl, sym, ap, subst, ◌∙◌, arith}
+use Rattle.rg_text.specs.Limits.{most_bytes}
 use Rattle.rg_ports.specs.Calls.{finds_end, ReadsFile}
 use Rattle.rg_ports.specs.Count.{HasRisen}
 use Rattle.rg_ports.specs.Shelf.{Files, asked_with}
@@ -43,11 +44,11 @@ asks_all files work file form lts before between after system first second = (
 -- the calls that read the first file, to its end, and those that read the others
 pub reads_all : {S : Type 0} (finds : S → List ℕ → Option Bool → S → Type 0) (hands : S → ℕ → Option ℕ → S → Type 0) (files : Option Files)
     (work : Work (List ℕ)) (file : List ℕ) (form : Form) (s m t : S) (lts : System)
-    → ReadsFile finds hands file s finds_end m → IsSystemFile files form file lts → ReadsMore finds hands (second_file work) m t → ReadsFiles finds hands files work file form s t
+    → ReadsFile finds hands most_bytes file s finds_end m → IsSystemFile files form file lts → ReadsMore finds hands (second_file work) m t → ReadsFiles finds hands files work file form s t
 reads_all finds hands files work file form s m t lts first system more = by (second_file work) refl more
   where
     by : (second : Option (List ℕ)) → second_file work ≡ second → ReadsMore finds hands second m t → ReadsFiles finds hands files work file form s t
-    by None is same = first_alone s t finds_end (subst (λ x. ReadsFile finds hands file s finds_end x) (sym same) first)
+    by None is same = first_alone s t finds_end (subst (λ x. ReadsFile finds hands most_bytes file s finds_end x) (sym same) first)
     by (Some second) is (last, reads) = both second s m t lts last (ap (λ o. file ∷ option_to_list o) is) first system reads
 
 -- ---- the calls for what words ask

@@ -1,6 +1,7 @@
 -- What the parts of the answer say. Contracts of the crate's private functions cite it.
 use Rattle.std.specs.Prelude.{◌≡◌, ◌⊎◌, ◌++◌, ℕ, Bool, List, Option, None, Some, option_map, Ok, Err}
 use Rattle.std.specs.Option.{option_to_list}
+use Rattle.rg_text.specs.Limits.{most_bytes}
 use Rattle.rg_ports.specs.Calls.{LastCall, ReadsFile}
 use Rattle.rg_ports.specs.Shelf.{Files}
 use Rattle.rg_integers.specs.Range.{greatest}
@@ -73,7 +74,7 @@ asked_more before second = option_map (λ all. all ++ option_to_list second) bef
 -- the calls that read the second file, where there is one
 abbrev pub ReadsMore : {S : Type 0} (finds : S → List ℕ → Option Bool → S → Type 0) (hands : S → ℕ → Option ℕ → S → Type 0) → Option (List ℕ) → S → S → Type 0
 ReadsMore finds hands None s t = t ≡ s
-ReadsMore finds hands (Some second) s t = (last : LastCall) × ReadsFile finds hands second s last t
+ReadsMore finds hands (Some second) s t = (last : LastCall) × ReadsFile finds hands most_bytes second s last t
 
 -- how `verify` ends where the second file has these bytes
 pub data JudgesBytes (bytes : List ℕ) (lts : System) : End → Type 0 where

@@ -1,5 +1,6 @@
 -- What is seen of one run, and how it may end.
 use Rattle.std.specs.Prelude.{◌≡◌, ◌⊎◌, ℕ, ◌<◌, Bool, true, false, List, [], ◌∷◌, ◌++◌, length, Option, option_map, IsSome}
+use Rattle.rg_text.specs.Limits.{most_bytes}
 use Rattle.rg_ports.specs.Calls.{LastCall, finds_end, ReadsFile}
 use Rattle.rg_ports.specs.Count.{HasRisen}
 use Rattle.rg_ports.specs.Offer.{Offers}
@@ -133,14 +134,14 @@ abbrev pub AsksAtMost : List (List ℕ) → Option Files → Option (List (List 
 AsksAtMost words files before after =
     (after ≡ before) ⊎ ((work : Work (List ℕ)) × (file : List ℕ) × (form : Form) × Ask words (OfSystem work file form) × AsksFiles files work file form before after)
 
--- the calls that read the system's file, and after them, where its end was found and it spells a system, those that read the second
+-- the calls that read the system's file, each handing out at most one byte more than a file may have, and after them, where its end was found and it spells a system, those that read the second
 -- one
 pub data ReadsFiles {S : Type 0} (finds : S → List ℕ → Option Bool → S → Type 0) (hands : S → ℕ → Option ℕ → S → Type 0)
     (files : Option Files) (work : Work (List ℕ)) (file : List ℕ) (form : Form) : S → S → Type 0 where
-  first_alone : (s t : S) (last : LastCall) → ReadsFile finds hands file s last t → ReadsFiles finds hands files work file form s t
+  first_alone : (s t : S) (last : LastCall) → ReadsFile finds hands most_bytes file s last t → ReadsFiles finds hands files work file form s t
   both : (second : List ℕ) (s m t : S) (lts : System) (last : LastCall) → file_words (OfSystem work file form) ≡ file ∷ second ∷ []
-      → ReadsFile finds hands file s finds_end m → IsSystemFile files form file lts
-      → ReadsFile finds hands second m last t → ReadsFiles finds hands files work file form s t
+      → ReadsFile finds hands most_bytes file s finds_end m → IsSystemFile files form file lts
+      → ReadsFile finds hands most_bytes second m last t → ReadsFiles finds hands files work file form s t
 
 -- no call of the shelf, or those that read the files that the words name; none after the end of a file was found
 abbrev pub ReadsAtMost : {S : Type 0} (finds : S → List ℕ → Option Bool → S → Type 0) (hands : S → ℕ → Option ℕ → S → Type 0) → List (List ℕ) → Option Files → S → S → Type 0

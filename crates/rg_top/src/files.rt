@@ -33,8 +33,8 @@ pub(crate) fn read_bytes<H: Shelf>(
 ) -> Result<Vec<u8>, FileStop>
     ensures files { H.files shelf.new ≡ H.files shelf.old }
     ensures asked { H.asked shelf.new ≡ asked_with (H.asked shelf.old) name.now }
-    ensures reads { (last : LastCall) × ReadsFile H.finds H.hands name.now shelf.old last shelf.new }
-    ensures whole { IfOk result (λ _. ReadsFile H.finds H.hands name.now shelf.old finds_end shelf.new) }
+    ensures reads { (last : LastCall) × ReadsFile H.finds H.hands most_bytes name.now shelf.old last shelf.new }
+    ensures whole { IfOk result (λ _. ReadsFile H.finds H.hands most_bytes name.now shelf.old finds_end shelf.new) }
     ensures ok { IfOk result (λ bytes. IsFile (H.files shelf.old) name.now bytes.items) }
     ensures refused { (fault : Fault) → IsErrOf result (stop.Refused fault) → IsUnread (H.files shelf.old) name.now fault }
     ensures never_falls { H.faults shelf.old ≤ H.faults shelf.new }
@@ -58,8 +58,8 @@ pub(crate) fn read_system<H: Shelf>(
 ) -> Result<Lts, FileStop>
     ensures files { H.files shelf.new ≡ H.files shelf.old }
     ensures asked { H.asked shelf.new ≡ asked_with (H.asked shelf.old) name.now }
-    ensures reads { (last : LastCall) × ReadsFile H.finds H.hands name.now shelf.old last shelf.new }
-    ensures whole { IfOk result (λ _. ReadsFile H.finds H.hands name.now shelf.old finds_end shelf.new) }
+    ensures reads { (last : LastCall) × ReadsFile H.finds H.hands most_bytes name.now shelf.old last shelf.new }
+    ensures whole { IfOk result (λ _. ReadsFile H.finds H.hands most_bytes name.now shelf.old finds_end shelf.new) }
     ensures ok { IfOk result (λ lts. IsSystemFile (H.files shelf.old) form name.now lts) }
     ensures refused { (fault : Fault) → IsErrOf result (stop.Refused fault) → IsNoSystem (H.files shelf.old) form name.now fault }
     ensures never_falls { H.faults shelf.old ≤ H.faults shelf.new }
