@@ -1,7 +1,7 @@
 #!/usr/bin/env bash
-# Runs every command line that README.md, the pages of docs/, examples/README.md and the manual page show, and compares its output, its
-# status, and that it prints nothing to standard error, with what the page says. Run it by hand at the top of the repository, once the
-# program is built; it is no part of the gate:
+# Runs every command line that README.md, the pages of docs/, examples/README.md, tools/README.md and the manual page show, and compares its
+# output, its status, and that it prints nothing to standard error, with what the page says. Run it by hand at the top of the repository,
+# once the program is built; it is no part of the gate:
 #     docs/try.sh [the program, crates/regions/out/regions by default]
 # A block of lines that begins with `$ ` is a command and what it prints to standard output. ` # status N` may follow the command; the
 # default is 0. Lines of standard error are shown by `2>&1`. A row of a table may have such a command, then the status and one of the lines
@@ -25,7 +25,7 @@ export PATH="$room/bin:$PATH"
 passed=0
 failed=0
 # how many lines the pages have at least; raise it when they get more
-least=187
+least=203
 
 # counts a result. Arguments: whether the result is right, the page, the command, what differs
 count() {
@@ -97,7 +97,7 @@ try_manual() {
   count "$right" docs/regions.1 "$1" "status $status; $(diff <(printf '%s\n' "$2") "$room/out" | head -20)"
 }
 
-for page in README.md $(cd "$top" && echo docs/*.md) examples/README.md; do
+for page in README.md $(cd "$top" && echo docs/*.md) examples/README.md tools/README.md; do
   command=''
   wanted=''
   while IFS= read -r line || [ -n "$line" ]; do
