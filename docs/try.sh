@@ -25,7 +25,7 @@ export PATH="$room/bin:$PATH"
 passed=0
 failed=0
 # how many lines the pages have at least; raise it when they get more
-least=203
+least=212
 
 # counts a result. Arguments: whether the result is right, the page, the command, what differs
 count() {
@@ -60,7 +60,7 @@ try_row() {
 
 # compares `verify` with the checker after a `verify`, or a `synthesize` that wrote a certificate. Arguments: the page, the status, the command
 both() {
-  local page=$1 status=$2 line=${3% # status [0-9]} file certificate verdict=0 right=no
+  local page=$1 status=$2 line=${3% # status [0-9]} file certificate form=apt verdict=0 right=no
   local -a words
   read -ra words <<< "$line"
   file=${words[3]-}
@@ -72,13 +72,12 @@ both() {
   esac
   cp "$certificate" "$room/certificate"
   case "$line" in
-    *' --from words'*) regions convert apt "$file" --from words > "$room/system" ;;
-    *' --from graph'*) regions convert apt "$file" --from graph > "$room/system" ;;
-    *) cp "$file" "$room/system" ;;
+    *' --from words'*) form=words ;;
+    *' --from graph'*) form=graph ;;
   esac
-  regions verify "$room/system" "$room/certificate" > "$room/first" 2> "$room/err"
+  regions verify "$file" "$room/certificate" --from "$form" > "$room/first" 2> "$room/err"
   [ $? = "$verdict" ] && right=yes
-  python3 tools/check_certificate.py "$room/system" "$room/certificate" > "$room/second" 2>> "$room/err"
+  python3 tools/check_certificate.py "$file" "$room/certificate" --from "$form" > "$room/second" 2>> "$room/err"
   [ $? = "$verdict" ] || right=no
   [ "$verdict" = 1 ] || cmp -s "$room/first" "$room/second" || right=no
   count "$right" "$page" "verify and the checker after: $line" "$(cat "$room/first" "$room/second" "$room/err")"

@@ -1,16 +1,16 @@
 #!/usr/bin/env python3
-"""check_certificate.py FILE CERT: an independent checker of certificates that a system has no Petri net of a class.
+"""check_certificate.py FILE CERT [--from F]: an independent checker of certificates that a system has no Petri net of a class.
 
-FILE is a system in the form of APT files, CERT a certificate. The checker follows docs/certificates.md alone and shares nothing with
-the program `regions`. It needs Python 3.8 or later, and no library.
+FILE is a system, CERT a certificate. F is the form of FILE: `apt` for a system in the form of APT files (the default), `graph` for a
+state graph, `words` for a list of words. The checker follows docs/certificates.md and docs/formats.md alone and shares nothing with the
+program `regions`. It needs Python 3.8 or later, and no library.
 
 Exit status: 0  the certificate holds: it prints `accepted: no net of class CLASS`
              1  the certificate doesn't hold: it prints `refused: line N: ` and why
-             2  wrong arguments, or a file that can't be read, or FILE is no system file: it prints why to standard error
+             2  wrong arguments, or a file that can't be read, or FILE isn't of the form F: it prints why to standard error
 
 Example:     python3 tools/check_certificate.py examples/cycle3.apt examples/cycle3-plain.cert
 
-For a state graph or a list of words write an APT file first: regions convert apt FILE --from graph > FILE.apt
 Numbers have any size here, so rule 4 of a leaf (sums within 128 bits) isn't checked; what is accepted besides is right too.
 """
 import sys
@@ -21,7 +21,7 @@ NAME_BYTES = frozenset("abcdefghijklmnopqrstuvwxyzABCDEFGHIJKLMNOPQRSTUVWXYZ0123
 
 
 class BadFile(Exception):
-    """FILE is no system file, or can't be read."""
+    """FILE isn't of its form, or can't be read."""
 
 
 class Refused(Exception):
@@ -80,13 +80,12 @@ def is_name(token):
     return token[0] in NAME_BYTES
 
 
-class System:
-    """A system read from the text of a system file: states and labels by name, in order, arcs, and the initial state."""
+class AptFile:
+    """The reading of a system file: its states, labels and arcs by name, in order, and its initial state."""
 
     def __init__(self, text):
-        require(len(text) <= MOST_BYTES, "longer than 16,777,216 bytes", BadFile)
         self.tokens, self.at = tokens(text), 0
-        self.types, self.states, self.labels, self.marked, triples = [], [], [], [], []
+        self.types, self.states, self.labels, self.marked, self.arcs = [], [], [], [], []
         while self.at < len(self.tokens):
             section = self.next()
             if section == ".type":
@@ -102,16 +101,13 @@ class System:
                     self.options()
             elif section == ".arcs":
                 while self.at_name():
-                    triples.append((self.name(), self.name(), self.name()))
+                    self.arcs.append((self.name(), self.name(), self.name()))
                     self.options()
             else:  # any other word and a text are passed over
                 require(section[0] == ".", "expected a section", BadFile)
                 require(self.next()[0] == '"', "expected a text in quotes", BadFile)
-        self.arcs = set(triples)
         self.check()
         self.initial = self.marked[0]
-        self.leaving = {(q, t) for q, t, _ in self.arcs}
-        self.reached = self.reach()
 
     def next(self):
         require(self.at < len(self.tokens), "the file ends too early", BadFile)
@@ -152,10 +148,80 @@ class System:
         require(len(set(self.labels)) == len(self.labels), "a label is declared twice", BadFile)
         require(len(set(self.marked)) == 1, "there is not one initial state", BadFile)
         states, labels = set(self.states), set(self.labels)
-        self.known = {"s": states, "t": labels}
         require(all(q in states and t in labels and r in states for q, t, r in self.arcs), "an arc of unknown names", BadFile)
-        within = len(states) <= MOST_STATES and len(labels) <= MOST_LABELS and len(self.arcs) <= MOST_ARCS
+
+
+# ---- state graphs and lists of words
+
+def words_of(line):
+    """Returns the texts between the blanks of a line."""
+    return [word for word in line.replace("\t", " ").replace("\r", " ").split(" ") if word]
+
+
+def is_plain(word):
+    return 1 <= len(word) <= 255 and NAME_BYTES.issuperset(word)
+
+
+class GraphFile:
+    """The reading of a state graph. States and labels are in the order in which arcs first name them."""
+
+    def __init__(self, text):
+        self.arcs, self.initial, begun, ended = [], None, False, False
+        for number, line in enumerate(text.split("\n"), 1):
+            words = words_of(line.partition("#")[0].replace("{", " { ").replace("}", " } "))
+            if not begun:
+                begun = words == [".state", "graph"]
+                require(not words or words[0][0] == ".", "line %d: a line of another form" % number, BadFile)
+            elif words == [".end"]:
+                ended = True
+                break
+            elif len(words) == 4 and words[:2] == [".marking", "{"] and is_plain(words[2]) and words[3] == "}" and self.initial is None:
+                self.initial = words[2]
+            elif words:
+                require(len(words) == 3 and all(map(is_plain, words)), "line %d: a line of another form" % number, BadFile)
+                self.arcs.append(tuple(words))
+        require(ended, "no `.end` after `.state graph`", BadFile)
+        require(self.initial is not None, "no marking", BadFile)
+        named = [state for q, _, r in self.arcs for state in (q, r)] or [self.initial]
+        require(self.initial in named, "no arc names the marked state", BadFile)
+        self.states = list(dict.fromkeys(named))
+        self.labels = list(dict.fromkeys(t for _, t, _ in self.arcs))
+
+
+class WordFile:
+    """The reading of a list of words: the tree of their prefixes, `s0` the empty word."""
+
+    def __init__(self, text):
+        self.states, self.initial, targets = ["s0"], "s0", {}
+        for number, line in enumerate(text.split("\n"), 1):
+            state, words = "s0", words_of(line)
+            for label in words if not (words and words[0][0] == "#") else []:
+                require(is_plain(label), "line %d: a label that is no name" % number, BadFile)
+                if (state, label) not in targets:
+                    targets[state, label] = "s%d" % len(self.states)
+                    self.states.append(targets[state, label])
+                state = targets[state, label]
+        self.arcs = [(state, label, target) for (state, label), target in targets.items()]
+        self.labels = list(dict.fromkeys(label for _, label, _ in self.arcs))
+
+
+FORMS = {"apt": AptFile, "graph": GraphFile, "words": WordFile}
+
+
+# ---- the system
+
+class System:
+    """A system read from a text of one of the three forms: states and labels by name, in order, arcs, and the initial state."""
+
+    def __init__(self, text, form="apt"):
+        require(len(text) <= MOST_BYTES, "longer than 16,777,216 bytes", BadFile)
+        file = FORMS[form](text)
+        self.states, self.labels, self.arcs, self.initial = file.states, file.labels, set(file.arcs), file.initial
+        within = len(self.states) <= MOST_STATES and len(self.labels) <= MOST_LABELS and len(self.arcs) <= MOST_ARCS
         require(within, "more states, labels or arcs than a system may have", BadFile)
+        self.known = {"s": set(self.states), "t": set(self.labels)}
+        self.leaving = {(q, t) for q, t, _ in self.arcs}
+        self.reached = self.reach()
 
     def reach(self):
         """Returns the states that arcs lead to from the initial state."""
@@ -321,11 +387,7 @@ class Checker:
     def check_leaf(self, path):
         """Checks that the rows of a leaf add up to a negative constant."""
         sums, constants = {}, 0
-        # a row begins with its multiplier; a set, since an empty line begins with no character, and "" is in every string
-        while self.line + 1 < len(self.lines) and self.lines[self.line][:1] in {*"-0123456789"}:
-            multiplier, *words = self.take()
-            word = words[0] if words else ""
-            k, *values = self.values([multiplier, *words[1:]], ROWS.get(word))
+        for k, word, values in self.rows():
             # rule 1: the row is allowed there
             terms, constant = self.row(word, values, path)
             # rule 2: the multiplier of each row but `arc` is at least 1
@@ -336,6 +398,15 @@ class Checker:
         # rule 3: for each M(Q) and each E(T) the multiplied coefficients add up to 0, and the multiplied constants to a number below 0
         require(not any(sums.values()) and constants < 0, "the rows of this leaf add up to no contradiction")
         # rule 4 (the sums of absolute values are at most 2^127 - 1) isn't needed with numbers of any size
+
+    def rows(self):
+        """Reads the rows of a leaf one after another: multiplier, word, and the values that follow it."""
+        # a row begins with its multiplier; a set, since an empty line begins with no character, and "" is in every string
+        while self.line + 1 < len(self.lines) and self.lines[self.line][:1] in {*"-0123456789"}:
+            multiplier, *words = self.take()
+            word = words[0] if words else ""
+            k, *values = self.values([multiplier, *words[1:]], ROWS.get(word))
+            yield k, word, values
 
     def row(self, word, values, path):
         """Returns the terms and the constant of a row, which add up to at least 0 (to 0 for an `arc`). Refuses a row that isn't allowed there."""
@@ -414,23 +485,38 @@ def read(name):
         raise BadFile("%s can't be read: %s" % (name, error.strerror)) from None
 
 
+def read_system(name, form):
+    text = read(name)
+    try:
+        return System(text, form)
+    except BadFile as why:
+        raise BadFile("%s is no %s: %s" % (name, {"apt": "system file", "graph": "state graph", "words": "list of words"}[form], why)) from None
+
+
+def files_and_form(arguments):
+    """Returns the two files and the form of the first, or None if the arguments are others."""
+    files, form = list(arguments), "apt"
+    if "--from" in files[:-1]:
+        at = files.index("--from")
+        form = files[at + 1]
+        del files[at:at + 2]
+    return (*files, form) if len(files) == 2 and "--from" not in files and form in FORMS else None
+
+
 def main(arguments):
     if arguments in (["--help"], ["-h"]):
         print(__doc__)
         return 0
-    if len(arguments) != 2:
-        print("usage: check_certificate.py FILE CERT (see --help)", file=sys.stderr)
+    given = files_and_form(arguments)
+    if given is None:
+        print("usage: check_certificate.py FILE CERT [--from apt|graph|words] (see --help)", file=sys.stderr)
         return 2
+    file, cert, form = given
     try:
-        file_text, cert_text = map(read, arguments)
-        try:
-            system = System(file_text)
-        except BadFile as why:
-            raise BadFile("%s is no system file: %s" % (arguments[0], why)) from None
+        checker = Checker(read_system(file, form), read(cert))
     except BadFile as why:
         print(why, file=sys.stderr)
         return 2
-    checker = Checker(system, cert_text)
     try:
         print("accepted: no net of class " + checker.check())
         return 0
