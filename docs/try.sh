@@ -3,9 +3,9 @@
 # output, its status, and that it prints nothing to standard error, with what the page says. Run it by hand at the top of the repository,
 # once the program is built; it is no part of the gate:
 #     docs/try.sh [the program, crates/regions/out/regions by default]
-# A block of lines that begins with `$ ` is a command and what it prints to standard output. ` # status N` may follow the command; the
-# default is 0. Lines of standard error are shown by `2>&1`. A row of a table may have such a command, then the status and one of the lines
-# that are printed. The manual page has no statuses and may leave output out: lines that follow a command are those of both outputs.
+# A block of lines that begins with `$ ` is a command and what it prints to standard output, empty lines included. ` # status N` may follow
+# the command; the default is 0. Lines of standard error are shown by `2>&1`. A row of a table may have such a command, then the status and
+# one of the lines that are printed. The manual page has no statuses and may leave output out: lines that follow a command are those of both outputs.
 # tools/check_certificate.py checks each system and certificate that a command line gives to `verify`, or that `synthesize` writes, and has
 # to answer the same yes or no as `verify`.
 # The script and the Makefile of docs/guide.md are run with a system that has a net, with one that has none, and with a broken file.
@@ -25,7 +25,7 @@ export PATH="$room/bin:$PATH"
 passed=0
 failed=0
 # how many lines the pages have at least; raise it when they get more
-least=212
+least=218
 
 # counts a result. Arguments: whether the result is right, the page, the command, what differs
 count() {
@@ -97,18 +97,19 @@ try_manual() {
 }
 
 for page in README.md $(cd "$top" && echo docs/*.md) examples/README.md tools/README.md; do
-  command=''
-  wanted=''
+  command='' wanted='' gap=''
   while IFS= read -r line || [ -n "$line" ]; do
     case "$line" in
       '    $ '*)
         [ -z "$command" ] || try "$command" "$wanted" "$page"
         command=${line#'    $ '}
-        wanted=''
+        wanted='' gap=''
         ;;
       '    '*)
-        [ -z "$command" ] || wanted=${wanted:+$wanted$'\n'}${line#'    '}
+        [ -z "$command" ] || wanted=${wanted:+$wanted$'\n'}$gap${line#'    '}
+        gap=''
         ;;
+      '') gap=$gap$'\n' ;;
       '|'*'`$ '*)
         row=${line#*'`$ '}
         result=${row#*'` | '}

@@ -340,7 +340,7 @@ class Checker:
         return self.net_class.text()
 
     def check_reason(self, names):
-        system = self.system
+        system, self.names = self.system, names
         consumers = system.labels if self.net_class.nonbranching else [None]
         if self.reason == "unreachable":  # no arcs lead from the initial state to S
             require(names[0] not in system.reached, "the state can be reached")

@@ -28,6 +28,7 @@ import argparse
 import csv
 import io
 import re
+import signal
 import sys
 import unicodedata
 from collections import Counter
@@ -239,4 +240,5 @@ def main(words):
 
 
 if __name__ == "__main__":
+    signal.signal(signal.SIGPIPE, signal.SIG_DFL)  # ends in silence if `head` closes the pipe
     sys.exit(main(sys.argv[1:]))
