@@ -82,7 +82,8 @@ END {
       words_of(line[i])
       arc_text = renamed("state", word[1]) " " renamed("name", word[2]) " " renamed("state", word[3])
       rest = match(line[i], /[ \t]*#/) ? substr(line[i], RSTART) : ""
-      print arc_text == word[1] " " word[2] " " word[3] ? line[i] : arc_text rest
+      unchanged = arc_text == (word[1] " " word[2] " " word[3])
+      print (unchanged ? line[i] : arc_text rest)
     } else if (i == marking && renamed("state", initial) != initial)
       print ".marking {" renamed("state", initial) "}"
     else
