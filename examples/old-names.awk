@@ -62,9 +62,9 @@ FILENAME == ARGV[1] {
     before[substr($1, 2), $2] = substr($0, RLENGTH)
   next
 }
-/^[.]model lts$/ { graph = 1; text = text $0 "\n"; next }
+/^[.]model lts$/ && !section && !graph { graph = 1; text = text $0 "\n"; next }
 graph { text = text graph_line() "\n"; next }
-/^[.]type (PN|LPN|LTS)$/ { labelled = $2 == "LPN"; section = $1; text = text $0 "\n"; next }
+/^[.]type (PN|LPN|LTS)$/ && !section { labelled = $2 == "LPN"; section = $1; text = text $0 "\n"; next }
 /^[.](states|labels|arcs|places|transitions|flows)$/ && section { section = $1; text = text $0 "\n"; next }
 /^[.]initial_marking [{][^{}]*[}]$/ && section == ".flows" { text = text $0 "\n"; next }
 section == ".states" { text = text entry("state") "\n"; next }

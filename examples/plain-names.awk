@@ -36,6 +36,7 @@ function words_of(text) {
   sub(/#.*/, "", text)
   return split(text, word, " ")
 }
+FNR < NR { refuse(FNR, "expected one file") }
 {
   sub(/\r$/, "")
   line[NR] = $0

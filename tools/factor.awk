@@ -49,7 +49,7 @@ file == 1 {
 }
 FNR == 1 && !parts { refuse("factor.awk: " ARGV[1] " has no factor " n) }
 /^[ \t]*(\/\/|$)/ || /^[.]name "[^"]*"$/ { next }
-/^[.](type LTS|states|labels|arcs)$/ {
+(/^[.]type LTS$/ && section == "") || (/^[.](states|labels|arcs)$/ && section != "") {
   section = $1
   text = text $0 "\n"
   next

@@ -12,7 +12,7 @@ function quoted(name) {
 }
 { sub(/\r$/, "") }
 /^[ \t]*(\/\/|$)/ || /^[.]name "[^"]*"$/ { next }
-/^[.](type LTS|states|labels|arcs)$/ {
+(/^[.]type LTS$/ && section == "") || (/^[.](states|labels|arcs)$/ && section != "") {
   section = $1
   next
 }
@@ -28,7 +28,7 @@ section == ".arcs" && NF >= 3 {
   graph = graph sprintf("  %s -> %s [label=%s];\n", quoted($1), quoted($NF), quoted(label))
   next
 }
-section != ".labels" { refuse("expected a system file as `regions convert apt` writes it") }
+section != ".labels" || NF != 1 { refuse("expected a system file as `regions convert apt` writes it") }
 END {
   if (failed)
     exit 1

@@ -76,7 +76,8 @@ BEGIN {
     refuse("net2dot.awk: -v dir is LR, TB, BT or RL")
 }
 { sub(/\r$/, "") }
-/^[.]type (PN|LPN)$/ || /^[.](places|transitions|flows)$/ { section = $1; next }
+/^[.]type (PN|LPN)$/ && section == "" { section = $1; next }
+/^[.](places|transitions|flows)$/ && section != "" && section != "end" { section = $1; next }
 section == ".places" && /^[A-Za-z0-9_]+$/ { place[++places] = $1; tokens[$1] = 0; next }
 section == ".transitions" {
   name = label = $0

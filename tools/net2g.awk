@@ -55,7 +55,8 @@ BEGIN {
   declare("internal", internal)
 }
 { sub(/\r$/, "") }
-/^[.]type (PN|LPN)$/ || /^[.](places|transitions|flows)$/ { section = $1; next }
+/^[.]type (PN|LPN)$/ && section == "" { section = $1; next }
+/^[.](places|transitions|flows)$/ && section != "" && section != "end" { section = $1; next }
 section == ".places" && /^[A-Za-z0-9_]+$/ { is_place[$1]; next }
 section == ".transitions" {
   name = label = $0
