@@ -8,7 +8,7 @@
     bench/families.py speed EARLIER PROGRAM [none pure ..]
     bench/families.py jobs PROGRAM [none pure ..]
     bench/families.py threads PROGRAM [none pure ..]
-    bench/families.py blocks crates/solving_bench/out/solving_bench [none pure ..]
+    bench/families.py blocks crates/benches/out/benches [none pure ..]
     bench/families.py growth PROGRAM [none pure ..]
     bench/families.py commands PROGRAM
     bench/families.py pair EARLIER PROGRAM 15 ring:120 chain:120
@@ -33,140 +33,19 @@ problem when its block was formed, so no more problems are solved.
 some large systems.
 `pair` prints the middle seconds of the clock of so many runs by turns, of both programs with 1, 2 and 4 jobs.
 
-The systems `grid`, `doubling` and `lock` come from `generate` of the program (the last one named); the others are written here.
+checks/systems.py has the families.
 """
-import itertools
 import os
-import random
 import re
 import subprocess
 import sys
 import tempfile
 import time
 
+sys.path.insert(0, os.path.join(os.path.dirname(os.path.abspath(__file__)), '..', 'checks'))
+from systems import FAMILIES, log, parsed, problems, text, written
 
-def philosophers(n):
-    """Each takes the left fork, then the right one, eats, and puts both back."""
-    labels = [f'{verb}{k}' for k in range(1, n + 1) for verb in ('left', 'right', 'done')]
-    start = 't' * n
-    seen, todo, arcs = [start], [start], []
-    held = lambda w, f: w[f] in 'lb' or w[f - 1] == 'b'
-    for w in todo:
-        for k in range(n):
-            steps = []
-            if w[k] == 't' and not held(w, k):
-                steps.append(('left', 'l'))
-            elif w[k] == 'l' and not held(w, (k + 1) % n):
-                steps.append(('right', 'b'))
-            elif w[k] == 'b':
-                steps.append(('done', 't'))
-            for verb, letter in steps:
-                to = w[:k] + letter + w[k + 1:]
-                arcs.append((w, f'{verb}{k+1}', to))
-                if to not in seen:
-                    seen.append(to)
-                    todo.append(to)
-    return seen, labels, arcs
-
-
-def star(n):
-    """From the initial state each label leads to a state of its own."""
-    steps = range(1, n + 1)
-    return [f's{i}' for i in range(n + 1)], [f't{i}' for i in steps], [('s0', f't{i}', f's{i}') for i in steps]
-
-
-def turns(n):
-    """Twelve labels in turn, one word of so many letters."""
-    labels = [f'x{i}' for i in range(12)]
-    return [f's{i}' for i in range(n + 1)], labels, [(f's{i}', labels[i % 12], f's{i+1}') for i in range(n)]
-
-
-def prefixes(n):
-    """The prefixes of the words c .. c ti d, with i letters c."""
-    states, arcs = [], []
-    for i in range(n + 1):
-        states += [f'p{i}', f'q{i}', f'r{i}']
-        arcs += [(f'p{i}', f't{i}', f'q{i}'), (f'q{i}', 'd', f'r{i}')]
-        if i < n:
-            arcs.append((f'p{i}', 'c', f'p{i+1}'))
-    return states, ['c', 'd'] + [f't{i}' for i in range(n + 1)], arcs
-
-
-def chain(n):
-    """So many labels, one after the other."""
-    return [f's{i}' for i in range(n + 1)], [f't{i}' for i in range(n)], [(f's{i}', f't{i}', f's{i+1}') for i in range(n)]
-
-
-def ring(n):
-    """So many labels, one after the other, and again."""
-    return [f's{i}' for i in range(n)], [f't{i}' for i in range(n)], [(f's{i}', f't{i}', f's{(i+1) % n}') for i in range(n)]
-
-
-def rings(n):
-    """So many rings of five labels each, side by side."""
-    states = list(itertools.product(range(5), repeat=n))
-    name = lambda places: 's' + '_'.join(map(str, places))
-    arcs = []
-    for places in states:
-        for k in range(n):
-            to = places[:k] + ((places[k] + 1) % 5,) + places[k + 1:]
-            arcs.append((name(places), f't{k}_{places[k]}', name(to)))
-    return [name(places) for places in states], [f't{k}_{i}' for k in range(n) for i in range(5)], arcs
-
-
-def torus(n):
-    """Two rings of so many labels, side by side."""
-    name = lambda i, j: f's{i}_{j}'
-    states = [name(i, j) for i in range(n) for j in range(n)]
-    arcs = [arc for i in range(n) for j in range(n)
-            for arc in ((name(i, j), f'a{i}', name((i + 1) % n, j)), (name(i, j), f'b{j}', name(i, (j + 1) % n)))]
-    return states, [f'a{i}' for i in range(n)] + [f'b{j}' for j in range(n)], arcs
-
-
-def log(count, length, labels, seed):
-    """So many random runs of so many labels, as the tree of their prefixes."""
-    rnd = random.Random(seed)
-    states, arcs, children = ['s0'], [], {}
-    for _ in range(count):
-        at = 's0'
-        for _ in range(length):
-            step = (at, f't{rnd.randrange(labels)}')
-            if step not in children:
-                children[step] = f's{len(states)}'
-                states.append(children[step])
-                arcs.append((*step, children[step]))
-            at = children[step]
-    return states, [f't{i}' for i in range(labels)], arcs
-
-
-def word(length, labels, seed):
-    """One random run."""
-    return log(1, length, labels, seed)
-
-
-def halves(n):
-    """So many levels of two arcs and a shortcut by a fresh label, and a third more levels of three arcs and a shortcut: with 42, many problems
-    show a number out of range, and a place that is kept separates each of them in the end."""
-    states, labels, arcs, at = ['s0'], [], [], 's0'
-    for k, (factor, levels) in enumerate(((2, n), (3, n + n // 3))):
-        if k:
-            states.append('s1')
-            arcs.append((at, 'c1', 's1'))
-            at = 's1'
-        for i in range(1, levels + 1):
-            way = [at, *(f'u{k}_{i}_{j}' for j in range(1, factor)), f'r{k}_{i}']
-            states += way[1:]
-            arcs += [(a, f'a{k}_{i}', b) for a, b in zip(way, way[1:])]
-            arcs.append((at, f'a{k}_{i-1}', way[-1]))
-            at = way[-1]
-        labels += [f'a{k}_{i}' for i in range(levels, -1, -1)]
-    return states, ['c1'] + labels, arcs
-
-
-GENERATED = ('grid', 'doubling', 'lock')
 CLASSES = ('none', 'pure', 'safe', 'pure,plain,safe')
-FAMILIES = {'philosophers': philosophers, 'star': star, 'turns': turns, 'prefixes': prefixes, 'chain': chain, 'ring': ring,
-            'rings': rings, 'halves': halves, 'torus': torus, 'log': log, 'word': word}
 SIZES = {'grid': (10, 20, 40, 63), 'lock': (2, 3, 4, 5, 6), 'doubling': (20, 40, 100, 127), 'philosophers': (3, 4, 5, 6),
          'star': (40, 120), 'turns': (60, 200), 'prefixes': (10, 30), 'chain': (60, 120), 'ring': (60, 120), 'rings': (3, 4),
          'halves': (42,)}
@@ -177,24 +56,6 @@ SPEED = (('grid', 63), ('lock', 7), ('philosophers', 8), ('ring', 60), ('ring', 
 GROWTH = (('ring', (30, 60, 120, 240)), ('chain', (30, 60, 120, 240)), ('star', (30, 60, 120, 240)), ('torus', (8, 16, 32, 64)),
           ('philosophers', (5, 6, 7, 8)), ('rings', (3, 4, 5)), ('grid', (10, 20, 40, 63)))
 RUNS = 5
-
-
-def text(states, labels, arcs):
-    lines = ['.type LTS', '.states', states[0] + '[initial]', *states[1:], '.labels', *labels, '.arcs']
-    return '\n'.join(lines + [' '.join(a) for a in arcs]) + '\n'
-
-
-def parsed(system):
-    """The states, labels and arcs of an APT text."""
-    lines = system.split('\n')
-    states, labels, arcs = (lines.index(section) for section in ('.states', '.labels', '.arcs'))
-    names = [line.removesuffix('[initial]') for line in lines[states + 1:labels]]
-    return names, lines[labels + 1:arcs], [tuple(line.split()) for line in lines[arcs + 1:] if line]
-
-
-def problems(states, labels, arcs):
-    enabled = len({(s, t) for s, t, _ in arcs})
-    return len(states) * len(labels) - enabled + len(states) * (len(states) - 1) // 2
 
 
 def measure(program, class_word, path, *options):
@@ -220,18 +81,11 @@ def nodes(out):
     return sum(line == 'leaf' or line.startswith('split ') for line in out.decode().split('\n'))
 
 
-def written(program, family, n):
-    """The text of a system."""
-    if family in GENERATED:
-        return subprocess.run([program, 'generate', family, str(n)], capture_output=True, check=True).stdout.decode()
-    return text(*FAMILIES[family](n))
-
-
-def systems(folder, program):
+def families(folder):
     """Each system with its file."""
     for family, sizes in SIZES.items():
         for n in sizes:
-            system = written(program, family, n)
+            system = written(family, n)
             path = os.path.join(folder, f'{family}{n}.apt')
             with open(path, 'w') as file:
                 file.write(system)
@@ -242,7 +96,7 @@ def run(programs, classes):
     columns = ['status', 'seconds', 'MiB', 'places', 'nodes'] * len(programs)
     print(' | '.join(['family', 'class', 'states', 'problems', *columns, 'err']))
     with tempfile.TemporaryDirectory() as folder:
-        for name, system, path in systems(folder, programs[-1]):
+        for name, system, path in families(folder):
             for class_word in classes:
                 line = [name, class_word, f'{len(system[0]):,}', f'{problems(*system):,}']
                 for program in programs:
@@ -266,7 +120,7 @@ def speed(programs, classes):
         for family, n in SPEED:
             path = os.path.join(folder, f'{family}{n}.apt')
             with open(path, 'w') as file:
-                file.write(written(programs[-1], family, n))
+                file.write(written(family, n))
             for class_word in classes:
                 ran = [[processor(program, class_word, path) for program in programs] for _ in range(RUNS)]
                 line = [f'{family} {n}', class_word, str(ran[0][-1][0])]
@@ -283,7 +137,7 @@ def with_jobs(program, classes):
     columns = [f'{what} with {count}' for count in counts for what in ('seconds', 'MiB')]
     print(' | '.join(['family', 'class', 'status', *columns]))
     with tempfile.TemporaryDirectory() as folder:
-        for name, _, path in systems(folder, program):
+        for name, _, path in families(folder):
             for class_word in classes:
                 ran = [measure(program, class_word, path, '--jobs', count) for count in counts]
                 line = [name, class_word, str(ran[0][0])]
@@ -308,7 +162,7 @@ def threads(program, classes):
         for family, n in SPEED:
             path = os.path.join(folder, f'{family}{n}.apt')
             with open(path, 'w') as file:
-                file.write(written(program, family, n))
+                file.write(written(family, n))
             for class_word in classes:
                 ways = (('1', 1), ('2', 1), ('4', 1), ('1', 4))
                 ran = [[clock(program, class_word, path, *way) for way in ways] for _ in range(RUNS)]
@@ -331,7 +185,7 @@ def growth(program, classes):
     with tempfile.TemporaryDirectory() as folder:
         for family, sizes in GROWTH:
             for n in sizes:
-                system = written(program, family, n)
+                system = written(family, n)
                 names, labels, _ = parsed(system)
                 path = os.path.join(folder, 'system.apt')
                 with open(path, 'w') as file:
@@ -356,7 +210,7 @@ def commands(program):
             return out
 
         for family, n in (('star', 120), ('torus', 64)):
-            put(f'{family}{n}.apt', written(program, family, n))
+            put(f'{family}{n}.apt', written(family, n))
         put('log.apt', text(*log(50, 20, 13, 1)))
         put('random.apt', text(*log(30, 12, 10, 2)))
         for name in ('star120', 'torus64'):
@@ -387,7 +241,7 @@ def pair(programs, times, families, classes):
             name, n = family.split(':')
             path = os.path.join(folder, f'{name}{n}.apt')
             with open(path, 'w') as file:
-                file.write(written(programs[-1], name, int(n)))
+                file.write(written(name, int(n)))
             for class_word in classes:
                 ran = [[clock(program, class_word, path, jobs, 1) for program in programs for jobs in '124'] for _ in range(times)]
                 middle = [sorted(column)[times // 2] for column in zip(*ran)]
@@ -397,11 +251,11 @@ def pair(programs, times, families, classes):
 def blocks(program, classes):
     print(' | '.join(['family', 'class', 'status', 'problems', 'in blocks', 'places']))
     with tempfile.TemporaryDirectory() as folder:
-        for name, system, path in systems(folder, program):
+        for name, system, path in families(folder):
             for class_word in classes:
-                ran = subprocess.run([program, 'synthesize', class_word, path, '--jobs', '2'], capture_output=True)
-                last = ran.stderr.decode().strip().split('\n')[-1]
-                status, entered = re.fullmatch(r'status (\d+), (\d+) problems entered', last).groups()
+                ran = subprocess.run([program, 'solve', 'synthesize', class_word, path, '--jobs', '2'], capture_output=True)
+                last = ran.stdout.decode().strip().split('\n')[-1]
+                status, entered = re.fullmatch(r'status (\d+), (\d+) problems in blocks', last).groups()
                 print(f'{name} | {class_word} | {status} | {problems(*system):,} | {int(entered):,} | {places(ran.stdout):,}', flush=True)
 
 

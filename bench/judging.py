@@ -1,7 +1,7 @@
 #!/usr/bin/env python3
-"""Measures the judge of nets, with the built program judge_bench, and prints a table.
+"""Measures the judge of nets, with the built program benches, and prints a table.
 
-    bench/judging.py crates/regions/out/regions [crates/judge_bench/out/judge_bench]
+    bench/judging.py crates/regions/out/regions [crates/benches/out/benches]
 
 The nets are those that the first program writes for the grid of 63 and the lock of nine users, for the class `none`, and two made
 ones of 16,384 places for 4,096 states and 262,144 arcs, which they solve, so that every chord is compared on every place: in the first
@@ -15,7 +15,8 @@ import sys
 import tempfile
 import time
 
-from families import grid, lock, text
+sys.path.insert(0, os.path.join(os.path.dirname(os.path.abspath(__file__)), '..', 'checks'))
+from systems import grid, lock, text
 
 HEAD = ('system', 'states', 'arcs', 'labels', 'places', 'verdict', 'seconds', 'in all', 'MiB')
 
@@ -70,7 +71,7 @@ def synthesized(program, path):
 
 def judged(program, system, net):
     begin = time.monotonic()
-    ran = subprocess.run(['/usr/bin/time', '-q', '-f', '%M', program, system, net], capture_output=True, text=True, check=True)
+    ran = subprocess.run(['/usr/bin/time', '-q', '-f', '%M', program, 'judge', system, net], capture_output=True, text=True, check=True)
     seconds = time.monotonic() - begin
     spent = re.search(r'^judged: (\d+) nanoseconds$', ran.stderr, re.M)
     peak = int(ran.stderr.strip().split('\n')[-1]) / 1024
@@ -83,7 +84,7 @@ def main():
     if len(sys.argv) not in (2, 3):
         sys.exit(__doc__)
     here = os.path.dirname(os.path.abspath(__file__))
-    judge = sys.argv[2] if len(sys.argv) == 3 else os.path.join(here, '..', 'crates', 'judge_bench', 'out', 'judge_bench')
+    judge = sys.argv[2] if len(sys.argv) == 3 else os.path.join(here, '..', 'crates', 'benches', 'out', 'benches')
     print(' | '.join(HEAD))
     with tempfile.TemporaryDirectory() as folder:
         system_path, net_path = os.path.join(folder, 'system.apt'), os.path.join(folder, 'net')

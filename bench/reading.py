@@ -2,7 +2,7 @@
 """Writes texts of systems at the limits, in each form, and measures how long they take to be read.
 
 Usage: bench/reading.py [PROGRAM]
-PROGRAM is crates/reading_bench/out/reading_bench unless it is named. Each file has 16,777,216 bytes: a system file and a state
+PROGRAM is crates/benches/out/benches unless it is named. Each file has 16,777,216 bytes: a system file and a state
 graph of 4,096 states, 256 labels and 262,144 arcs, a word list of 4,096 prefixes and 256 labels whose words come again and
 again, and one that is a single remark of short words. `seconds` is the time of the one call that reads, and `MB` the peak
 memory of the whole program, in which the bytes themselves are. It is run by hand and is no test.
@@ -66,7 +66,7 @@ def filled(lines, before, between, behind):
 
 
 def measured(program, form, path):
-    with subprocess.Popen([program, form, path], stdout=subprocess.PIPE, stderr=subprocess.PIPE, text=True) as ran:
+    with subprocess.Popen([program, 'read', form, path], stdout=subprocess.PIPE, stderr=subprocess.PIPE, text=True) as ran:
         out, err = ran.stdout.read(), ran.stderr.read()
         _, status, usage = os.wait4(ran.pid, 0)
         ran.returncode = os.waitstatus_to_exitcode(status)
@@ -77,7 +77,7 @@ def measured(program, form, path):
 
 def main():
     program = sys.argv[1] if len(sys.argv) > 1 else os.path.join(
-        os.path.dirname(os.path.abspath(__file__)), '..', 'crates', 'reading_bench', 'out', 'reading_bench')
+        os.path.dirname(os.path.abspath(__file__)), '..', 'crates', 'benches', 'out', 'benches')
     print('text | what was read | seconds | MB')
     with tempfile.TemporaryDirectory() as folder:
         for form, name, lines, filling in TEXTS:
