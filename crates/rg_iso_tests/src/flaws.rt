@@ -4,7 +4,7 @@ ghost use Rattle.rg_theory.specs.System.{labels};
 
 use crate::samples::{FORK, LOST_APART, STILL};
 use rg_checks::{
-    Flaw, Fork, Graph, Loss, Step, closure, first_flaw, is_met, least_fork, least_loss,
+    Flaw, Fork, Graph, Loss, Step, closure, first_flaw, first_fork, is_met, least_fork, least_loss,
 };
 use rg_lts::Lts;
 use rg_samples::{LOOP_AND_STEP, THERE_AND_BACK, system};
@@ -40,10 +40,14 @@ fn flaws(rt: HostRuntime) {
     }
 }
 
-// Whether this is the first fork of the system of the text.
+// Whether this is the first fork of the system of the text, by both calls.
 fn is_fork(alloc: Global, text: &str, wanted: Option<Fork>) -> bool {
+    let parts = match wanted {
+        Some(fork) => Some((fork.from, fork.label, fork.to, fork.other)),
+        None => None,
+    };
     match system(alloc, text) {
-        Some(lts) => least_fork(&lts) == wanted,
+        Some(lts) => least_fork(&lts) == wanted && first_fork(&lts) == parts,
         None => false,
     }
 }

@@ -12,8 +12,6 @@ mod fractions;
 #[cfg(test)]
 mod joined;
 #[cfg(test)]
-mod laws;
-#[cfg(test)]
 mod narrow;
 #[cfg(test)]
 mod plain;

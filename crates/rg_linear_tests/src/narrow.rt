@@ -13,9 +13,11 @@ const OF_TWO: i128 = 32767;
 
 const OF_THREE: i128 = 127;
 
+const OF_FOUR: i128 = 7;
+
 const GREATEST: i128 = i128::MAX;
 
-const CASES: [Case; 6] = [
+const CASES: [Case; 7] = [
     Case {
         columns: 0,
         rows: &[(&[], OF_NONE), (&[], -OF_NONE)],
@@ -64,6 +66,20 @@ const CASES: [Case; 6] = [
             (0, 1),
         ],
         multipliers: &[],
+    },
+    Case {
+        columns: 4,
+        rows: &[
+            (&[OF_FOUR, -OF_FOUR, OF_FOUR, -OF_FOUR], -OF_FOUR),
+            (&[-OF_FOUR, OF_FOUR - 1, 1, 0], 1),
+            (&[1, 0, -OF_FOUR, OF_FOUR], -1),
+            (&[0, 1, -1, -OF_FOUR], -1),
+            (&[0, 0, 0, -1], -1),
+        ],
+        settled: Settled::Refuted(0),
+        members: &[5, 6, 7, 8],
+        values: &[],
+        multipliers: &[6, 7, 7, 0, 7],
     },
     Case {
         columns: 5,
