@@ -30,12 +30,23 @@ pub fn each_read<R: Threads + Sync>(
     }
     let mut fails = Fails::none(alloc);
     fails.shelf.push(calls.saturating_add(1))?;
-    let mut outside = Outside::new(alloc, case, &fails, case.room)?;
-    let status = outside.end(rt, alloc, words, &NoGate);
-    match difference_from(alloc, status, &outside, Due::of(case))? {
+    match none_fails(rt, alloc, case, words, &fails)? {
         Some(found) => Ok(Some(format!(in alloc; "there are more calls of the shelf: {found}")?)),
         None => Ok(None),
     }
+}
+
+// The calls that would fail aren't made: the run ends as the case says.
+fn none_fails<R: Threads + Sync>(
+    rt: &R,
+    alloc: Global,
+    case: &Case,
+    words: &[String],
+    fails: &Fails,
+) -> Result<Option<String>, Stop> {
+    let mut outside = Outside::new(alloc, case, fails, case.room)?;
+    let status = outside.end(rt, alloc, words, &NoGate);
+    difference_from(alloc, status, &outside, Due::of(case))
 }
 
 // Call k of the shelf fails: nothing is written, and the same run again ends as without.
@@ -63,8 +74,8 @@ fn read_fails<R: Threads + Sync>(
     difference_from(alloc, status, &outside, Due::of(case))
 }
 
-/// Returns a description of the first wrong run where a call of the sink that is written to fails, each in turn, and
-/// where each smaller room is full.
+/// Returns a description of the first wrong run where a call of the sink that is written to fails, each in turn and then one
+/// that isn't made, and where each smaller room is full.
 pub fn each_write<R: Threads + Sync>(
     rt: &R,
     alloc: Global,
@@ -89,7 +100,13 @@ pub fn each_write<R: Threads + Sync>(
             }
         }
     }
-    Ok(None)
+    let mut fails = Fails::none(alloc);
+    fails.out.push(call.saturating_add(1))?;
+    fails.err.push(call.saturating_add(1))?;
+    match none_fails(rt, alloc, case, words, &fails)? {
+        Some(found) => Ok(Some(format!(in alloc; "there are more writes: {found}")?)),
+        None => Ok(None),
+    }
 }
 
 // What the case says is written to the sink.

@@ -1,6 +1,5 @@
-//! What isn't a comparison of bytes: numbers at work in parallel, lines of cases that are refused, and laws.
+//! What isn't a comparison of bytes: numbers at work in parallel, and lines of cases that are refused.
 mod gates;
 mod holding;
-mod laws;
 mod lines;
 mod twice;

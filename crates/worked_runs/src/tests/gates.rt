@@ -5,8 +5,8 @@ use crate::stop::Stop;
 use crate::tests::holding::Holding;
 use crate::tests::lines::case_of;
 use rg_ports::Gate;
+use rg_samples::Counter;
 use std::alloc::Global;
-use std::sync::atomic::{AtomicU64, Ordering};
 use std::thread::Threads;
 
 // The word a b a: eleven problems, all in one block.
@@ -49,35 +49,6 @@ const RUNS: [(&str, &str, &[u32]); 10] = [
         &[0, 10],
     ),
 ];
-
-// Counts the problems of blocks.
-#[derive(Drop)]
-struct Counter {
-    entered: AtomicU64,
-}
-
-impl Counter {
-    fn new() -> Counter {
-        Counter {
-            entered: AtomicU64::new(0),
-        }
-    }
-
-    fn count(&self) -> u64 {
-        self.entered.load(Ordering::SeqCst)
-    }
-}
-
-impl Gate for Counter {
-    fn enter(&self, i: u32) {
-        let _ = i;
-        self.entered.fetch_add(1, Ordering::SeqCst);
-    }
-
-    fn leave(&self, i: u32) {
-        let _ = i;
-    }
-}
 
 // The case of these lines.
 fn run_of(alloc: Global, words: &str, files: &str) -> Result<Case, Stop> {
