@@ -1,7 +1,7 @@
 //! The plain branching ends as `solve_whole` does.
+use crate::bounds::can_branch;
 use crate::plain::{branching, system_of};
 use crate::random::Generator;
-use rg_bounded_forms::can_branch;
 use rg_branch::{Whole, solve_whole};
 use std::test::Fail;
 

@@ -1,6 +1,6 @@
 //! Whether single rows show the bounds of a form: once they do, and once for each thing that can be wrong.
+use crate::bounds::{Top, can_branch};
 use crate::systems::{Told, ToldForm, forms, system};
-use rg_bounded_forms::{Top, can_branch};
 use std::alloc::{AllocError, Global};
 
 // x and 1 - x: x is from 0 to 1.

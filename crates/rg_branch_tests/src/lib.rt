@@ -5,6 +5,7 @@
 mod agreeing;
 #[cfg(test)]
 mod asking;
+mod bounds;
 #[cfg(test)]
 mod plain;
 #[cfg(test)]

@@ -1,6 +1,6 @@
 //! Random systems whose rows bound their forms.
 
-use rg_bounded_forms::Top;
+use crate::bounds::Top;
 use rg_branch::Bounded;
 use rg_linear::Row;
 use std::alloc::{AllocError, Global};

@@ -2,8 +2,8 @@
 ghost use Rattle.std.specs.Prelude.{◌≡◌, ◌<◌, length, IfOk};
 ghost use Rattle.rg_branch.specs.Asked.{CanBranch};
 
+use crate::bounds::{Top, can_branch, can_branch_after};
 use crate::systems::{Told, ToldForm, forms, rows as linear_rows, sides, system};
-use rg_bounded_forms::{Top, can_branch, can_branch_after};
 use rg_branch::{Bounded, BranchStop, RawNode, Solver, Whole, solve_whole};
 use rg_feasible::PivotWide;
 use rg_fraction::Fraction;

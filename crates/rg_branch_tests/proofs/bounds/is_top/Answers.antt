@@ -3,9 +3,9 @@ use Rattle.std.specs.Prelude.{pos, ◌*ℤ◌, ◌≤ℤ◌, ◌<ℤ◌, neg_ℤ
 use Rattle.std.specs.Arc.{arc_slice_items}
 use Rattle.rg_integers.proofs.Casts.{casts}
 use Rattle.rg_linear.specs.View.{linear_row}
-use Rattle.rg_bounded_forms.specs.Bounds.{AreTimes}
-use Rattle.rg_bounded_forms.proofs.Bounding.{top_asked, top_times}
-use Rattle.rg_bounded_forms.proofs.asking.is_top.Goals as goal
+use Rattle.rg_branch_tests.specs.Bounds.{AreTimes}
+use Rattle.rg_branch_tests.proofs.Bounding.{top_asked, top_times}
+use Rattle.rg_branch_tests.proofs.bounds.is_top.Goals as goal
 
 pub returns-then-row-most-clause-top : goal.returns-then-row-most-clause-top
 returns-then-row-most-clause-top c = λ e.

@@ -8,7 +8,7 @@ use Rattle.rg_branch.specs.declared.bounded.Bounded.{Bounded}
 use Rattle.rg_linear.specs.Room.{room}
 use Rattle.rg_branch.specs.View.{form_of, forms_of}
 use Rattle.rg_branch.specs.Asked.{IsFormOf}
-use Rattle.rg_bounded_forms.specs.declared.asking.Top.{Top}
+use Rattle.rg_branch_tests.specs.declared.bounds.Top.{Top}
 
 -- the numbers are the others, each times the factor
 pub record AreTimes (numbers : List ℤ) (factor : ℤ) (others : List ℤ) : Type 0 where

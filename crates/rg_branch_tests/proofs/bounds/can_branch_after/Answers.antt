@@ -1,8 +1,8 @@
 use Rattle.std.proofs.Common.{rules, ◌≡◌, ◌+◌, ◌^◌, ◌<◌, ◌≤◌, [], length, refl}
 use Rattle.rg_linear.specs.Room.{room}
 use Rattle.rg_branch.specs.View.{forms_of}
-use Rattle.rg_bounded_forms.proofs.Bounding.{a_top, can_by_rows}
-use Rattle.rg_bounded_forms.proofs.asking.can_branch_after.Goals as goal
+use Rattle.rg_branch_tests.proofs.Bounding.{a_top, can_by_rows}
+use Rattle.rg_branch_tests.proofs.bounds.can_branch_after.Goals as goal
 
 pub room_of-requires : goal.room_of-requires
 room_of-requires c = record { ordered = λ k d lt. (c.if-not-are_by_rows.ensures.shown refl k d a_top lt).form.ordered }

@@ -5,9 +5,9 @@ use Rattle.std.specs.Arc.{arc_slice_items}
 use Rattle.rg_integers.specs.Range.{InRange}
 use Rattle.rg_integers.proofs.Casts.{casts}
 use Rattle.rg_linear.specs.View.{linear_row}
-use Rattle.rg_bounded_forms.specs.Bounds.{AreTimes}
-use Rattle.rg_bounded_forms.proofs.Bounding.{form_asked, form_in_range}
-use Rattle.rg_bounded_forms.proofs.asking.is_form.Goals as goal
+use Rattle.rg_branch_tests.specs.Bounds.{AreTimes}
+use Rattle.rg_branch_tests.proofs.Bounding.{form_asked, form_in_range}
+use Rattle.rg_branch_tests.proofs.bounds.is_form.Goals as goal
 
 pub returns-then-is_in_range-clause-form : goal.returns-then-is_in_range-clause-form
 returns-then-is_in_range-clause-form c = λ e.

@@ -1,6 +1,6 @@
 use Rattle.std.proofs.Common.{refl}
-use Rattle.rg_bounded_forms.proofs.Bounding.{one_more_by_rows, not_each}
-use Rattle.rg_bounded_forms.proofs.asking.are_by_rows.Goals as goal
+use Rattle.rg_branch_tests.proofs.Bounding.{one_more_by_rows, not_each}
+use Rattle.rg_branch_tests.proofs.bounds.are_by_rows.Goals as goal
 
 pub returns-then-not-is_by_rows-clause-not_shown : goal.returns-then-not-is_by_rows-clause-not_shown
 returns-then-not-is_by_rows-clause-not_shown c = λ e.

@@ -1,5 +1,5 @@
 -- Single rows bound a form.
-use Rattle.std.proofs.Common.{◌≡◌, ⊎_elim, ℕ, zero, suc, ◌+◌, ◌<◌, ◌≤◌, List, [], ◌∷◌, length, All, ap, subst, sym, ◌∙◌, arith}
+use Rattle.std.proofs.Common.{◌≡◌, ⊎_elim, ℕ, suc, ◌+◌, ◌<◌, ◌≤◌, List, [], ◌∷◌, length, All, ap, subst, sym, ◌∙◌, arith}
 use Rattle.std.specs.Prelude.{ℤ, pos, neg_ℤ, ◌+ℤ◌, ◌-ℤ◌, ◌*ℤ◌, ◌≤ℤ◌, ◌<ℤ◌, slice_index_or, FitsSigned}
 use Rattle.std.specs.Int.{w128}
 use Rattle.std.proofs.lemmas.Int.{ints}
@@ -22,8 +22,8 @@ use Rattle.rg_branch.specs.Asked.{IsFormOf, CanBranch}
 use Rattle.rg_branch.proofs.Values.{form_value, most_of_times}
 use Rattle.rg_branch.proofs.Nodes.{form_here}
 use Rattle.rg_branch.proofs.Points.{form_is}
-use Rattle.rg_bounded_forms.specs.declared.asking.Top.{Top}
-use Rattle.rg_bounded_forms.specs.Bounds.{AreTimes, IsLow, IsTop, IsBoundedForm, IsByRows, EachIsByRows, AreByRows}
+use Rattle.rg_branch_tests.specs.declared.bounds.Top.{Top}
+use Rattle.rg_branch_tests.specs.Bounds.{AreTimes, IsLow, IsTop, IsBoundedForm, IsByRows, EachIsByRows, AreByRows}
 
 -- ---- numbers
 
@@ -137,16 +137,6 @@ one_more_gap forms n more b lt at size = next n (gap (forms_of forms) []) ∙ ap
   where
     here : gap (forms_of forms) [] n ≡ more
     here = subst (λ (form : Form). gap_of (form.high -ℤ form.low) ≡ more) (form_is forms n b lt at) (gap_is b.high b.low more size)
-
-pub total_at_most : (n m : ℕ) (g : ℕ → ℕ) → n ≤ m → total n g ≤ total m g
-total_at_most n zero g le = subst (λ k. total k g ≤ 0) (sym none) (omega arith)
-  where
-    none : n ≡ 0
-    none = omega arith
-total_at_most n (suc m) g le = ⊎_elim
-    (λ same. subst (λ k. total k g ≤ total m g + g m) (sym same) (omega arith))
-    (λ ne. (let more = total_at_most n m g (omega arith) in omega arith))
-    (equal_or_not n (suc m))
 
 pub room_is : (forms : List Bounded) → total (length forms) (gap (forms_of forms) []) ≡ room (forms_of forms) []
 room_is forms = ap (λ n. total n (gap (forms_of forms) [])) (sym (length-map forms form_of))

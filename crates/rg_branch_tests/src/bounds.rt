@@ -6,7 +6,7 @@ ghost use Rattle.rg_linear.specs.System.{row_at};
 ghost use Rattle.rg_linear.specs.View.{linear_row, IsWellFormed};
 ghost use Rattle.rg_branch.specs.Asked.{IsFormOf, CanBranch};
 ghost use Rattle.rg_branch.specs.View.{forms_of};
-ghost use Rattle.rg_bounded_forms.specs.Bounds.{AreTimes, IsLow, IsTop, IsByRows, EachIsByRows, AreByRows};
+ghost use Rattle.rg_branch_tests.specs.Bounds.{AreTimes, IsLow, IsTop, IsByRows, EachIsByRows, AreByRows};
 
 use rg_branch::Bounded;
 use rg_fraction::whole_product;

@@ -2,8 +2,8 @@ use Rattle.std.proofs.Common.{rules, ◌≡◌, refl, arith}
 use Rattle.std.specs.Prelude.{◌*ℤ◌, ◌≤ℤ◌, ◌<ℤ◌, neg_ℤ}
 use Rattle.std.proofs.lemmas.Int.{ints}
 use Rattle.rg_integers.proofs.Casts.{casts}
-use Rattle.rg_bounded_forms.proofs.Bounding.{low_asked, low_met}
-use Rattle.rg_bounded_forms.proofs.asking.is_low.Goals as goal
+use Rattle.rg_branch_tests.proofs.Bounding.{low_asked, low_met}
+use Rattle.rg_branch_tests.proofs.bounds.is_low.Goals as goal
 
 pub returns-clause-low : goal.returns-clause-low
 returns-clause-low c = λ e.
