@@ -10,8 +10,6 @@ mod calls;
 #[cfg(test)]
 mod expressions;
 #[cfg(test)]
-mod laws;
-#[cfg(test)]
 mod places;
 #[cfg(test)]
 mod refusals;

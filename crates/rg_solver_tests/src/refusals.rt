@@ -4,48 +4,18 @@ ghost use Rattle.std.specs.Prelude.{◌≤◌};
 use rg_cert_data::{Certificate, Reason};
 use rg_families::{Kind, generate};
 use rg_lts::Lts;
-use rg_ports::{Gate, NoGate};
-use rg_samples::{ABA, CHOICE, DEAD, THERE_AND_BACK, system};
+use rg_ports::NoGate;
+use rg_samples::{ABA, CHOICE, Counter, DEAD, THERE_AND_BACK, system};
 use rg_separate::{Separation, find_refusal, separate};
 use rg_spanning::Tree;
 use rg_theory::ALL_NETS;
 use rg_theory::Problem::{self, Event, States};
 use std::alloc::Global;
-use std::sync::atomic::{AtomicU64, Ordering};
 use std::thread::Threads;
 
 // The word a b b a a. The tokens of a region at s0 and s4 add up to twice those at s2. Label a occurs at s0 and s4, so no region stops it at s2.
 const ABBAA: &str =
     ".type LTS .states s0[initial] s1 s2 s3 s4 s5 .labels a b .arcs s0 a s1 s1 b s2 s2 b s3 s3 a s4 s4 a s5";
-
-// Counts the problems of blocks.
-#[derive(Drop)]
-struct Counter {
-    entered: AtomicU64,
-}
-
-impl Counter {
-    fn new() -> Counter {
-        Counter {
-            entered: AtomicU64::new(0),
-        }
-    }
-
-    fn count(&self) -> u64 {
-        self.entered.load(Ordering::SeqCst)
-    }
-}
-
-impl Gate for Counter {
-    fn enter(&self, i: u32) {
-        let _ = i;
-        self.entered.fetch_add(1, Ordering::SeqCst);
-    }
-
-    fn leave(&self, i: u32) {
-        let _ = i;
-    }
-}
 
 // The problem that the certificate of a separation names.
 fn problem_of(reason: &Reason) -> Option<Problem> {
