@@ -1,12 +1,10 @@
-//! Tests of single calls: classes, the outside, walks and trees, certificates and their verdicts.
+//! Tests of single calls: classes, the outside, walks and trees, certificates printed again.
 #![tactic(auto)]
 
 #[cfg(test)]
 mod certificates;
 #[cfg(test)]
 mod classes;
-#[cfg(test)]
-mod laws;
 #[cfg(test)]
 mod outside;
 #[cfg(test)]

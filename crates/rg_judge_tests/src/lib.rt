@@ -8,8 +8,6 @@ mod classes;
 #[cfg(test)]
 mod firing;
 #[cfg(test)]
-mod laws;
-#[cfg(test)]
 mod samples;
 #[cfg(test)]
 mod second;

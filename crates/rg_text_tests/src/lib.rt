@@ -1,13 +1,11 @@
 //! Tests of single calls of the crates of texts, in memory and on paper: what no clause says, with values from
-//! outside, and that each call can succeed; the laws of state graphs and word lists, and the sizes of families.
+//! outside, and that each call can succeed; the sizes of families.
 #![tactic(auto)]
 
 #[cfg(test)]
 mod bytes;
 #[cfg(test)]
 mod family_counts;
-#[cfg(test)]
-mod laws;
 #[cfg(test)]
 mod name_lists;
 #[cfg(test)]

@@ -1,7 +1,7 @@
 //! Nets in memory, and the texts that spell them.
 use rg_lts::Lts;
-use rg_net::{Class, Net, Place, net_is_told, prefix_is_free};
-use rg_netfile::{one_answer, print_net, printed_is_spelled, read_net, spelled_is_for_the_system};
+use rg_net::{Class, Net, Place};
+use rg_netfile::{print_net, read_net};
 use rg_samples::{DEAD, SAFE, TWO_MARKING, system, system_of};
 use rg_text::MOST_BYTES;
 use rg_theory::{ALL_NETS, class_text};
@@ -152,15 +152,6 @@ fn is_printed(alloc: Global, labels: &[u8], text: &[u8], wanted: &[u8]) -> bool 
     made.as_slice() == wanted && again.as_slice() == wanted
 }
 
-// Each law can be called.
-fn laws() {
-    net_is_told();
-    prefix_is_free();
-    one_answer();
-    printed_is_spelled();
-    spelled_is_for_the_system();
-}
-
 #[test]
 fn prints_nets(rt: HostRuntime) {
     let alloc = rt.alloc();
@@ -170,5 +161,4 @@ fn prints_nets(rt: HostRuntime) {
             "{text}"
         );
     }
-    laws();
 }

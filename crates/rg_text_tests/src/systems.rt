@@ -1,7 +1,4 @@
-//! Systems that are built in memory, and the laws of the texts that spell them.
-use rg_apt::{
-    items_are_read, one_answer, plain_is_spelled, printed_is_spelled, spelled_is_well_formed,
-};
+//! Systems that are built in memory.
 use rg_lts::{BuildFault, LtsBuilder};
 use std::alloc::Global;
 use std::process::Abort;
@@ -22,16 +19,6 @@ const MARKS: [(&str, Result<(), BuildFault>); 4] = [
     ("s0", Err(BuildFault::TwoInitial)),
     ("s1", Ok(())),
 ];
-
-// The laws are called as any function is, and do nothing.
-#[test]
-fn laws_are_called(_rt: HostRuntime) {
-    one_answer();
-    items_are_read();
-    plain_is_spelled();
-    printed_is_spelled();
-    spelled_is_well_formed();
-}
 
 // Two states and two labels.
 fn builder_with_names(alloc: Global) -> Result<LtsBuilder, BuildFault> {
