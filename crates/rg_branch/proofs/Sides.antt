@@ -4,7 +4,6 @@ use Rattle.std.specs.Prelude.{ℤ, pos, neg_ℤ, ◌+ℤ◌, ◌*ℤ◌, ◌≤�
 use Rattle.std.proofs.lemmas.Int.{ints}
 use Rattle.std.proofs.lemmas.Bool.{cases_lt}
 use Rattle.std.proofs.lemmas.List.{length-map, map-append, take-map, take_at, get_or-map, get_or_at, get_or-append_right, reverse-append, reverse-reverse}
-use Rattle.std.specs.Arc.{arc_slice_items}
 use Rattle.rg_integers.specs.Range.{InRange}
 use Rattle.rg_integers.proofs.Ranges.{in_range-neg}
 use Rattle.rg_linear.specs.System.{LinearSystem, LinearRow, row_at}
@@ -31,8 +30,8 @@ side_fits : (system : LinearSystem) (before : ℕ) (b : Bounded) (at : ℤ) (hig
     → RowFits system.columns (side_row (form_of b ∷ []) (record { form = 0; at = at; high = high }))
 side_fits system before b at true is low high = record { one_each = is.one_each; coeffs = is.coeffs_in_range; constant = subst InRange (high_constant b.scale at) (in_range-neg _ high) }
 side_fits system before b at false is low high = record {
-  one_each = length-map (arc_slice_items b.coeffs) neg_ℤ ∙ is.one_each;
-  coeffs = λ j lt. subst InRange (sym (index-neg (arc_slice_items b.coeffs) j)) (in_range-neg _ (is.coeffs_in_range j lt));
+  one_each = length-map b.coeffs.items neg_ℤ ∙ is.one_each;
+  coeffs = λ j lt. subst InRange (sym (index-neg b.coeffs.items j)) (in_range-neg _ (is.coeffs_in_range j lt));
   constant = low;
 }
 

@@ -1,6 +1,5 @@
 //! Splits as rows.
 ghost use Rattle.std.specs.Prelude.{◌≡◌, ◌∷◌, [], map, ℤ, pos, neg_ℤ, ◌+ℤ◌, ◌-ℤ◌, ◌*ℤ◌, All, if◌then◌else◌, IfOk};
-ghost use Rattle.std.specs.Arc.{arc_slice_items};
 ghost use Rattle.rg_integers.specs.Range.{InRange};
 ghost use Rattle.rg_linear.specs.Branching.{side_row};
 ghost use Rattle.rg_linear.specs.View.{linear_row};
@@ -18,14 +17,14 @@ pub(crate) fn side_row(
     high: bool,
 ) -> Result<Row, AllocError>
     requires scale { InRange form.now.scale }
-    requires coeffs { All InRange (arc_slice_items form.now.coeffs) }
+    requires coeffs { All InRange form.now.coeffs.items }
     requires low { InRange (form.now.scale *ℤ at) }
     requires high { InRange (form.now.scale *ℤ (at +ℤ pos 1)) }
     ensures { IfOk result (λ r. linear_row r ≡ side_row (form_of form.now ∷ []) (record { form = 0; at = at; high = high })) }
 {
     let coeffs = side_coeffs(alloc, &form.coeffs, high)?;
     let constant = side_constant(form.scale, at, high);
-    Row::new(coeffs, constant)
+    Ok(Row::new(coeffs, constant))
 }
 
 // The coefficients on the high side, and their negatives on the low side.

@@ -22,7 +22,7 @@ fn side(
 ) -> Result<Vec<Row>, AllocError> {
     let mut copies = Vec::new(alloc);
     for row in rows {
-        copies.push(row.clone()?)?;
+        copies.push(Row::new(row.coeffs.to_vec(alloc)?, row.constant))?;
     }
     let sign = if high { 1i128 } else { -1 };
     let mut coeffs = Vec::new(alloc);
@@ -37,7 +37,7 @@ fn side(
     let constant = sign
         .wrapping_mul(form.scale.wrapping_mul(end))
         .wrapping_neg();
-    copies.push(Row::new(coeffs, constant)?)?;
+    copies.push(Row::new(coeffs, constant))?;
     Ok(copies)
 }
 

@@ -4,7 +4,6 @@ use crate::bounds::Top;
 use rg_branch::Bounded;
 use rg_linear::Row;
 use std::alloc::{AllocError, Global};
-use std::sync::ArcSlice;
 
 /// Rows, forms, and a top row for each form.
 #[derive(Drop)]
@@ -49,8 +48,8 @@ impl Generator {
     ) -> Result<(), AllocError> {
         let sum = self.numbers(alloc, columns, 2)?;
         let least = i128::from(self.up_to(6)) - 3;
-        rows.push(Row::new(multiply(alloc, &sum, 3)?, -least)?)?;
-        rows.push(Row::new(multiply(alloc, &sum, -3)?, least + 1)?)?;
+        rows.push(Row::new(multiply(alloc, &sum, 3)?, -least))?;
+        rows.push(Row::new(multiply(alloc, &sum, -3)?, least + 1))?;
         Ok(())
     }
 
@@ -98,7 +97,7 @@ impl Generator {
         let constant = scale.wrapping_mul(i128::from(low)).wrapping_neg();
         asked.forms.push(Bounded {
             scale,
-            coeffs: ArcSlice::from_vec(multiply(alloc, &coeffs, times)?)?,
+            coeffs: multiply(alloc, &coeffs, times)?,
             low,
             high,
             row,
@@ -110,9 +109,9 @@ impl Generator {
         })?;
         let above = multiply(alloc, &coeffs, times.wrapping_neg())?;
         let least = constant.checked_div_euclid(times).unwrap_or(constant);
-        asked.rows.push(Row::new(coeffs, least)?)?;
+        asked.rows.push(Row::new(coeffs, least))?;
         let most = scale.wrapping_mul(i128::from(high));
-        asked.rows.push(Row::new(above, most)?)?;
+        asked.rows.push(Row::new(above, most))?;
         Ok(())
     }
 }

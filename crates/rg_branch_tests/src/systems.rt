@@ -7,7 +7,6 @@ use rg_branch::Bounded;
 use rg_branch_trees::Side;
 use rg_linear::{Row, System};
 use std::alloc::{AllocError, Global};
-use std::sync::ArcSlice;
 
 /// The coefficients of a row, and its constant.
 #[derive(Clone, Copy)]
@@ -51,7 +50,7 @@ fn row(alloc: Global, columns: u32, told: Told) -> Result<Row, AllocError>
     for j in 0..columns {
         coeffs.push(coefficient(told, j))?;
     }
-    Row::new(coeffs, keep_in_range(told.constant))
+    Ok(Row::new(coeffs, keep_in_range(told.constant)))
 }
 
 /// These rows, each of so many coefficients.
@@ -81,7 +80,7 @@ pub(crate) fn system(alloc: Global, columns: u32, told: &[Told]) -> Result<Syste
 pub(crate) fn forms(alloc: Global, told: &[ToldForm]) -> Result<Vec<Bounded>, AllocError> {
     let mut list = Vec::new(alloc);
     for form in told {
-        let coeffs = ArcSlice::from_slice(alloc, form.coeffs)?;
+        let coeffs = form.coeffs.to_vec(alloc)?;
         list.push(Bounded {
             scale: form.scale,
             coeffs,

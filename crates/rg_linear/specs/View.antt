@@ -1,6 +1,5 @@
 -- The rows and systems that code keeps.
 use Rattle.std.specs.Prelude.{◌≡◌, ℕ, ◌+◌, ◌^◌, ◌<◌, List, length, map}
-use Rattle.std.specs.Arc.{arc_slice_items}
 use Rattle.rg_integers.specs.Range.{InRange}
 use Rattle.rg_linear.specs.System.{LinearSystem, LinearRow, row_at, entry}
 use Rattle.rg_linear.specs.Norm.{greatest_norm, kept_norm}
@@ -8,7 +7,7 @@ use Rattle.rg_linear.specs.declared.row.Row.{Row}
 
 -- the row that code keeps
 abbrev pub linear_row : Row → LinearRow
-linear_row r = record { coeffs = arc_slice_items r.coeffs; constant = r.constant }
+linear_row r = record { coeffs = r.coeffs.items; constant = r.constant }
 
 -- the system of so many columns with these rows
 abbrev pub linear_system : ℕ → List Row → LinearSystem

@@ -1,20 +1,16 @@
 //! Rows, with their norms.
 
 ghost use Rattle.std.specs.Prelude.{◌≡◌, ◌+◌, unsigned_abs};
-ghost use Rattle.std.specs.Arc.{arc_slice_items};
 ghost use Rattle.rg_linear.specs.Norm.{row_norm, kept_norm};
 
-use std::sync::ArcSlice;
-
 /// A row: the sum of the columns, each times its coefficient, and the constant is at least 0. There is one
-/// coefficient for each column. Clones of a row share its coefficients. The norm is the sum of the sizes of all
-/// numbers, `u64::MAX` where that passes.
+/// coefficient for each column. The norm is the sum of the sizes of all numbers, `u64::MAX` where that passes.
 #[derive(PartialEq, Eq, Debug, Drop)]
 pub struct Row {
-    pub coeffs: ArcSlice<i128>,
+    pub coeffs: Vec<i128>,
     pub constant: i128,
     pub norm: u64,
-    pub ghost norm_is: { norm ≡ kept_norm (row_norm (arc_slice_items coeffs) constant) },
+    pub ghost norm_is: { norm ≡ kept_norm (row_norm coeffs.items constant) },
 }
 
 /// The norm of a row with these coefficients and this constant: the sum of the sizes of all numbers, `u64::MAX` where

@@ -1,39 +1,23 @@
 //! Systems of linear rows.
 
-ghost use Rattle.std.specs.Prelude.{◌≡◌, length, map, IfOk};
+ghost use Rattle.std.specs.Prelude.{◌≡◌, length, map};
 ghost use Rattle.rg_linear.specs.Norm.{greatest_norm, kept_norm};
 ghost use Rattle.rg_linear.specs.View.{linear_row, linear_system, IsWellFormed};
 
 use crate::row::{Row, norm};
-use std::alloc::AllocError;
 use std::marker::Model;
-use std::sync::ArcSlice;
 
 impl Row {
-    /// The row of these coefficients and this constant. Returns `AllocError` if memory runs out.
-    pub fn new(coeffs: Vec<i128>, constant: i128) -> Result<Row, AllocError>
-        ensures { IfOk result (λ row. linear_row row ≡ record { coeffs = coeffs.items; constant = constant }) }
+    /// Returns the row of these coefficients and this constant.
+    pub fn new(coeffs: Vec<i128>, constant: i128) -> Row
+        ensures { linear_row result ≡ record { coeffs = coeffs.items; constant = constant } }
     {
         let norm = norm(&coeffs, constant);
-        let coeffs = ArcSlice::from_vec(coeffs)?;
-        Ok(Row {
+        Row {
             coeffs,
             constant,
             norm,
-        })
-    }
-}
-
-impl Clone for Row {
-    ghost is_clone = { λ row copy. linear_row copy ≡ linear_row row };
-
-    fn clone(&self) -> Result<Row, AllocError> {
-        let coeffs = self.coeffs.clone()?;
-        Ok(Row {
-            coeffs,
-            constant: self.constant,
-            norm: self.norm,
-        })
+        }
     }
 }
 

@@ -48,7 +48,7 @@ pub(crate) fn rows_of(alloc: Global, told: &[Told]) -> Result<Vec<Row>, AllocErr
     let mut rows = Vec::new(alloc);
     for (coeffs, constant) in told {
         let coeffs = Vec::from_slice(alloc, coeffs)?;
-        rows.push(Row::new(coeffs, *constant)?)?;
+        rows.push(Row::new(coeffs, *constant))?;
     }
     Ok(rows)
 }

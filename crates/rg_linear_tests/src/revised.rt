@@ -137,7 +137,7 @@ fn random_row(alloc: Global, state: &mut u64, columns: u32) -> Result<Row, Alloc
     for _ in 0..columns {
         coeffs.push(next(state))?;
     }
-    Row::new(coeffs, next(state))
+    Ok(Row::new(coeffs, next(state)))
 }
 
 // So many rows, which the number fixes.

@@ -1,7 +1,6 @@
 //! A revised dictionary.
 
 ghost use Rattle.std.specs.Prelude.{◌≡◌, ℕ, ◌+◌, ◌*◌, ◌^◌, ◌<◌, ◌≤◌, ◌++◌, List, length, map, vec_capacity, IfOk, IfSome, ℤ, pos, ◌≤ℤ◌, unsigned_abs};
-ghost use Rattle.std.specs.Arc.{arc_slice_items};
 ghost use Rattle.rg_fraction.specs.Fractions.{IsValue};
 ghost use Rattle.rg_linear.specs.System.{LinearSystem, row_variable, row_at, with_rows};
 ghost use Rattle.rg_linear.specs.Dictionary.{Relation, DictionaryRow};
@@ -171,7 +170,7 @@ impl Revised {
     /// The value of a row of the system at the point at which every member is 0.
     pub fn value(&self, row: &Row) -> Fraction
         requires held { (system : LinearSystem) × (members : List ℕ) × (i : ℕ) × IsHeldOf system members self.now × (i < length system.rows) × (row_at system i ≡ linear_row row.now) }
-        requires coeffs { length (arc_slice_items row.now.coeffs) ≡ length self.now.tableau.basis.slots }
+        requires coeffs { length row.now.coeffs.items ≡ length self.now.tableau.basis.slots }
         ensures { (system : LinearSystem) (members : List ℕ) (i : ℕ) → IsHeldOf system members self.now → i < length system.rows → row_at system i ≡ linear_row row.now → (scale : ℤ) (v : ℕ → ℤ) → IsBasicPoint system members scale v → IsValue result (v (row_variable system i)) scale }
     {
         row_value(&self.tableau, &row.coeffs, row.constant)
