@@ -4,7 +4,6 @@ use Rattle.std.specs.Prelude.{ℤ, pos, neg_ℤ, ◌+ℤ◌, ◌-ℤ◌, ◌*ℤ
 use Rattle.std.specs.Int.{w128}
 use Rattle.std.proofs.lemmas.Int.{ints}
 use Rattle.std.proofs.lemmas.List.{length-map, get_or_default}
-use Rattle.std.specs.Arc.{arc_slice_items}
 use Rattle.rg_integers.specs.Range.{InRange}
 use Rattle.rg_integers.proofs.Ring.{ring}
 use Rattle.rg_integers.proofs.Order.{mul_not_negative, mul-le}
@@ -70,9 +69,9 @@ bounded_form system before b row times is low top = record {
 
     turned : (x : ℕ → ℤ) → sum_below system.columns (λ j. entry system row j *ℤ x j) ≡ neg_ℤ times *ℤ scaled_value system (form_of b) x
     turned x =
-        sum_below-same system.columns _ (λ j. neg_ℤ times *ℤ (slice_index_or (arc_slice_items b.coeffs) j (pos 0) *ℤ x j))
-        (λ j h. ap (λ z. z *ℤ x j) (top.entries j h) ∙ turn (neg_ℤ times) (slice_index_or (arc_slice_items b.coeffs) j (pos 0)) (x j))
-        ∙ sum_below-times system.columns (neg_ℤ times) (λ j. slice_index_or (arc_slice_items b.coeffs) j (pos 0) *ℤ x j)
+        sum_below-same system.columns _ (λ j. neg_ℤ times *ℤ (slice_index_or b.coeffs.items j (pos 0) *ℤ x j))
+        (λ j h. ap (λ z. z *ℤ x j) (top.entries j h) ∙ turn (neg_ℤ times) (slice_index_or b.coeffs.items j (pos 0)) (x j))
+        ∙ sum_below-times system.columns (neg_ℤ times) (λ j. slice_index_or b.coeffs.items j (pos 0) *ℤ x j)
 
 -- ---- all forms
 
@@ -144,9 +143,9 @@ room_is forms = ap (λ n. total n (gap (forms_of forms) [])) (sym (length-map fo
 -- ---- what the code has tested
 
 module _ (system : LinearSystem) (b : Bounded) (item : Row) (i : ℕ) (lt : i < length system.rows) (is : linear_row item ≡ row_at system i) where
-  pub form_asked : (before : ℕ) → i ≡ before + b.row → length (arc_slice_items b.coeffs) ≡ system.columns → pos 0 <ℤ b.scale → b.low ≤ℤ b.high
+  pub form_asked : (before : ℕ) → i ≡ before + b.row → length b.coeffs.items ≡ system.columns → pos 0 <ℤ b.scale → b.low ≤ℤ b.high
       → pos 0 ≤ℤ b.times → FitsSigned w128 b.scale → FitsSigned w128 b.times → InRange (b.scale *ℤ b.low) → InRange (b.scale *ℤ b.high)
-      → All InRange (arc_slice_items b.coeffs) → AreTimes (arc_slice_items b.coeffs) b.times (linear_row item).coeffs → IsFormOf system before b
+      → All InRange b.coeffs.items → AreTimes b.coeffs.items b.times (linear_row item).coeffs → IsFormOf system before b
   form_asked before here size positive ordered not_negative scale times low high coeffs same = record {
     one_each = size;
     positive = positive;
@@ -178,7 +177,7 @@ module _ (system : LinearSystem) (b : Bounded) (item : Row) (i : ℕ) (lt : i < 
   }
 
   pub top_asked : (times : ℤ) → IsWellFormed system → pos 0 <ℤ times → (high most : ℤ)
-      → high ≡ b.scale *ℤ b.high → most ≡ times *ℤ high → InRange most → item.constant ≤ℤ most → AreTimes (linear_row item).coeffs (neg_ℤ times) (arc_slice_items b.coeffs)
+      → high ≡ b.scale *ℤ b.high → most ≡ times *ℤ high → InRange most → item.constant ≤ℤ most → AreTimes (linear_row item).coeffs (neg_ℤ times) b.coeffs.items
       → IsTop system b i times
   top_asked times well positive high most is_high is_most fits constant same = record {
     within = lt;
@@ -200,8 +199,8 @@ module _ (system : LinearSystem) (b : Bounded) (item : Row) (i : ℕ) (lt : i < 
   pub top_met : (times : ℤ) → IsTop system b i times → item.constant ≤ℤ (times *ℤ (b.scale *ℤ b.high))
   top_met times top = subst (λ (r : LinearRow). r.constant ≤ℤ (times *ℤ (b.scale *ℤ b.high))) (sym is) top.constant
 
-  pub top_times : (times : ℤ) → IsWellFormed system → length (arc_slice_items b.coeffs) ≡ system.columns → IsTop system b i times
-      → AreTimes (linear_row item).coeffs (neg_ℤ times) (arc_slice_items b.coeffs)
+  pub top_times : (times : ℤ) → IsWellFormed system → length b.coeffs.items ≡ system.columns → IsTop system b i times
+      → AreTimes (linear_row item).coeffs (neg_ℤ times) b.coeffs.items
   top_times times well size top = record {
     size = wide ∙ sym size;
     each = λ j less. ap (λ (r : LinearRow). slice_index_or r.coeffs j (pos 0)) is ∙ top.entries j (subst (λ n. j < n) wide less);
@@ -210,7 +209,7 @@ module _ (system : LinearSystem) (b : Bounded) (item : Row) (i : ℕ) (lt : i < 
       wide : length (linear_row item).coeffs ≡ system.columns
       wide = ap (λ (r : LinearRow). length r.coeffs) is ∙ well.one_each i lt
 
-  pub form_times : (before : ℕ) → i ≡ before + b.row → IsWellFormed system → IsFormOf system before b → AreTimes (arc_slice_items b.coeffs) b.times (linear_row item).coeffs
+  pub form_times : (before : ℕ) → i ≡ before + b.row → IsWellFormed system → IsFormOf system before b → AreTimes b.coeffs.items b.times (linear_row item).coeffs
   form_times before here well form = record {
     size = form.one_each ∙ sym wide;
     each = λ j less. form.multiple j (subst (λ n. j < n) form.one_each less)
@@ -220,6 +219,6 @@ module _ (system : LinearSystem) (b : Bounded) (item : Row) (i : ℕ) (lt : i < 
       wide : length (linear_row item).coeffs ≡ system.columns
       wide = ap (λ (r : LinearRow). length r.coeffs) is ∙ well.one_each i lt
 
-pub form_in_range : (system : LinearSystem) (before : ℕ) (b : Bounded) → IsFormOf system before b → All InRange (arc_slice_items b.coeffs)
+pub form_in_range : (system : LinearSystem) (before : ℕ) (b : Bounded) → IsFormOf system before b → All InRange b.coeffs.items
 form_in_range system before b form j d lt =
-    subst InRange (get_or_default (arc_slice_items b.coeffs) j (pos 0) d lt) (form.coeffs_in_range j (subst (λ n. j < n) form.one_each lt))
+    subst InRange (get_or_default b.coeffs.items j (pos 0) d lt) (form.coeffs_in_range j (subst (λ n. j < n) form.one_each lt))

@@ -1,6 +1,5 @@
 -- Forms that single rows bound.
 use Rattle.std.specs.Prelude.{◌≡◌, ℕ, ◌+◌, ◌^◌, ◌<◌, ◌≤◌, List, [], length, slice_index_or, ℤ, pos, neg_ℤ, ◌*ℤ◌, ◌≤ℤ◌, ◌<ℤ◌}
-use Rattle.std.specs.Arc.{arc_slice_items}
 use Rattle.rg_integers.specs.Range.{InRange}
 use Rattle.rg_linear.specs.System.{LinearSystem, row_at, entry, IsPoint, MeetsRows}
 use Rattle.rg_linear.specs.Branching.{scaled_value}
@@ -25,7 +24,7 @@ pub record IsLow (system : LinearSystem) (before : ℕ) (b : Bounded) : Type 0 w
 pub record IsTop (system : LinearSystem) (b : Bounded) (row : ℕ) (times : ℤ) : Type 0 where
   pub within : row < length system.rows
   pub positive : pos 0 <ℤ times
-  pub entries : (j : ℕ) → j < system.columns → entry system row j ≡ neg_ℤ times *ℤ slice_index_or (arc_slice_items b.coeffs) j (pos 0)
+  pub entries : (j : ℕ) → j < system.columns → entry system row j ≡ neg_ℤ times *ℤ slice_index_or b.coeffs.items j (pos 0)
   pub in_range : InRange (times *ℤ (b.scale *ℤ b.high))
   pub constant : (row_at system row).constant ≤ℤ (times *ℤ (b.scale *ℤ b.high))
 
