@@ -3,7 +3,6 @@ use Rattle.std.proofs.Common.{◌≡◌, ℕ, max, ◌+◌, ◌<◌, ◌≤◌, 
 use Rattle.std.proofs.lemmas.Int.{ints}
 use Rattle.std.specs.Prelude.{ℤ, pos, ◌*ℤ◌, ◌<ℤ◌, slice_index_or}
 use Rattle.std.proofs.lemmas.List.{append-nil, drop_all, get_or-map, get_or_default}
-use Rattle.std.specs.Arc.{arc_slice_items}
 use Rattle.rg_theory.specs.declared.Class.{Class}
 use Rattle.rg_theory.specs.ClassWords.{HasNumbersInRange}
 use Rattle.rg_integers.specs.declared.term.Wide.{Wide}
@@ -198,7 +197,7 @@ module _ (it : CaseSetting) (names : List RowName) (i : ℕ) (d : RowName) (lt :
       pub step_fails : (w : Wide) → terms_fold it.setting e.terms (Err w) → each (form_fold it.setting) (forms_in it.class names) (Err w)
       step_fails w h = form_fails it.class (form_fold it.setting) names i name next_name xs so_far form (sym is_form) w (form_of_none it form e is_split w h)
 
-      pub step_next : (f : NamedForm) (s : Scaled) → terms_fold it.setting e.terms (Ok s) → f.scale ≡ s.multiple → (arc_slice_items f.coeffs) ≡ s.numbers
+      pub step_next : (f : NamedForm) (s : Scaled) → terms_fold it.setting e.terms (Ok s) → f.scale ≡ s.multiple → f.coeffs.items ≡ s.numbers
           → f.low ≡ form_low form → f.high ≡ form_high it.lts it.class form → (r : Result (List Form) Wide)
           → each (form_fold it.setting) (forms_in it.class (drop (i + 1) names)) r
           → each (form_fold it.setting) (forms_in it.class names) (behind (xs ++ linear_form f ∷ []) r)
@@ -216,12 +215,12 @@ module _ (it : CaseSetting) (names : List RowName) (i : ℕ) (d : RowName) (lt :
           lt (get_or_default names i name d lt)
           (get_or-map kept_row rows i row (kept_row row) lt' ∙ ap kept_row (sym is_row))
 
-      pub step_times : (s : Scaled) → terms_fold it.setting e.terms (Ok s) → (t : ℕ) × (0 < t) × (s.numbers ≡ map (λ z. pos t *ℤ z) (arc_slice_items row.coeffs))
+      pub step_times : (s : Scaled) → terms_fold it.setting e.terms (Ok s) → (t : ℕ) × (0 < t) × (s.numbers ≡ map (λ z. pos t *ℤ z) row.coeffs.items)
       step_times s h = times_row it form e is_split s (kept_row row) h (subst (λ n. fold_of it n (Ok (kept_row row))) named row_is.0)
 
-      pub step_made : (columns : ℕ) (indices : List ℕ) (f : NamedForm) → f.form ≡ form → IsPartOf f (arc_slice_items row.coeffs) (slice_index_or indices i 0)
-          → (f.low ≡ form_low form) × (f.high ≡ form_high it.lts it.class form) → length (arc_slice_items f.coeffs) ≡ columns
-          → (HasNumbersInRange it.class → pos 0 <ℤ f.scale) → InRange f.scale → All InRange (arc_slice_items f.coeffs) → InRange f.times
+      pub step_made : (columns : ℕ) (indices : List ℕ) (f : NamedForm) → f.form ≡ form → IsPartOf f row.coeffs.items (slice_index_or indices i 0)
+          → (f.low ≡ form_low form) × (f.high ≡ form_high it.lts it.class form) → length f.coeffs.items ≡ columns
+          → (HasNumbersInRange it.class → pos 0 <ℤ f.scale) → InRange f.scale → All InRange f.coeffs.items → InRange f.times
           → IsMade it.lts it.class columns (map kept_row rows) indices f
       step_made columns indices f same part bounds one_each positive scale coeffs times = record {
         number = i;

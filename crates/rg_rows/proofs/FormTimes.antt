@@ -8,7 +8,6 @@ use Rattle.std.proofs.lemmas.Int.{ints, unsigned_abs-mul}
 use Rattle.std.proofs.lemmas.List.{length-map, get_or_default}
 use Rattle.std.proofs.lemmas.List.Elements.{All-nil, All-cons, All-head, All-tail}
 use Rattle.std.proofs.lemmas.Option.{slice_get_within, get_or_from_slice_get}
-use Rattle.std.specs.Arc.{arc_slice_items}
 use Rattle.rg_integers.specs.Range.{InRange}
 use Rattle.rg_integers.specs.Sum.{number_at}
 use Rattle.rg_integers.proofs.Ring.{ring}
@@ -59,8 +58,8 @@ module _ (s : CaseSetting) (names : List RowName) (case : CaseSystem)
       name_is name (scaled, terms, (constant, product, (same, d))) = same
 
   -- a form with coefficients is a multiple of the kept row at its index
-  index_is : (arc_slice_items f.coeffs) ≡ map (λ z. f.times *ℤ z) is.row.row.coeffs → f.row ≡ slice_index_or indices is.number 0
-      → ¬ IsZeroVector (arc_slice_items f.coeffs) → slice_get (rows_of case).rows f.row ≡ Some is.row.row
+  index_is : f.coeffs.items ≡ map (λ z. f.times *ℤ z) is.row.row.coeffs → f.row ≡ slice_index_or indices is.number 0
+      → ¬ IsZeroVector f.coeffs.items → slice_get (rows_of case).rows f.row ≡ Some is.row.row
   index_is e index some = ap (λ p. slice_get (rows_of case).rows p) index
       ∙ are.each is.number is.row is.at (λ (zeros, weak). some (subst IsZeroVector (sym e) (times_zero f.times is.row.row.coeffs zeros)))
 
@@ -85,7 +84,7 @@ module _ (s : CaseSetting) (names : List RowName) (case : CaseSystem)
       (λ (none, row, zeros). record {
         within = λ some. absurd (some none);
         not_negative = subst (λ z. pos 0 ≤ℤ z) (sym none) (omega (arith, ints));
-        multiple = λ j lt. number_zero (arc_slice_items f.coeffs) j zeros
+        multiple = λ j lt. number_zero f.coeffs.items j zeros
             ∙ sym (ap (λ t. t *ℤ number_at (row_at (rows_of case) f.row).coeffs j) none ∙ zero_times (number_at (row_at (rows_of case) f.row).coeffs j));
       })
       is.part

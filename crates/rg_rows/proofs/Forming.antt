@@ -3,7 +3,6 @@ use Rattle.std.proofs.Common.{◌≡◌, ℕ, zero, suc, ◌+◌, ◌*◌, ◌^�
 use Rattle.std.specs.Prelude.{pos}
 use Rattle.std.proofs.lemmas.List.{length-map, length-append}
 use Rattle.std.proofs.lemmas.List.Elements.{Contains-get_or}
-use Rattle.std.specs.Arc.{arc_slice_items}
 use Rattle.rg_integers.specs.Range.{InRange}
 use Rattle.rg_theory.specs.declared.Class.{Class}
 use Rattle.rg_theory.specs.declared.Problem.{Problem}
@@ -75,9 +74,9 @@ from_map f (x ∷ xs) y (zero, lt, e) = (x, (0, omega arith, refl), e)
 from_map f (x ∷ xs) y (suc k, lt, e) = let (z, (j, below, is), same) = from_map f xs y (k, omega arith, e) in (z, (suc j, omega arith, is), same)
 
 module _ (columns : ℕ) (all : List CaseRow) (rows : List Row) (kept : List KeptRow) (shown : map linear_row rows ≡ map (λ k. k.row) kept)
-    (firsts : KeepsEqualRows (λ k. k.row) IsIdle [] (map kept_row all) kept) (lengths : All (λ r. length (arc_slice_items r.coeffs) ≡ columns) all) where
+    (firsts : KeepsEqualRows (λ k. k.row) IsIdle [] (map kept_row all) kept) (lengths : All (λ r. length r.coeffs.items ≡ columns) all) where
   named_fits : (r : CaseRow) → Contains all r → Fits columns (kept_row r).row
-  named_fits r (k, lt, is) = record { one_each = subst (λ (x : CaseRow). length (arc_slice_items x.coeffs) ≡ columns) is (lengths k r lt); coeffs = r.coeffs_in_range; constant = r.constant_in_range }
+  named_fits r (k, lt, is) = record { one_each = subst (λ (x : CaseRow). length x.coeffs.items ≡ columns) is (lengths k r lt); coeffs = r.coeffs_in_range; constant = r.constant_in_range }
 
   row_fits : (r : LinearRow) → Contains (map linear_row rows) r → Fits columns r
   row_fits r has =

@@ -1,9 +1,9 @@
 -- Rows that are kept of two lists, one after the other.
-use Rattle.std.proofs.Common.{◌≡◌, ◌≢◌, ⊎_elim, ℕ, suc, ◌+◌, ◌-◌, ◌<◌, ◌≤◌, Bool, true, false, if◌then◌else◌, Some, List, [], ◌∷◌, ◌++◌, map, take, length, All, Contains, Result, Ok, inl, inr, ap, refl, subst, sym, ◌∙◌, arith}
-use Rattle.std.specs.Prelude.{slice_get, slice_index_or, IsFalse, pos, ◌≤ℤ◌, ◌<ℤ◌}
-use Rattle.std.proofs.lemmas.Int.{ints}
-use Rattle.std.proofs.lemmas.Bool.{cases_lt}
-use Rattle.std.proofs.lemmas.List.{append-nil, length-append, length-map, map-append, get_or_append_left, get_or-append_right, get_or-map, take_more}
+use Rattle.std.proofs.Common.{◌≡◌, ◌≢◌, ⊎_elim, ℕ, suc, ◌+◌, ◌-◌, ◌<◌, ◌≤◌, ◌==◌, cond, Bool, true, false, if◌then◌else◌, Some, List, [], ◌∷◌, ◌++◌, map, take, drop, length, All, Contains, Result, Ok, Err, inl, inr, ap, refl, subst, sym, ◌∙◌, arith}
+use Rattle.std.specs.Prelude.{slice_get, slice_index_or, IsFalse, IsTrue}
+use Rattle.std.specs.List.{list_any}
+use Rattle.std.proofs.lemmas.Bool.{cases_lt, false≢true}
+use Rattle.std.proofs.lemmas.List.{append-nil, length-append, length-map, map-append, get_or_append_left, get_or-append_right, get_or-map, take_more, take-append-drop}
 use Rattle.std.proofs.lemmas.List.Elements.{All-nil, All-cons, All-append}
 use Rattle.std.proofs.lemmas.Option.{slice_get_within}
 use Rattle.rg_integers.specs.declared.term.Wide.{Wide}
@@ -18,7 +18,7 @@ use Rattle.rg_folds.specs.Fold.{each}
 use Rattle.rg_case_folds.specs.Rewriting.{KeptRow, IsIdle, problem_rows, names_of}
 use Rattle.rg_rows.specs.declared.held_row.HeldRow.{HeldRow}
 use Rattle.rg_rows.specs.View.{kept_row, row_in, AreIndices}
-use Rattle.rg_rows.specs.Sharing.{shared_names}
+use Rattle.rg_rows.specs.Sharing.{row_hash, has_hash, IsApart, shared_names}
 use Rattle.rg_rows.proofs.Naming.{parts_told}
 use Rattle.rg_rows.proofs.Parts.{get_left, get_right}
 
@@ -48,26 +48,40 @@ module _ {X K : Type 0} (key : X → K) (Drops : X → Type 0) where
       still_apart : (y : X) → Contains rest y → Contains (key x ∷ more) (key y) → Contains (key x ∷ seen) (key y)
       still_apart y has h = ⊎_elim (λ e. (0, omega arith, e)) (λ s. behind (key y) seen (apart y (there y has) s)) (Contains-cons_cases (key x) (key y) more h)
 
-  -- the kept ones of both lists, where none of one list has the key of one of the other
+  -- the kept ones of both lists, where none that stays of one list has the key of one of the other
   pub kept_append : (seen : List K) (xs ys kept rest : List X) → KeepsEqualRows key Drops seen xs kept → KeepsEqualRows key Drops [] ys rest
-      → ((y : X) → Contains rest y → Contains seen (key y) → ⊥) → ((x y : X) → Contains xs x → Contains rest y → key x ≢ key y) → KeepsEqualRows key Drops seen (xs ++ ys) (kept ++ rest)
+      → ((y : X) → Contains rest y → Contains seen (key y) → ⊥) → ((x y : X) → Contains xs x → ¬ Drops x → Contains rest y → key x ≢ key y)
+      → KeepsEqualRows key Drops seen (xs ++ ys) (kept ++ rest)
   kept_append seen [] ys kept rest none k fresh apart =
       subst (λ l. KeepsEqualRows key Drops seen ys (l ++ rest)) (sym none) (seen_more [] seen ys rest (λ z (i, lt, e). absurd (omega arith)) (λ y has s. absurd (fresh y has s)) k)
   kept_append seen (x ∷ xs) ys kept rest (inl (gone, k)) last fresh apart =
-      inl (gone, kept_append seen xs ys kept rest k last fresh (λ z y (i, lt, e) has. apart z y (suc i, omega arith, e) has))
+      inl (gone, kept_append seen xs ys kept rest k last fresh (λ z y (i, lt, e) busy has. apart z y (suc i, omega arith, e) busy has))
   kept_append seen (x ∷ xs) ys kept rest (inr (stays, new, (more, is, k))) last fresh apart =
-      inr (stays, new, (more ++ rest, ap (λ l. l ++ rest) is, kept_append (key x ∷ seen) xs ys more rest k last still_fresh (λ z y (i, lt, e) has. apart z y (suc i, omega arith, e) has)))
+      inr (stays, new, (more ++ rest, ap (λ l. l ++ rest) is, kept_append (key x ∷ seen) xs ys more rest k last still_fresh (λ z y (i, lt, e) busy has. apart z y (suc i, omega arith, e) busy has)))
     where
       still_fresh : (y : X) → Contains rest y → Contains (key x ∷ seen) (key y) → ⊥
-      still_fresh y has s = ⊎_elim (λ e. apart x y (0, omega arith, refl) has e) (λ t. fresh y has t) (Contains-cons_cases (key x) (key y) seen s)
+      still_fresh y has s = ⊎_elim (λ e. apart x y (0, omega arith, refl) stays has e) (λ t. fresh y has t) (Contains-cons_cases (key x) (key y) seen s)
 
--- rows whose constants differ in sign differ
-pub signs_differ : (own rest : List KeptRow) → All (λ k. k.row.constant <ℤ pos 0) own → All (λ k. pos 0 ≤ℤ k.row.constant) rest → (x y : KeptRow) → Contains own x → Contains rest y → x.row ≢ y.row
-signs_differ own rest negative not_negative x y (i, lt, e) (j, lt_j, e_j) same =
-    let below : x.row.constant <ℤ pos 0 = subst (λ (k : KeptRow). k.row.constant <ℤ pos 0) e (negative i x lt) in
-    let above : pos 0 ≤ℤ y.row.constant = subst (λ (k : KeptRow). pos 0 ≤ℤ k.row.constant) e_j (not_negative j y lt_j) in
-    let equal = ap (λ (r : LinearRow). r.constant) same in
-    omega (arith, ints)
+-- a hash more takes none away
+pub hashed_more : (hashes more : List ℕ) (v : ℕ) → ((q : ℕ) → list_any (λ h. q == h) more ≡ cond (v == q) true (list_any (λ h. q == h) hashes))
+    → (rows : List KeptRow) → All (λ k. IsTrue (has_hash hashes k.row)) rows → All (λ k. IsTrue (has_hash more k.row)) rows
+hashed_more hashes more v updates rows hashed = λ i d lt. each (slice_index_or rows i d).row (hashed i d lt)
+  where
+    go : (b x : Bool) → x ≡ true → cond b true x ≡ true
+    go true x e = refl
+    go false x e = e
+
+    each : (r : LinearRow) → IsTrue (has_hash hashes r) → IsTrue (has_hash more r)
+    each r has = updates (row_hash r) ∙ go (v == row_hash r) (has_hash hashes r) has
+
+-- rows that are apart from hashes differ from rows that have one of these
+pub rows_differ : (hashes : List ℕ) (own all rest : List KeptRow) → All (IsApart hashes) own → All (λ k. IsTrue (has_hash hashes k.row)) all
+    → ((y : KeptRow) → Contains rest y → Contains all y) → (x y : KeptRow) → Contains own x → ¬ IsIdle x → Contains rest y → x.row ≢ y.row
+rows_differ hashes own all rest apart hashed among x y (i, lt, e) busy has same =
+    let (j, below, at) = among y has in
+    let far : IsFalse (has_hash hashes x.row) = subst (IsApart hashes) e (apart i x lt) busy in
+    let near : IsTrue (has_hash hashes y.row) = subst (λ (k : KeptRow). IsTrue (has_hash hashes k.row)) at (hashed j y below) in
+    false≢true (sym (subst (λ (r : LinearRow). IsFalse (has_hash hashes r)) same far) ∙ near)
 
 -- what holds of the rows before one and of this holds of one row more
 pub all_taken : (P : KeptRow → Type 0) (rows : List HeldRow) (i : ℕ) (x : HeldRow) → i < length rows → x ≡ slice_index_or rows i x
@@ -129,3 +143,16 @@ pub each_joined : {A X : Type 0} (make : A → Result X Wide → Type 0) (firsts
     → each make lasts (Ok ys) → each make (firsts ++ lasts) (Ok (xs ++ ys))
 each_joined make [] lasts xs ys none made = subst (λ l. each make lasts (Ok (l ++ ys))) (sym none) made
 each_joined make (a ∷ firsts) lasts xs ys (x, first, (rest, more, is)) made = (x, first, (rest ++ ys, each_joined make firsts lasts rest ys more made, ap (λ l. l ++ ys) is))
+
+each_late_fails : {A X : Type 0} (make : A → Result X Wide → Type 0) (firsts lasts : List A) (xs : List X) (w : Wide) → each make firsts (Ok xs)
+    → each make lasts (Err w) → each make (firsts ++ lasts) (Err w)
+each_late_fails make [] lasts xs w none failed = failed
+each_late_fails make (a ∷ firsts) lasts xs w (x, first, (rest, more, is)) failed = inr (x, first, inl (each_late_fails make firsts lasts rest w more failed))
+
+-- what is made of a list whose first items are known
+module _ {A X : Type 0} (make : A → Result X Wide → Type 0) (items : List A) (n : ℕ) (xs : List X) (known : each make (take n items) (Ok xs)) where
+  pub after_known : (ys : List X) → each make (drop n items) (Ok ys) → each make items (Ok (xs ++ ys))
+  after_known ys made = subst (λ l. each make l (Ok (xs ++ ys))) (take-append-drop n items) (each_joined make (take n items) (drop n items) xs ys known made)
+
+  pub fails_after_known : (w : Wide) → each make (drop n items) (Err w) → each make items (Err w)
+  fails_after_known w failed = subst (λ l. each make l (Err w)) (take-append-drop n items) (each_late_fails make (take n items) (drop n items) xs w known failed)

@@ -1,7 +1,8 @@
 -- Lists of named rows, state by state and label by label.
 use Rattle.std.proofs.Common.{◌≡◌, ℕ, zero, suc, ◌+◌, ◌-◌, ◌<◌, ◌≤◌, ◌==◌, ◌&&◌, not, is_some, Bool, true, false, if◌then◌else◌, List, [], ◌∷◌, ◌++◌, length, map, take, ap, refl, sym, ◌∙◌, arith, append_assoc, eq-eqb}
 use Rattle.std.specs.Prelude.{slice_index, slice_index_or}
-use Rattle.std.proofs.lemmas.List.{append-nil, map-append, take_more, take_all}
+use Rattle.std.proofs.lemmas.List.{append-nil, length-append, map-append, take_more, take_all}
+use Rattle.std.proofs.Math.Seq.{take-append_seam}
 use Rattle.std.proofs.lemmas.Bool.{and_from, eqb-true}
 use Rattle.rg_theory.specs.declared.Class.{Class}
 use Rattle.rg_theory.specs.declared.Problem.{Problem}
@@ -126,3 +127,23 @@ each_named name before names numbers i so_far lt =
 
 pub all_named : (name : ℕ → RowName) (before names : List RowName) (numbers : List ℕ) (i : ℕ) → names ≡ before ++ map name (take i numbers) → length numbers ≤ i → names ≡ before ++ map name numbers
 all_named name before names numbers i so_far past = so_far ∙ ap (λ l. before ++ map name l) (take_all i numbers past)
+
+-- the rows of the problem come first
+pub own_first : (lts : System) (class : Class) (problem : Problem) (number : ℕ) → (others : List RowName) × (names_of lts class problem number ≡ problem_rows lts class problem ++ others)
+own_first lts class problem number = (
+  shared_names lts class ++ makes,
+  ap (λ l. l ++ makes) (parts_told lts class (problem_rows lts class problem)) ∙ append_assoc (problem_rows lts class problem) (shared_names lts class) makes,
+)
+  where
+    makes : List RowName
+    makes = if class.nonbranching then map row_name.Makes (numbers_where (λ u. has_label u lts.arcs && not (u == case_consumer lts problem number)) 0 (labels lts)) else []
+
+module _ (lts : System) (class : Class) (problem : Problem) (number : ℕ) where
+  pub own_taken : take (length (problem_rows lts class problem)) (names_of lts class problem number) ≡ problem_rows lts class problem
+  own_taken = let (others, first) = own_first lts class problem number in
+      ap (take (length (problem_rows lts class problem))) first ∙ take-append_seam (problem_rows lts class problem) others
+
+  pub own_no_more : length (problem_rows lts class problem) ≤ length (names_of lts class problem number)
+  own_no_more = let (others, first) = own_first lts class problem number in
+      let size = ap length first ∙ length-append (problem_rows lts class problem) others in
+      omega arith

@@ -1,7 +1,6 @@
 -- The system of a case, where the rows that all cases share come after its own.
 use Rattle.std.proofs.Common.{◌≡◌, ℕ, ◌+◌, ◌*◌, ◌^◌, ◌<◌, ◌≤◌, List, [], ◌++◌, map, length, All, Ok, Err, ap, refl, subst, sym, ◌∙◌, arith}
-use Rattle.std.specs.Prelude.{pos, ◌<ℤ◌, IsFalse}
-use Rattle.std.specs.Arc.{arc_slice_items}
+use Rattle.std.specs.Prelude.{IsFalse}
 use Rattle.std.proofs.lemmas.List.{length-append, length-map, map-append}
 use Rattle.std.proofs.lemmas.List.Elements.{All-append}
 use Rattle.rg_theory.specs.ClassWords.{HasNumbersInRange}
@@ -9,7 +8,7 @@ use Rattle.rg_theory.specs.System.{states, labels}
 use Rattle.rg_linear.specs.Firsts.{KeepsEqualRows}
 use Rattle.rg_linear.specs.View.{linear_row, linear_system, IsWellFormed}
 use Rattle.rg_linear.specs.declared.row.Row.{Row}
-use Rattle.rg_linear.proofs.Firsts.{kept_count}
+use Rattle.rg_linear.proofs.Firsts.{kept_count, kept_is}
 use Rattle.rg_cert_meaning.specs.declared.Form.{Form as SplitForm}
 use Rattle.rg_cert_meaning.specs.declared.RowName.{RowName}
 use Rattle.rg_case_folds.specs.Setting.{CaseSetting}
@@ -22,15 +21,16 @@ use Rattle.rg_rows.specs.declared.case_row.CaseRow.{CaseRow}
 use Rattle.rg_rows.specs.declared.kept.CaseRows.{CaseRows}
 use Rattle.rg_rows.specs.declared.named_form.NamedForm.{NamedForm}
 use Rattle.rg_rows.specs.declared.shared_rows.SharedRows.{SharedRows}
-use Rattle.rg_rows.specs.View.{kept_row, columns_in, fold_of, ShowsRows, AreIndices}
+use Rattle.rg_rows.specs.View.{kept_row, columns_in, fold_of, ShowsRows, AreIndices, AreOwnRows}
 use Rattle.rg_rows.specs.Forms.{form_after, forms_after, linear_form, split_of, StandsInRow, AreFormsOf}
 use Rattle.rg_rows.specs.Making.{IsMade}
-use Rattle.rg_rows.specs.Sharing.{shared_names, AreSharedRows}
+use Rattle.rg_rows.specs.Sharing.{IsApart, shared_names, AreSharedRows}
 use Rattle.rg_rows.proofs.Assembling.{all_stand, all_forms}
 use Rattle.rg_rows.proofs.FormsAfter.{each_mapped, linear_after, split_after, made_after}
 use Rattle.rg_rows.proofs.FormNames.{shared_forms}
 use Rattle.rg_rows.proofs.Forming.{names_few, well_formed}
-use Rattle.rg_rows.proofs.Joining.{kept_append, signs_differ, indices_append, names_alone, each_joined}
+use Rattle.rg_rows.proofs.Joining.{kept_append, rows_differ, indices_append, names_alone, each_joined}
+use Rattle.rg_rows.proofs.Naming.{own_first}
 use Rattle.rg_rows.proofs.Making.{case_made, case_fails}
 use Rattle.rg_rows.proofs.FormSteps.{each_early_fails}
 use Rattle.rg_integers.specs.declared.term.Wide.{Wide}
@@ -38,14 +38,14 @@ use Rattle.rg_integers.specs.declared.term.Wide.{Wide}
 pub shown_count : (r : CaseRows) (kept : List KeptRow) → ShowsRows r kept → length r.rows.items ≡ length kept
 shown_count r kept shows = sym (length-map r.rows.items linear_row) ∙ ap length shows.rows ∙ length-map kept (λ (k : KeptRow). k.row)
 
-module _ (s : CaseSetting) (shared : SharedRows) (are : AreSharedRows s.setting shared) where
-  -- a step of its own rows that is out of range is the first of the case
-  pub own_fails : (own_names : List RowName) → own_names ≡ problem_rows s.lts s.class s.problem → (w : Wide) → each (fold_of s) own_names (Err w) → system_fold s (Err w)
-  own_fails own_names named w failed = case_fails s (own_names ++ shared_names s.lts s.class)
-      (ap (λ l. l ++ shared_names s.lts s.class) named ∙ sym (names_alone s.lts s.class s.problem s.number are.alone)) w
-      (each_early_fails (fold_of s) own_names (shared_names s.lts s.class) w failed)
+-- a step of its own rows that is out of range is the first of the case
+pub own_fails : (s : CaseSetting) (own_names : List RowName) → own_names ≡ problem_rows s.lts s.class s.problem → (w : Wide) → each (fold_of s) own_names (Err w) → system_fold s (Err w)
+own_fails s own_names named w failed =
+    let (others, first) = own_first s.lts s.class s.problem s.number in
+    case_fails s (own_names ++ others) (ap (λ l. l ++ others) named ∙ sym first) w (each_early_fails (fold_of s) own_names others w failed)
 
-  module _ (own : List CaseRow) (own_names : List RowName) (named : own_names ≡ problem_rows s.lts s.class s.problem) (own_made : each (fold_of s) own_names (Ok (map kept_row own))) where
+module _ (s : CaseSetting) (shared : SharedRows) (are : AreSharedRows s.setting shared) where
+  module _ (own : List CaseRow) (own_are : AreOwnRows s own) where
     abbrev all : List CaseRow
     all = own ++ are.all
 
@@ -53,14 +53,14 @@ module _ (s : CaseSetting) (shared : SharedRows) (are : AreSharedRows s.setting 
     rows_are = map-append kept_row own are.all
 
     abbrev names : List RowName
-    names = own_names ++ shared_names s.lts s.class
+    names = problem_rows s.lts s.class s.problem ++ shared_names s.lts s.class
 
     names_are : names ≡ names_of s.lts s.class s.problem s.number
-    names_are = ap (λ l. l ++ shared_names s.lts s.class) named ∙ sym (names_alone s.lts s.class s.problem s.number are.alone)
+    names_are = sym (names_alone s.lts s.class s.problem s.number are.alone)
 
     all_made : each (fold_of s) names (Ok (map kept_row all))
     all_made = subst (λ l. each (fold_of s) names (Ok l)) (sym rows_are)
-        (each_joined (fold_of s) own_names (shared_names s.lts s.class) (map kept_row own) (map kept_row are.all) own_made (are.made s.problem s.number))
+        (each_joined (fold_of s) (problem_rows s.lts s.class s.problem) (shared_names s.lts s.class) (map kept_row own) (map kept_row are.all) own_are.made (are.made s.problem s.number))
 
     pub all_few : length own + length are.all ≤ 3 * states s.lts + 3 * labels s.lts + 2
     all_few =
@@ -84,17 +84,18 @@ module _ (s : CaseSetting) (shared : SharedRows) (are : AreSharedRows s.setting 
       pub all_kept_few : length kept + length are.kept ≤ 3 * states s.lts + 3 * labels s.lts + 2
       all_kept_few = let a = kept_few in let b = all_few in omega arith
 
-      module _ (negative : All (λ (k : KeptRow). k.row.constant <ℤ pos 0) (map kept_row own)) where
+      module _ (apart : All (IsApart shared.hashes.keys) (map kept_row own)) where
         all_firsts : KeepsEqualRows (λ k. k.row) IsIdle [] (map kept_row all) (kept ++ are.kept)
         all_firsts = subst (λ l. KeepsEqualRows (λ (k : KeptRow). k.row) IsIdle [] l (kept ++ are.kept)) (sym rows_are)
             (kept_append (λ (k : KeptRow). k.row) IsIdle [] (map kept_row own) (map kept_row are.all) kept are.kept firsts are.firsts (λ y has (i, lt, at). absurd (omega arith))
-            (signs_differ (map kept_row own) are.kept negative are.not_negative))
+            (rows_differ shared.hashes.keys (map kept_row own) (map kept_row are.all) are.kept apart are.hashed
+            (λ y has. kept_is (λ (k : KeptRow). k.row) IsIdle [] (map kept_row are.all) are.kept y are.firsts has)))
 
-        pub are_well_formed : (columns : ℕ) (rows : List Row) → columns ≡ columns_in s.setting → All (λ (r : CaseRow). length (arc_slice_items r.coeffs) ≡ columns_in s.setting) own
+        pub are_well_formed : (columns : ℕ) (rows : List Row) → columns ≡ columns_in s.setting
             → map linear_row rows ≡ map (λ k. k.row) (kept ++ are.kept) → columns + (3 * states s.lts + 3 * labels s.lts + 2) < 2 ^ 32 → IsWellFormed (linear_system columns rows)
-        are_well_formed columns rows is one_each shows few = well_formed columns all rows (kept ++ are.kept) shows all_firsts
-            (subst (λ n. All (λ (r : CaseRow). length (arc_slice_items r.coeffs) ≡ n) all) (sym is)
-            (All-append (λ (r : CaseRow). length (arc_slice_items r.coeffs) ≡ columns_in s.setting) own are.all one_each are.one_each))
+        are_well_formed columns rows is shows few = well_formed columns all rows (kept ++ are.kept) shows all_firsts
+            (subst (λ n. All (λ (r : CaseRow). length r.coeffs.items ≡ n) all) (sym is)
+            (All-append (λ (r : CaseRow). length r.coeffs.items ≡ columns_in s.setting) own are.all own_are.one_each are.one_each))
             (let e = length-append own are.all in let a = all_few in omega arith)
 
         abbrev all_places : List ℕ

@@ -3,7 +3,6 @@ use Rattle.std.proofs.Common.{◌≡◌, ℕ, zero, suc, ◌<◌, is_some, Bool,
 use Rattle.std.specs.Prelude.{slice_get, slice_index_or, IfOk, IfSome}
 use Rattle.std.specs.Slice.{IsGetResult}
 use Rattle.std.proofs.lemmas.List.{get_or-map}
-use Rattle.std.specs.Arc.{arc_slice_items}
 use Rattle.rg_theory.specs.declared.Class.{Class}
 use Rattle.rg_theory.specs.declared.Problem.{Problem}
 use Rattle.rg_theory.specs.declared.Problem.TheVariants.{Event, States}
@@ -64,18 +63,18 @@ row_within lts class kind.Makes i lt = one (states lts) _ tt
 
 module _ (it : Setting) (name : RowName) (e : Expression) (is : e ≡ shared_expression it.lts it.class [] name) where
   pub row_shared : (result : Result CaseRow FoldStop) (w : Result CaseRow Wide) → result ≡ or_wide w → Comes (row_fold it name e) kept_row result
-      → IfOk result (λ r. length (arc_slice_items r.coeffs) ≡ column_count it.lts it.basis it.class) → IsSharedRow it name w
+      → IfOk result (λ r. length r.coeffs.items ≡ column_count it.lts it.basis it.class) → IsSharedRow it name w
   row_shared result (Ok r) so comes one_each = (
     subst (λ x. row_fold it name x (Ok (kept_row r))) is (subst (Comes (row_fold it name e) kept_row) so comes),
-    subst (λ y. IfOk y (λ r. length (arc_slice_items r.coeffs) ≡ column_count it.lts it.basis it.class)) so one_each,
+    subst (λ y. IfOk y (λ r. length r.coeffs.items ≡ column_count it.lts it.basis it.class)) so one_each,
   )
   row_shared result (Err x) so comes one_each = (subst (λ y. row_fold it name y (Err x)) is (subst (Comes (row_fold it name e) kept_row) so comes), tt)
 
   pub terms_shared : (result : Result FormTerms FoldStop) (w : Result FormTerms Wide) → result ≡ or_wide w → Comes (terms_fold it e.terms) terms_of result
-      → IfOk result (λ s. length (arc_slice_items s.coeffs) ≡ column_count it.lts it.basis it.class) → AreSharedTerms it name w
+      → IfOk result (λ s. length s.coeffs.items ≡ column_count it.lts it.basis it.class) → AreSharedTerms it name w
   terms_shared result (Ok s) so comes one_each = (
     subst (λ (x : Expression). terms_fold it x.terms (Ok (terms_of s))) is (subst (Comes (terms_fold it e.terms) terms_of) so comes),
-    subst (λ y. IfOk y (λ s. length (arc_slice_items s.coeffs) ≡ column_count it.lts it.basis it.class)) so one_each,
+    subst (λ y. IfOk y (λ s. length s.coeffs.items ≡ column_count it.lts it.basis it.class)) so one_each,
   )
   terms_shared result (Err x) so comes one_each = (subst (λ (y : Expression). terms_fold it y.terms (Err x)) is (subst (Comes (terms_fold it e.terms) terms_of) so comes), tt)
 

@@ -1,7 +1,6 @@
 -- The form of the tokens at the start.
 use Rattle.std.proofs.Common.{◌≡◌, ℕ, ◌<◌, ◌≤◌, List, [], map, length, Ok, Err, Option, Some, None, unwrap_or, IfSome, All, ap, subst, sym, refl, ◌∙◌, arith}
 use Rattle.std.specs.Prelude.{ℤ, pos, ◌*ℤ◌, ◌<ℤ◌, slice_index_or}
-use Rattle.std.specs.Arc.{arc_slice_items}
 use Rattle.std.proofs.lemmas.Int.{ints}
 use Rattle.std.proofs.lemmas.List.{get_or-map}
 use Rattle.rg_theory.specs.declared.Class.{Class}
@@ -37,7 +36,7 @@ module _ (it : CaseSetting) where
   -- the row's terms are those of the start, once
   pub start_made : (n : ℕ) (s : Scaled) (f : NamedForm) → n ≡ it.lts.initial → IsTree it.lts it.tree
       → terms_fold it.setting (row_expression it.lts it.class it.problem it.number [] (row_name.Tokens n)).terms (Ok s)
-      → f.scale ≡ pos (step_of it.class split_form.Start) → arc_slice_items f.coeffs ≡ s.numbers
+      → f.scale ≡ pos (step_of it.class split_form.Start) → f.coeffs.items ≡ s.numbers
       → f.low ≡ form_low split_form.Start → f.high ≡ form_high it.lts it.class split_form.Start → form_fold it.setting split_form.Start (Ok (linear_form f))
   start_made n s f at is_tree terms scale coeffs low high =
       let e = row_expression it.lts it.class it.problem it.number [] (row_name.Tokens it.lts.initial) in
@@ -72,15 +71,15 @@ module _ (it : CaseSetting) where
         (get_or-map kept_row rows i row (kept_row row) lt' ∙ ap kept_row (sym is_row))
 
     pub start_times : (s : Scaled) → terms_fold it.setting (row_expression it.lts it.class it.problem it.number [] (row_name.Tokens n)).terms (Ok s)
-        → (t : ℕ) × (0 < t) × (s.numbers ≡ map (λ z. pos t *ℤ z) (arc_slice_items row.coeffs))
+        → (t : ℕ) × (0 < t) × (s.numbers ≡ map (λ z. pos t *ℤ z) row.coeffs.items)
     start_times s terms =
         times_row it split_form.Start (row_expression it.lts it.class it.problem it.number [] (row_name.Tokens it.lts.initial)) refl s (kept_row row)
         (subst (λ m. terms_fold it.setting (row_expression it.lts it.class it.problem it.number [] (row_name.Tokens m)).terms (Ok s)) at terms) start_row.0
 
     pub start_is_made : (columns : ℕ) (indices : List ℕ) (f : NamedForm) → split_of f ≡ split_form.Start
-        → IsPartOf f (arc_slice_items row.coeffs) (slice_index_or indices i 0) → f.scale ≡ pos (step_of it.class split_form.Start)
-        → f.low ≡ form_low split_form.Start → f.high ≡ form_high it.lts it.class split_form.Start → length (arc_slice_items f.coeffs) ≡ columns
-        → InRange f.scale → All InRange (arc_slice_items f.coeffs) → InRange f.times → IsMade it.lts it.class columns (map kept_row rows) indices f
+        → IsPartOf f row.coeffs.items (slice_index_or indices i 0) → f.scale ≡ pos (step_of it.class split_form.Start)
+        → f.low ≡ form_low split_form.Start → f.high ≡ form_high it.lts it.class split_form.Start → length f.coeffs.items ≡ columns
+        → InRange f.scale → All InRange f.coeffs.items → InRange f.times → IsMade it.lts it.class columns (map kept_row rows) indices f
     start_is_made columns indices f same part is_scale low high one_each scale coeffs times = record {
       number = i;
       row = kept_row row;

@@ -1,6 +1,5 @@
 -- The forms of a case, and what a branching asks of them.
 use Rattle.std.specs.Prelude.{◌≡◌, ◌≢◌, ◌⊎◌, ℕ, zero, suc, ◌+◌, ◌^◌, ◌<◌, ◌&&◌, not, ◌++◌, is_some, if◌then◌else◌, List, [], ◌∷◌, map, length, All, Option, Some, None, Ok, slice_get, ℤ, pos, negsuc, ◌+ℤ◌, ◌-ℤ◌, ◌*ℤ◌, ◌≤ℤ◌, ◌<ℤ◌}
-use Rattle.std.specs.Arc.{arc_slice_items}
 use Rattle.rg_theory.specs.declared.Class.{Class}
 use Rattle.rg_theory.specs.declared.Problem.{Problem}
 use Rattle.rg_integers.specs.Range.{InRange}
@@ -20,7 +19,7 @@ use Rattle.rg_cert_meaning.specs.declared.Form.TheVariants as split_form
 
 -- the form over the columns
 abbrev pub linear_form : NamedForm → Form
-linear_form f = record { scale = f.scale; coeffs = arc_slice_items f.coeffs; low = f.low; high = f.high }
+linear_form f = record { scale = f.scale; coeffs = f.coeffs.items; low = f.low; high = f.high }
 
 -- what it is of
 abbrev pub split_of : NamedForm → SplitForm
@@ -64,24 +63,24 @@ case_forms class problem names = forms_in class names ++ (if splits_start class 
 -- the form is the row times a positive number, and is not 0, or it is 0 and names no row
 abbrev pub IsPartOf : NamedForm → List ℤ → ℕ → Type 0
 IsPartOf f coeffs index =
-    ((pos 0 <ℤ f.times) × ((arc_slice_items f.coeffs) ≡ map (λ z. f.times *ℤ z) coeffs) × (f.row ≡ index) × ¬ IsZeroVector (arc_slice_items f.coeffs))
-    ⊎ ((f.times ≡ pos 0) × (f.row ≡ 0) × IsZeroVector (arc_slice_items f.coeffs))
+    ((pos 0 <ℤ f.times) × (f.coeffs.items ≡ map (λ z. f.times *ℤ z) coeffs) × (f.row ≡ index) × ¬ IsZeroVector f.coeffs.items)
+    ⊎ ((f.times ≡ pos 0) × (f.row ≡ 0) × IsZeroVector f.coeffs.items)
 
 -- the row of the form is the one that stayed for `tokens` of its state, the initial one for the start, or `down` of its label; a form without coefficients
 -- has times 0 and row 0
 abbrev pub StandsInRow : CaseSetting → LinearSystem → NamedForm → Type 0
 StandsInRow s system f =
     (k : KeptRow) → fold_of s (form_row s.lts.initial (split_of f)) (Ok k)
-    → ((f.times ≢ pos 0) × (slice_get system.rows f.row ≡ Some k.row)) ⊎ ((f.times ≡ pos 0) × (f.row ≡ 0) × IsZeroVector (arc_slice_items f.coeffs))
+    → ((f.times ≢ pos 0) × (slice_get system.rows f.row ≡ Some k.row)) ⊎ ((f.times ≡ pos 0) × (f.row ≡ 0) × IsZeroVector f.coeffs.items)
 
 -- ---- what a branching asks
 
 -- one coefficient a column, a multiple of those of a row; the scale is positive, and the numbers are in range
 pub record IsFormOf (system : LinearSystem) (f : NamedForm) : Type 0 where
-  pub one_each : length (arc_slice_items f.coeffs) ≡ system.columns
+  pub one_each : length f.coeffs.items ≡ system.columns
   pub positive : pos 0 <ℤ f.scale
   pub scale_in_range : InRange f.scale
-  pub coeffs_in_range : All InRange (arc_slice_items f.coeffs)
+  pub coeffs_in_range : All InRange f.coeffs.items
   pub ordered : f.low ≤ℤ f.high
   pub low_in_range : InRange (f.scale *ℤ f.low)
   pub high_in_range : InRange (f.scale *ℤ f.high)

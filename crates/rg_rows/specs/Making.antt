@@ -1,6 +1,5 @@
 -- A form that is made of a row's terms.
 use Rattle.std.specs.Prelude.{◌≡◌, ℕ, List, length, All, Some, slice_get, slice_index_or, pos, ◌<ℤ◌}
-use Rattle.std.specs.Arc.{arc_slice_items}
 use Rattle.rg_theory.specs.declared.Class.{Class}
 use Rattle.rg_theory.specs.System.{System}
 use Rattle.rg_theory.specs.ClassWords.{HasNumbersInRange}
@@ -18,8 +17,8 @@ pub record IsMade (lts : System) (class : Class) (columns : ℕ) (all : List Kep
   pub named : row.name ≡ form_row lts.initial (split_of f)
   pub part : IsPartOf f row.row.coeffs (slice_index_or indices number 0)
   pub bounds : (f.low ≡ form_low (split_of f)) × (f.high ≡ form_high lts class (split_of f))
-  pub one_each : length (arc_slice_items f.coeffs) ≡ columns
+  pub one_each : length f.coeffs.items ≡ columns
   pub positive : HasNumbersInRange class → pos 0 <ℤ f.scale
   pub scale_in_range : InRange f.scale
-  pub coeffs_in_range : All InRange (arc_slice_items f.coeffs)
+  pub coeffs_in_range : All InRange f.coeffs.items
   pub times_in_range : InRange f.times

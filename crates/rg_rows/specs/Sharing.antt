@@ -1,11 +1,12 @@
 -- The rows and forms that all problems of a system and a class share.
-use Rattle.std.specs.Prelude.{◌≡◌, ℕ, ◌&&◌, not, is_some, if◌then◌else◌, List, [], ◌++◌, map, length, All, Option, None, Some, slice_get, Result, Ok, Err, IfOk, IfSome, IsFalse, pos, ◌≤ℤ◌}
-use Rattle.std.specs.Arc.{arc_slice_items}
+use Rattle.std.specs.Prelude.{◌≡◌, ℕ, ◌&&◌, not, is_some, if◌then◌else◌, List, [], ◌++◌, map, length, All, Option, None, Some, slice_get, Result, Ok, Err, IfOk, IfSome, Bool, IsTrue, IsFalse, ◌==◌}
+use Rattle.std.specs.List.{list_any}
 use Rattle.rg_theory.specs.declared.Class.{Class}
 use Rattle.rg_theory.specs.declared.Problem.{Problem}
 use Rattle.rg_theory.specs.System.{System, states, labels}
 use Rattle.rg_integers.specs.declared.term.Wide.{Wide}
 use Rattle.rg_linear.specs.Firsts.{KeepsEqualRows}
+use Rattle.rg_linear.specs.System.{LinearRow}
 use Rattle.rg_fraction.specs.declared.fold_stop.FoldStop.{FoldStop}
 use Rattle.rg_fraction.specs.declared.fold_stop.FoldStop.TheVariants as stop
 use Rattle.rg_cert_meaning.specs.Row.{shared_expression, row_expression}
@@ -21,7 +22,8 @@ use Rattle.rg_rows.specs.declared.kind.Kind.TheVariants as kind
 use Rattle.rg_rows.specs.declared.common.Common.{Common}
 use Rattle.rg_rows.specs.declared.named_form.NamedForm.{NamedForm}
 use Rattle.rg_rows.specs.declared.shared_rows.SharedRows.{SharedRows}
-use Rattle.rg_rows.specs.View.{kept_row, terms_of, columns_in, fold_of, ShowsRows, AreIndices}
+use Rattle.rg_rows.specs.View.{numbers_of, kept_row, terms_of, columns_in, fold_of, ShowsRows, AreIndices}
+use Rattle.rg_rows.specs.Hashing.{numbers_hash}
 use Rattle.rg_rows.specs.Forms.{linear_form, split_of, forms_in}
 use Rattle.rg_rows.specs.Making.{IsMade}
 use Rattle.rg_cert_meaning.specs.declared.RowName.TheVariants as row_name
@@ -63,13 +65,13 @@ forms_of_kind lts class kind.Makes = 0
 abbrev pub IsSharedRow : Setting → RowName → Result CaseRow Wide → Type 0
 IsSharedRow s name written =
     row_fold s name (shared_expression s.lts s.class [] name) (shown_result kept_row written)
-    × IfOk written (λ r. length (arc_slice_items r.coeffs) ≡ column_count s.lts s.basis s.class)
+    × IfOk written (λ r. length r.coeffs.items ≡ column_count s.lts s.basis s.class)
 
 -- the terms of the row without denominators, or the first step of theirs
 abbrev pub AreSharedTerms : Setting → RowName → Result FormTerms Wide → Type 0
 AreSharedTerms s name written =
     terms_fold s (shared_expression s.lts s.class [] name).terms (shown_result terms_of written)
-    × IfOk written (λ t. length (arc_slice_items t.coeffs) ≡ column_count s.lts s.basis s.class)
+    × IfOk written (λ t. length t.coeffs.items ≡ column_count s.lts s.basis s.class)
 
 -- one for each state or label, in order
 pub record AreRowsOfKind (s : Setting) (kind : Kind) (rows : List (Result CaseRow Wide)) : Type 0 where
@@ -79,6 +81,22 @@ pub record AreRowsOfKind (s : Setting) (kind : Kind) (rows : List (Result CaseRo
 pub record AreTermsOfKind (s : Setting) (kind : Kind) (terms : List (Result FormTerms Wide)) : Type 0 where
   pub many : length terms ≡ forms_of_kind s.lts s.class kind
   pub each : (i : ℕ) (written : Result FormTerms Wide) → slice_get terms i ≡ Some written → AreSharedTerms s (row_of_kind kind i) written
+
+-- ---- rows that differ from others by their hashes
+
+-- the hash of the row's numbers
+abbrev pub row_hash : LinearRow → ℕ
+row_hash row = numbers_hash (numbers_of row)
+
+-- whether the hash of the row is among these
+abbrev pub has_hash : List ℕ → LinearRow → Bool
+has_hash hashes row = list_any (λ h. row_hash row == h) hashes
+
+-- the row is idle, or its hash isn't among these
+abbrev pub IsApart : List ℕ → KeptRow → Type 0
+IsApart hashes kept = ¬ IsIdle kept → IsFalse (has_hash hashes kept.row)
+
+-- ---- the rows that all cases share
 
 -- the rows that each case of the class has after its own, but `makes`
 abbrev pub shared_names : System → Class → List RowName
@@ -92,11 +110,11 @@ pub record AreSharedRows (s : Setting) (shared : SharedRows) : Type 0 where
   pub alone : IsFalse s.class.nonbranching
   pub all : List CaseRow
   pub made : (problem : Problem) (number : ℕ) → each (fold_of (case_at s problem number)) (shared_names s.lts s.class) (Ok (map kept_row all))
-  pub one_each : All (λ r. length (arc_slice_items r.coeffs) ≡ columns_in s) all
+  pub one_each : All (λ r. length r.coeffs.items ≡ columns_in s) all
   pub kept : List KeptRow
   pub shows : ShowsRows (record { rows = shared.rows.rows; names = shared.names; factors = shared.factors }) kept
   pub firsts : KeepsEqualRows (λ k. k.row) IsIdle [] (map kept_row all) kept
-  pub not_negative : All (λ k. pos 0 ≤ℤ k.row.constant) kept
+  pub hashed : All (λ k. IsTrue (has_hash shared.hashes.keys k.row)) (map kept_row all)
   pub indices : List ℕ
   pub are_indices : AreIndices (map kept_row all) kept indices
   pub forms_made : each (form_fold s) (forms_in s.class (shared_names s.lts s.class)) (Ok (map linear_form shared.forms.items))
@@ -125,13 +143,13 @@ pub record IsCommonOf (s : Setting) (common : Common) : Type 0 where
 abbrev pub IsRowInCase : CaseSetting → RowName → Result CaseRow Wide → Type 0
 IsRowInCase s name written =
     fold_of s name (shown_result kept_row written)
-    × IfOk written (λ r. length (arc_slice_items r.coeffs) ≡ column_count s.lts s.basis s.class)
+    × IfOk written (λ r. length r.coeffs.items ≡ column_count s.lts s.basis s.class)
 
 -- its terms without denominators, or the first step of theirs
 abbrev pub AreTermsInCase : CaseSetting → RowName → Result FormTerms Wide → Type 0
 AreTermsInCase s name written =
     terms_fold s.setting (row_expression s.lts s.class s.problem s.number [] name).terms (shown_result terms_of written)
-    × IfOk written (λ t. length (arc_slice_items t.coeffs) ≡ column_count s.lts s.basis s.class)
+    × IfOk written (λ t. length t.coeffs.items ≡ column_count s.lts s.basis s.class)
 
 -- the forms of the rows that all cases share, where there are such
 abbrev pub shared_forms : Common → List NamedForm

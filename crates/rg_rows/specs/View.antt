@@ -1,15 +1,14 @@
 -- How what the code keeps is seen.
-use Rattle.std.specs.Prelude.{◌≡◌, ℕ, ◌==◌, ◌&&◌, not, Bool, false, List, [], ◌∷◌, ◌++◌, ℤ, length, map, All, Some, Result, slice_get, slice_index_or}
-use Rattle.std.specs.Arc.{arc_slice_items}
+use Rattle.std.specs.Prelude.{◌≡◌, ℕ, ◌==◌, ◌&&◌, not, Bool, false, List, [], ◌∷◌, ◌++◌, ℤ, length, map, All, Some, Result, Ok, slice_get, slice_index_or}
 use Rattle.rg_theory.specs.System.{states}
 use Rattle.rg_linear.specs.System.{LinearRow}
 use Rattle.rg_integers.specs.declared.term.Wide.{Wide}
 use Rattle.rg_cert_meaning.specs.Row.{row_expression}
 use Rattle.rg_cert_meaning.specs.declared.RowName.{RowName}
 use Rattle.rg_case_folds.specs.Setting.{Setting, CaseSetting}
-use Rattle.rg_folds.specs.Fold.{ratio_of}
+use Rattle.rg_folds.specs.Fold.{ratio_of, each}
 use Rattle.rg_folds.specs.Substitution.{numbers_where}
-use Rattle.rg_case_folds.specs.Rewriting.{Scaled, KeptRow, IsIdle, column_count, row_fold}
+use Rattle.rg_case_folds.specs.Rewriting.{Scaled, KeptRow, IsIdle, column_count, row_fold, problem_rows}
 use Rattle.rg_case_parts.specs.StatesNamed.{TermNamesStateBelow}
 use Rattle.rg_linear.specs.View.{linear_row}
 use Rattle.rg_rows.specs.declared.case_row.CaseRow.{CaseRow}
@@ -32,11 +31,11 @@ numbers_of row = row.coeffs ++ row.constant ∷ []
 
 -- the terms of a form: their multiple and their numbers
 abbrev pub terms_of : FormTerms → Scaled
-terms_of t = record { multiple = t.multiple; numbers = arc_slice_items t.coeffs }
+terms_of t = record { multiple = t.multiple; numbers = t.coeffs.items }
 
 -- a row with its name and its factor
 abbrev pub kept_row : CaseRow → KeptRow
-kept_row r = record { name = r.name; row = record { coeffs = arc_slice_items r.coeffs; constant = r.constant }; factor = ratio_of r.factor }
+kept_row r = record { name = r.name; row = record { coeffs = r.coeffs.items; constant = r.constant }; factor = ratio_of r.factor }
 
 -- the row that a case holds
 abbrev pub row_in : HeldRow → CaseRow
@@ -68,3 +67,13 @@ AreNamesWithin s names = All (IsNameWithin s) names
 -- the named row over the columns
 abbrev pub fold_of : CaseSetting → RowName → Result KeptRow Wide → Type 0
 fold_of s name = row_fold s.setting name (row_expression s.lts s.class s.problem s.number [] name)
+
+-- the named rows over the columns, one for each name
+pub record AreRowsOf (s : CaseSetting) (names : List RowName) (rows : List CaseRow) : Type 0 where
+  pub made : each (fold_of s) names (Ok (map kept_row rows))
+  pub one_each : All (λ r. length r.coeffs.items ≡ columns_in s.setting) rows
+  pub many : length rows ≡ length names
+
+-- the rows of the problem itself
+abbrev pub AreOwnRows : CaseSetting → List CaseRow → Type 0
+AreOwnRows s rows = AreRowsOf s (problem_rows s.lts s.class s.problem) rows

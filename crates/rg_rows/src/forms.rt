@@ -1,6 +1,5 @@
 //! The forms of a case.
 ghost use Rattle.std.specs.Prelude.{◌≡◌, ◌⊎◌, ℕ, ◌<◌, [], length, map, All, Contains, slice_index_or, ℤ, pos, ◌*ℤ◌, Ok, IfOk, IsTrue};
-ghost use Rattle.std.specs.Arc.{arc_slice_items};
 ghost use Rattle.rg_integers.specs.Range.{InRange};
 ghost use Rattle.rg_theory.specs.System.{labels};
 ghost use Rattle.rg_linear.specs.Cycle.{IsZeroVector};
@@ -180,10 +179,10 @@ fn terms_in_case(
     requires common { IsCommonOf (shown_setting c.setting) common.now }
     requires within { IsNameWithin (shown_case c) name }
     ensures comes { Comes (terms_fold (shown_setting c.entry.setting) (row_expression c.entry.setting.lts.now c.entry.setting.class c.entry.problem c.entry.number [] name).terms) terms_of result }
-    ensures one_each { IfOk result (λ t. length (arc_slice_items t.coeffs) ≡ columns_in (shown_setting c.entry.setting)) }
+    ensures one_each { IfOk result (λ t. length t.coeffs.items ≡ columns_in (shown_setting c.entry.setting)) }
 {
     match common.terms(name) {
-        Some(Ok(terms)) => Ok(share_terms(terms)?),
+        Some(Ok(terms)) => Ok(copy_terms(alloc, terms)?),
         Some(Err(wide)) => Err(FoldStop::Wide(*wide)),
         None => {
             let said = case_expression(c, name);
@@ -192,11 +191,11 @@ fn terms_in_case(
     }
 }
 
-// The same terms, with the same coefficients in memory.
-fn share_terms(terms: &FormTerms) -> Result<FormTerms, AllocError>
+// The same terms, with a list of their own.
+fn copy_terms(alloc: Global, terms: &FormTerms) -> Result<FormTerms, AllocError>
     ensures { IfOk result (λ t. terms_of t ≡ terms_of terms.now) }
 {
-    let coeffs = terms.coeffs.clone()?;
+    let coeffs = terms.coeffs.to_vec(alloc)?;
     Ok(FormTerms {
         multiple: terms.multiple,
         coeffs,
@@ -224,11 +223,11 @@ fn form_over(
     row: &CaseRow,
     index: u32,
 ) -> NamedForm
-    requires { (d : ℕ) × (0 < d) × (arc_slice_items terms.coeffs ≡ map (λ z. pos d *ℤ z) (arc_slice_items row.now.coeffs)) }
+    requires { (d : ℕ) × (0 < d) × (terms.coeffs.items ≡ map (λ z. pos d *ℤ z) row.now.coeffs.items) }
     ensures form { result.form ≡ form }
-    ensures numbers { (result.scale ≡ scale) × (arc_slice_items result.coeffs ≡ arc_slice_items terms.coeffs) }
+    ensures numbers { (result.scale ≡ scale) × (result.coeffs.items ≡ terms.coeffs.items) }
     ensures bounds { (result.low ≡ form_low form) × (result.high ≡ form_high lts.now class form) }
-    ensures row { IsPartOf result (arc_slice_items row.now.coeffs) index }
+    ensures row { IsPartOf result row.now.coeffs.items index }
     ensures in_range { InRange result.times }
 {
     let times = times(&terms.coeffs, &row.coeffs);

@@ -1,6 +1,5 @@
 //! A row of a case, its own or one that all problems share.
 ghost use Rattle.std.specs.Prelude.{◌≡◌, [], length, IfOk};
-ghost use Rattle.std.specs.Arc.{arc_slice_items};
 ghost use Rattle.rg_theory.specs.System.{labels};
 ghost use Rattle.rg_cert_meaning.specs.Row.{row_expression};
 ghost use Rattle.rg_cert_data.specs.Sums.{expression_of};
@@ -51,7 +50,7 @@ pub(crate) fn row_in_case<'a>(
     requires common { IsCommonOf (shown_setting c.setting) common.now }
     requires within { IsNameWithin (shown_case c) name }
     ensures comes { Comes (fold_of (shown_case c.entry) name) (λ r. kept_row (row_in r)) result }
-    ensures one_each { IfOk result (λ r. length (arc_slice_items (row_in r).coeffs) ≡ columns_in (shown_setting c.entry.setting)) }
+    ensures one_each { IfOk result (λ r. length ((row_in r).coeffs.items) ≡ columns_in (shown_setting c.entry.setting)) }
 {
     match common.row(name) {
         Some(Ok(row)) => Ok(HeldRow::Common(row)),

@@ -42,7 +42,7 @@ pub(crate) fn firsts(alloc: Global, all: &[HeldRow<'_>]) -> Result<(CaseRows, Ve
         }
         let (index, is_new) = seen.insert_full(row.key())?;
         if is_new {
-            kept.push(row)?;
+            kept.push(alloc, row)?;
         }
         indices.push(index as u32)?;
     }
@@ -51,10 +51,10 @@ pub(crate) fn firsts(alloc: Global, all: &[HeldRow<'_>]) -> Result<(CaseRows, Ve
 
 impl CaseRows {
     // Adds a row.
-    fn push(&mut self, row: &CaseRow) -> Result<(), AllocError>
+    fn push(&mut self, alloc: Global, row: &CaseRow) -> Result<(), AllocError>
         ensures { OnOk result ((kept : List KeptRow) → ShowsRows self.old kept → ShowsRows self.new (kept ++ kept_row row.now ∷ [])) }
     {
-        let coeffs = row.coeffs.clone()?;
+        let coeffs = row.coeffs.to_vec(alloc)?;
         self.rows.push(Row {
             coeffs,
             constant: row.constant,

@@ -12,7 +12,8 @@ ghost use Rattle.rg_case_folds.specs.Chords.{IsBasis};
 ghost use Rattle.rg_cycles.specs.View.{labels_of};
 ghost use Rattle.rg_fraction.specs.declared.fraction.Fraction.{Fraction};
 ghost use Rattle.rg_fraction.specs.declared.fold_stop.FoldStop.TheVariants as stop;
-ghost use Rattle.rg_rows.specs.Sharing.{AreSharedRows, IsCommonOf, shared_forms};
+ghost use Rattle.rg_rows.specs.View.{kept_row, row_in, AreOwnRows};
+ghost use Rattle.rg_rows.specs.Sharing.{IsApart, AreSharedRows, IsCommonOf, shared_forms};
 ghost use Rattle.rg_rows.specs.Forms.{split_of, forms_after, StandsInRow, AreFormsOf};
 ghost use Rattle.rg_rows.specs.Shown.{ShowsCase, IsSystemOf};
 ghost use Rattle.rg_rows.specs.Shared.{HasSharedForms};
@@ -20,17 +21,17 @@ ghost use Rattle.rg_case_parts.specs.SettingViews.{shown_setting, shown_case};
 
 use crate::common::Common;
 use crate::forms::{case_forms, splits_start};
+use crate::held_row::HeldRow;
 use crate::kept::{CaseRows, firsts};
 use crate::named_form::NamedForm;
-use crate::named_system::{NamedSystem, rows};
+use crate::named_system::{NamedSystem, own_rows, rows_after};
 use crate::names::names;
-use crate::problem_names::problem_rows;
-use crate::shared_rows::{SharedRows, all_negative};
+use crate::shared_rows::{SharedRows, are_apart};
 use rg_case_parts::CaseSetting;
 use rg_cert_meaning::RowName;
 use rg_fraction::{FoldStop, Fraction};
 use rg_linear::{JoinedSystem, System};
-use std::alloc::Global;
+use std::alloc::{AllocError, Global};
 use std::marker::Model;
 
 /// The system of a case with its names and forms, as `NamedSystem` has it. Its rows are its own, and after them those
@@ -169,60 +170,58 @@ pub fn system_with<'a>(
     ensures shared { IfOk result (HasSharedForms (shared_forms common.now)) }
     ensures wide { (w : Wide) → IsErrOf result (stop.Wide w) → system_fold (shown_case c.entry) (Err w) }
 {
+    let own = own_rows(alloc, common, c)?;
     if let Some(shared) = &common.shared {
-        if !splits_start(c.setting.class, c.problem) {
-            if let Some(named) = case_before(alloc, common, c, shared)? {
-                return Ok(named);
-            }
+        if !splits_start(c.setting.class, c.problem) && are_apart(&own, &shared.hashes) {
+            return Ok(case_before(alloc, common, c, &own, shared)?);
         }
     }
-    whole_case(alloc, common, c)
+    whole_case(alloc, common, c, own)
 }
 
-// The system of the case, where the rows that all cases share come after its own and differ from these in sign.
+// The system of the case, where the rows that all cases share come after its own and are others than these.
 fn case_before<'a>(
     alloc: Global,
     common: &Common,
     c: CaseSetting<'_>,
+    own: &[HeldRow<'_>],
     shared: &'a SharedRows,
-) -> Result<Option<NamedCase<'a>>, FoldStop>
+) -> Result<NamedCase<'a>, AllocError>
     requires asked { IsSeparationProblem c.setting.lts.now c.problem }
     requires case { c.number < cases_of c.setting.lts.now c.setting.class c.problem }
     requires tree { IsTreeOf c.setting.lts.now c.setting.tree.now }
     requires labels { labels_of c.setting.basis.now ≡ labels c.setting.lts.now }
     requires common { IsCommonOf (shown_setting c.setting) common.now }
+    requires own { AreOwnRows (shown_case c) (map row_in own.now) }
     requires shared { AreSharedRows (shown_setting c.setting) shared.now }
+    requires apart { All (IsApart shared.now.hashes.keys) (map kept_row (map row_in own.now)) }
     requires start { IsFalse (splits_start c.setting.class c.problem) }
-    ensures made { IfOk result (λ o. IfSome o (IsSystemOf (shown_case c.entry))) }
-    ensures shared { IfOk result (λ o. IfSome o (HasSharedForms shared.now.forms.items)) }
-    ensures wide { (w : Wide) → IsErrOf result (stop.Wide w) → system_fold (shown_case c.entry) (Err w) }
+    ensures made { IfOk result (IsSystemOf (shown_case c.entry)) }
+    ensures shared { IfOk result (HasSharedForms shared.now.forms.items) }
 {
     c.setting.lts.is_well_formed();
-    let names = problem_rows(alloc, c.setting.lts, c.setting.class, c.problem)?;
-    let own = rows(alloc, common, c, &names)?;
-    if !all_negative(&own) {
-        return Ok(None);
-    }
-    let (kept, _) = firsts(alloc, &own)?;
-    Ok(Some(NamedCase {
+    let (kept, _) = firsts(alloc, own)?;
+    Ok(NamedCase {
         columns: common.columns.count(c.setting.basis),
         own: kept,
         forms: Vec::new(alloc),
         shared: Some(shared),
-    }))
+    })
 }
 
-// The system of the case, row by row.
+// The system of the case, row by row: its own rows, which are known, and then the others.
 pub(crate) fn whole_case<'a>(
     alloc: Global,
     common: &Common,
     c: CaseSetting<'_>,
+    own: Vec<HeldRow<'_>>,
 ) -> Result<NamedCase<'a>, FoldStop>
     requires asked { IsSeparationProblem c.setting.lts.now c.problem }
     requires case { c.number < cases_of c.setting.lts.now c.setting.class c.problem }
     requires tree { IsTreeOf c.setting.lts.now c.setting.tree.now }
     requires labels { labels_of c.setting.basis.now ≡ labels c.setting.lts.now }
     requires common { IsCommonOf (shown_setting c.setting) common.now }
+    requires own { AreOwnRows (shown_case c) (map row_in own.items) }
     ensures made { IfOk result (IsSystemOf (shown_case c.entry)) }
     ensures alone { IfOk result (λ named. IsFalse named.joined) }
     ensures before { IfOk result (λ named. named.before ≡ 0) }
@@ -230,7 +229,7 @@ pub(crate) fn whole_case<'a>(
 {
     c.setting.lts.is_well_formed();
     let names = names(alloc, c, &common.columns)?;
-    let all = rows(alloc, common, c, &names)?;
+    let all = rows_after(alloc, common, c, &names, own)?;
     let (kept, indices) = firsts(alloc, &all)?;
     let forms = case_forms(alloc, common, c, &names, &all, &indices)?;
     Ok(NamedCase {

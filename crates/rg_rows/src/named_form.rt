@@ -1,6 +1,5 @@
 //! A form with its name.
 use rg_cert_meaning::Form;
-use std::sync::ArcSlice;
 
 /// A form of a case, the tokens at a state, the effect of a label or the tokens at the start in steps of the class's
 /// marking, which is to be a whole number: `scale` times the form is the sum of the columns, each times its coefficient. Wherever the rows of the case are met the form lies
@@ -12,7 +11,7 @@ use std::sync::ArcSlice;
 pub struct NamedForm {
     pub form: Form,
     pub scale: i128,
-    pub coeffs: ArcSlice<i128>,
+    pub coeffs: Vec<i128>,
     pub low: i64,
     pub high: i64,
     pub row: u32,

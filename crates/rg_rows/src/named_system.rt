@@ -1,6 +1,5 @@
 //! The system of a case.
-ghost use Rattle.std.specs.Prelude.{◌≡◌, ◌<◌, length, All, map, Ok, Err, IfOk, IsErrOf};
-ghost use Rattle.std.specs.Arc.{arc_slice_items};
+ghost use Rattle.std.specs.Prelude.{◌≡◌, ◌<◌, ◌≤◌, length, take, All, map, Ok, Err, IfOk, IsErrOf};
 ghost use Rattle.rg_theory.specs.ClassWords.{HasNumbersInRange};
 ghost use Rattle.rg_theory.specs.System.{labels, IsAllReachable};
 ghost use Rattle.rg_integers.specs.declared.term.Wide.{Wide};
@@ -13,7 +12,7 @@ ghost use Rattle.rg_case_folds.specs.Chords.{IsBasis};
 ghost use Rattle.rg_folds.specs.Fold.{Comes, each};
 ghost use Rattle.rg_cycles.specs.View.{labels_of, cycle_of};
 ghost use Rattle.rg_fraction.specs.declared.fold_stop.FoldStop.TheVariants as stop;
-ghost use Rattle.rg_rows.specs.View.{kept_row, row_in, columns_in, AreNamesWithin, fold_of};
+ghost use Rattle.rg_rows.specs.View.{kept_row, row_in, columns_in, AreNamesWithin, fold_of, AreRowsOf, AreOwnRows};
 ghost use Rattle.rg_rows.specs.Sharing.{IsCommonOf};
 ghost use Rattle.rg_rows.specs.Forms.{split_of, StandsInRow, AreFormsOf};
 ghost use Rattle.rg_rows.specs.Shown.{ShowsCase, rows_of_system};
@@ -23,6 +22,7 @@ use crate::common::Common;
 use crate::held_row::{HeldRow, row_in_case};
 use crate::named_case::whole_case;
 use crate::named_form::NamedForm;
+use crate::problem_names::problem_rows;
 use rg_case_parts::{CaseSetting, Setting};
 use rg_cert_meaning::RowName;
 use rg_cycles::Basis;
@@ -99,7 +99,8 @@ pub fn system(
         problem,
         number: case,
     };
-    let named = whole_case(alloc, &common, c)?;
+    let own = own_rows(alloc, &common, c)?;
+    let named = whole_case(alloc, &common, c, own)?;
     Ok(named.into_system())
 }
 
@@ -115,7 +116,7 @@ pub(crate) fn rows<'a>(
     requires common { IsCommonOf (shown_setting c.setting) common.now }
     requires names { AreNamesWithin (shown_case c) names.now }
     ensures comes { Comes (each (fold_of (shown_case c.entry)) names.now) (λ v. map kept_row (map row_in v.items)) result }
-    ensures one_each { IfOk result (λ v. All (λ r. length (arc_slice_items r.coeffs) ≡ columns_in (shown_setting c.entry.setting)) (map row_in v.items)) }
+    ensures one_each { IfOk result (λ v. All (λ r. length r.coeffs.items ≡ columns_in (shown_setting c.entry.setting)) (map row_in v.items)) }
     ensures few { IfOk result (λ v. length v.items ≡ length names.now) }
 {
     let mut rows = Vec::with_capacity(alloc, names.len())?;
@@ -123,4 +124,46 @@ pub(crate) fn rows<'a>(
         rows.push(row_in_case(alloc, common, c, name)?)?;
     }
     Ok(rows)
+}
+
+// The rows of the problem itself.
+pub(crate) fn own_rows<'a>(
+    alloc: Global,
+    common: &'a Common,
+    c: CaseSetting<'_>,
+) -> Result<Vec<HeldRow<'a>>, FoldStop>
+    requires asked { IsSeparationProblem c.setting.lts.now c.problem }
+    requires tree { IsTreeOf c.setting.lts.now c.setting.tree.now }
+    requires labels { labels_of c.setting.basis.now ≡ labels c.setting.lts.now }
+    requires common { IsCommonOf (shown_setting c.setting) common.now }
+    ensures made { IfOk result (λ v. AreOwnRows (shown_case c.entry) (map row_in v.items)) }
+    ensures wide { (w : Wide) → IsErrOf result (stop.Wide w) → system_fold (shown_case c.entry) (Err w) }
+{
+    let names = problem_rows(alloc, c.setting.lts, c.setting.class, c.problem)?;
+    let own = rows(alloc, common, c, &names)?;
+    Ok(own)
+}
+
+// The named rows over the columns, of which the first are known.
+pub(crate) fn rows_after<'a>(
+    alloc: Global,
+    common: &'a Common,
+    c: CaseSetting<'_>,
+    names: &[RowName],
+    known: Vec<HeldRow<'a>>,
+) -> Result<Vec<HeldRow<'a>>, FoldStop>
+    requires tree { IsTreeOf c.setting.lts.now c.setting.tree.now }
+    requires labels { labels_of c.setting.basis.now ≡ labels c.setting.lts.now }
+    requires common { IsCommonOf (shown_setting c.setting) common.now }
+    requires names { AreNamesWithin (shown_case c) names.now }
+    requires known { AreRowsOf (shown_case c) (take (length known.items) names.now) (map row_in known.items) }
+    requires within { length known.items ≤ length names.now }
+    ensures comes { Comes (each (fold_of (shown_case c.entry)) names.now) (λ v. map kept_row (map row_in v.items)) result }
+    ensures one_each { IfOk result (λ v. All (λ r. length r.coeffs.items ≡ columns_in (shown_setting c.entry.setting)) (map row_in v.items)) }
+    ensures few { IfOk result (λ v. length v.items ≡ length names.now) }
+{
+    let mut more = rows(alloc, common, c, &names[known.len()..])?;
+    let mut all = known;
+    all.append(&mut more)?;
+    Ok(all)
 }

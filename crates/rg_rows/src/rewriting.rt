@@ -1,6 +1,5 @@
 //! A named row, written over the columns.
 ghost use Rattle.std.specs.Prelude.{◌≡◌, ◌↔◌, IsTrue, ◌≤◌, ℕ, ◌<◌, ℤ, ◌<ℤ◌, pos, ◌≤ℤ◌, Ok, map, length, All, ◌++◌, ◌∷◌, [], IfOk, unsigned_abs};
-ghost use Rattle.std.specs.Arc.{arc_slice_items};
 ghost use Rattle.rg_integers.specs.Range.{InRange};
 ghost use Rattle.rg_integers.specs.Sum.{number_at};
 ghost use Rattle.rg_theory.specs.System.{labels};
@@ -29,7 +28,6 @@ use rg_cycles::{substitute, whole_sums};
 use rg_fraction::{FoldStop, Fraction, reduce, row_gcd};
 use rg_linear::norm;
 use std::alloc::{AllocError, Global};
-use std::sync::ArcSlice;
 
 // The named row, whose expression this is.
 pub(crate) fn row(
@@ -44,7 +42,7 @@ pub(crate) fn row(
     requires columns { AreColumns setting.lts.now setting.class columns.now }
     requires within { All (TermNamesStateBelow setting.tree.now.states) (expression_of expression.now).terms }
     ensures comes { Comes (row_fold (shown_setting setting.entry) name (expression_of expression.now)) kept_row result }
-    ensures one_each { IfOk result (λ r. length (arc_slice_items r.coeffs) ≡ columns_in (shown_setting setting.entry)) }
+    ensures one_each { IfOk result (λ r. length r.coeffs.items ≡ columns_in (shown_setting setting.entry)) }
 {
     let scaled = over_columns(alloc, setting, columns, expression)?;
     let multiple = Fraction::new(scaled.multiple, 1);
@@ -130,20 +128,21 @@ pub(crate) fn form_terms(
     requires columns { AreColumns setting.lts.now setting.class columns.now }
     requires within { All (TermNamesStateBelow setting.tree.now.states) (expression_of expression.now).terms }
     ensures comes { Comes (terms_fold (shown_setting setting.entry) (expression_of expression.now).terms) terms_of result }
-    ensures one_each { IfOk result (λ t. length (arc_slice_items t.coeffs) ≡ columns_in (shown_setting setting.entry)) }
+    ensures one_each { IfOk result (λ t. length t.coeffs.items ≡ columns_in (shown_setting setting.entry)) }
 {
     let scaled = over_columns(alloc, setting, columns, expression)?;
-    let terms = with_numbers(scaled)?;
-    Ok(terms)
+    Ok(with_numbers(scaled))
 }
 
 // The terms with these numbers.
-fn with_numbers(scaled: Scaled) -> Result<FormTerms, AllocError>
-    ensures { IfOk result (λ t. terms_of t ≡ scaled_of scaled) }
+fn with_numbers(scaled: Scaled) -> FormTerms
+    ensures { terms_of result ≡ scaled_of scaled }
 {
     let multiple = scaled.multiple;
-    let coeffs = ArcSlice::from_vec(scaled.numbers)?;
-    Ok(FormTerms { multiple, coeffs })
+    FormTerms {
+        multiple,
+        coeffs: scaled.numbers,
+    }
 }
 
 // The numbers and the constant, divided by their greatest common divisor; zeros are not divided.
@@ -155,7 +154,7 @@ fn divide_by_common(
 ) -> Result<CaseRow, FoldStop>
     requires { InRange constant }
     ensures comes { Comes (divided name (scaled_of scaled) constant) kept_row result }
-    ensures one_each { IfOk result (λ r. length (arc_slice_items r.coeffs) ≡ length scaled.numbers.items) }
+    ensures one_each { IfOk result (λ r. length r.coeffs.items ≡ length scaled.numbers.items) }
 {
     let multiple = scaled.multiple;
     let mut numbers = scaled.numbers;
@@ -164,7 +163,7 @@ fn divide_by_common(
     let (coeffs, constant) = split_constant(alloc, &numbers)?;
     let norm = norm(&coeffs, constant);
     let idle = always_holds(&coeffs, constant);
-    let numbers = RowNumbers::new(numbers)?;
+    let numbers = RowNumbers::new(numbers);
     Ok(CaseRow {
         name,
         coeffs,
@@ -199,12 +198,12 @@ fn always_holds(coeffs: &[i128], constant: i128) -> bool
 }
 
 // All numbers but the last, and the last.
-fn split_constant(alloc: Global, numbers: &[i128]) -> Result<(ArcSlice<i128>, i128), AllocError>
+fn split_constant(alloc: Global, numbers: &[i128]) -> Result<(Vec<i128>, i128), AllocError>
     requires { 0 < length numbers.now }
-    ensures { IfOk result (λ r. arc_slice_items r.0 ++ r.1 ∷ [] ≡ numbers.now) }
+    ensures { IfOk result (λ r. r.0.items ++ r.1 ∷ [] ≡ numbers.now) }
 {
     match numbers.split_last() {
-        Some((last, coeffs)) => Ok((ArcSlice::from_slice(alloc, coeffs)?, *last)),
+        Some((last, coeffs)) => Ok((coeffs.to_vec(alloc)?, *last)),
         None => unreachable!(),
     }
 }

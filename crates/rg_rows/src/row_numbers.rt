@@ -1,5 +1,5 @@
 //! The numbers of a row with their hash.
-ghost use Rattle.std.specs.Prelude.{◌≡◌, ◌/◌, ◌%◌, ◌^◌, length, IfOk};
+ghost use Rattle.std.specs.Prelude.{◌≡◌, ◌/◌, ◌%◌, ◌^◌, length};
 ghost use Rattle.std.specs.Int.{w128, cast_unsigned};
 ghost use Rattle.std.specs.Hash as fed;
 ghost use Rattle.std.specs.Ordering.{int_eq};
@@ -8,10 +8,8 @@ ghost use Rattle.std.specs.Cmp.Rules.{comparing, hashing};
 ghost use Rattle.std.proofs.Common.{rules};
 ghost use Rattle.rg_rows.specs.Hashing.{with_word, hash_with, numbers_hash};
 
-use std::alloc::{AllocError, Global};
 use std::hash::{Hash, Hasher};
 use std::marker::Model;
-use std::sync::ArcSlice;
 
 // An odd factor whose powers differ in many bits.
 const HASH_FACTOR: u64 = 0x9e37_79b9_7f4a_7c15;
@@ -19,41 +17,35 @@ const HASH_FACTOR: u64 = 0x9e37_79b9_7f4a_7c15;
 /// The numbers of a row. They are hashed once, where they are written.
 #[derive(Drop)]
 pub(crate) struct RowNumbers {
-    numbers: ArcSlice<i128>,
+    numbers: Vec<i128>,
     hash: u64,
 }
 
 impl Model for RowNumbers {
     ghost use Rattle.std.specs.Prelude.{◌≡◌, List, ℤ};
-    ghost use Rattle.std.specs.Arc.{arc_slice_items};
     ghost use Rattle.rg_rows.specs.Hashing.{numbers_hash};
 
     ghost Value = { List ℤ };
 
-    ghost view = { λ r. arc_slice_items r.numbers };
+    ghost view = { λ r. r.numbers.items };
 
-    ghost invariant = { λ r. r.hash ≡ numbers_hash (arc_slice_items r.numbers) };
+    ghost invariant = { λ r. r.hash ≡ numbers_hash r.numbers.items };
 }
 
 impl RowNumbers {
     // The numbers with their hash.
-    pub(crate) fn new(numbers: Vec<i128>) -> Result<RowNumbers, AllocError>
-        ensures { IfOk result (λ r. r ≡ numbers.items) }
+    pub(crate) fn new(numbers: Vec<i128>) -> RowNumbers
+        ensures { result ≡ numbers.items }
     {
         let hash = numbers_hash(&numbers);
-        let numbers = ArcSlice::from_vec(numbers)?;
-        Ok(RowNumbers { numbers, hash })
+        RowNumbers { numbers, hash }
     }
 
-    // The same numbers, in memory of their own.
-    pub(crate) fn copied(&self, alloc: Global) -> Result<RowNumbers, AllocError>
-        ensures { IfOk result (λ same. same ≡ self.now) }
+    // The hash of the numbers.
+    pub(crate) fn hash(&self) -> u64
+        ensures { result ≡ numbers_hash self.now }
     {
-        let numbers = ArcSlice::from_slice(alloc, &self.numbers)?;
-        Ok(RowNumbers {
-            numbers,
-            hash: self.hash,
-        })
+        self.hash
     }
 }
 

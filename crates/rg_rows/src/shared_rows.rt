@@ -1,12 +1,11 @@
 //! The rows that all cases share, each kept once, and their forms.
-ghost use Rattle.std.specs.Prelude.{◌≡◌, ◌↔◌, ◌+◌, ◌^◌, ◌<◌, pos, ◌≤ℤ◌, ◌<ℤ◌, map, All, IsTrue, IsFalse, IfOk, IfSome};
+ghost use Rattle.std.specs.Prelude.{◌≡◌, map, All, IsTrue, IsFalse, IfOk, IfSome};
 ghost use Rattle.rg_theory.specs.System.{labels};
-ghost use Rattle.rg_linear.specs.View.{linear_row};
 ghost use Rattle.rg_spanning.specs.Spanning.{IsTreeOf};
 ghost use Rattle.rg_cycles.specs.View.{labels_of};
 ghost use Rattle.rg_case_parts.specs.SettingViews.{shown_setting};
 ghost use Rattle.rg_rows.specs.View.{kept_row, row_in};
-ghost use Rattle.rg_rows.specs.Sharing.{AreSharedRows, IsCommonOf};
+ghost use Rattle.rg_rows.specs.Sharing.{has_hash, IsApart, AreSharedRows, IsCommonOf};
 
 use crate::case_row::CaseRow;
 use crate::common::Common;
@@ -16,25 +15,27 @@ use crate::kept::{CaseRows, firsts};
 use crate::named_form::NamedForm;
 use crate::named_system::rows;
 use crate::names::shared_names;
+use indexmap::IndexSet;
 use rg_case_parts::{CaseSetting, Setting};
 use rg_cert_meaning::RowName;
 use rg_fraction::{FoldStop, Fraction};
-use rg_linear::{Row, RowList};
+use rg_linear::RowList;
 use rg_theory::Problem;
 use std::alloc::{AllocError, Global};
 
-/// The rows that each case has after its own: those that are kept of them, none with a negative constant, and their
-/// forms, as they are in a case without rows of its own.
+/// The rows that each case has after its own: those that are kept of them, and their forms, as they are in a case
+/// without rows of its own. A row whose hash isn't among the hashes is none of these rows.
 #[derive(Drop)]
 pub(crate) struct SharedRows {
     pub(crate) rows: RowList,
     pub(crate) names: Vec<RowName>,
     pub(crate) factors: Vec<Fraction>,
     pub(crate) forms: Vec<NamedForm>,
+    pub(crate) hashes: IndexSet<u64>,
 }
 
-// Returns the rows that each case of the class has after its own, if the class isn't output-nonbranching, each row is
-// in range, and none has a negative constant.
+// Returns the rows that each case of the class has after its own, if the class isn't output-nonbranching and each row is
+// in range.
 pub(crate) fn shared_rows(
     alloc: Global,
     setting: Setting<'_>,
@@ -49,24 +50,24 @@ pub(crate) fn shared_rows(
         return Ok(None);
     }
     match rows_in_range(alloc, setting, common) {
-        Ok(shared) => Ok(shared),
+        Ok(shared) => Ok(Some(shared)),
         Err(FoldStop::Wide(_)) => Ok(None),
         Err(FoldStop::NoMemory) => Err(AllocError),
     }
 }
 
-// The rows that each case of the class has after its own, if none has a negative constant. They are written for a case
-// of any problem, since none of them speaks of it.
+// The rows that each case of the class has after its own. They are written for a case of any problem, since none of them
+// speaks of it.
 fn rows_in_range(
     alloc: Global,
     setting: Setting<'_>,
     common: &Common,
-) -> Result<Option<SharedRows>, FoldStop>
+) -> Result<SharedRows, FoldStop>
     requires tree { IsTreeOf setting.lts.now setting.tree.now }
     requires labels { labels_of setting.basis.now ≡ labels setting.lts.now }
     requires common { IsCommonOf (shown_setting setting) common.now }
     requires alone { IsFalse setting.class.nonbranching }
-    ensures { IfOk result (λ o. IfSome o (AreSharedRows (shown_setting setting.entry))) }
+    ensures { IfOk result (AreSharedRows (shown_setting setting.entry)) }
 {
     setting.lts.is_well_formed();
     let c = CaseSetting {
@@ -77,50 +78,47 @@ fn rows_in_range(
     let names = shared_names(alloc, setting.lts, setting.class, &common.columns)?;
     let all = rows(alloc, common, c, &names)?;
     let (kept, indices) = firsts(alloc, &all)?;
-    if !none_negative(&kept.rows) {
-        return Ok(None);
-    }
     let forms = forms(alloc, common, c, &names, &all, &indices)?;
     let CaseRows {
         rows,
         names,
         factors,
     } = kept;
-    Ok(Some(SharedRows {
+    Ok(SharedRows {
         rows: RowList::new(rows),
         names,
         factors,
         forms,
-    }))
+        hashes: hashes(alloc, &all)?,
+    })
 }
 
-// Whether no constant of the rows is negative.
-fn none_negative(rows: &[Row]) -> bool
-    ensures { IsTrue result → All (λ r. pos 0 ≤ℤ r.constant) (map linear_row rows.now) }
+// The hashes of the rows.
+fn hashes(alloc: Global, rows: &[HeldRow<'_>]) -> Result<IndexSet<u64>, AllocError>
+    ensures { IfOk result (λ set. All (λ k. IsTrue (has_hash set.keys k.row)) (map kept_row (map row_in rows.now))) }
 {
-    for row in rows {
-        if row.constant < 0 {
-            return false;
-        }
+    let mut hashes = IndexSet::with_capacity(alloc, rows.len())?;
+    for held in rows {
+        hashes.insert(held.row().hash())?;
     }
-    true
+    Ok(hashes)
 }
 
-// Whether all constants of the rows are negative.
-pub(crate) fn all_negative(rows: &[HeldRow<'_>]) -> bool
-    ensures { IsTrue result → All (λ k. k.row.constant <ℤ pos 0) (map kept_row (map row_in rows.now)) }
+// Whether each of the rows is idle or has a hash that isn't among these.
+pub(crate) fn are_apart(rows: &[HeldRow<'_>], hashes: &IndexSet<u64>) -> bool
+    ensures { IsTrue result → All (IsApart hashes.now.keys) (map kept_row (map row_in rows.now)) }
 {
     for held in rows {
-        if !is_negative(held.row()) {
+        if !is_apart(held.row(), hashes) {
             return false;
         }
     }
     true
 }
 
-// Whether the constant of the row is negative.
-fn is_negative(row: &CaseRow) -> bool
-    ensures { IsTrue result ↔ ((kept_row row.now).row.constant <ℤ pos 0) }
+// Whether the row is idle or has a hash that isn't among these.
+fn is_apart(row: &CaseRow, hashes: &IndexSet<u64>) -> bool
+    ensures { IsTrue result → IsApart hashes.now.keys (kept_row row.now) }
 {
-    row.constant < 0
+    row.idle || !hashes.contains(&row.hash())
 }

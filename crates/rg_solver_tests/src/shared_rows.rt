@@ -230,8 +230,8 @@ const SHARING: [(&str, Class, Problem, bool, u32); 20] = [
     (STEP, TWO_BOUNDED, Event(1, 0), true, 1),
     // a label without an arc has no row of its own
     (DEAD, SAFE, Event(0, 0), true, 0),
-    // the rows Empty and Keep have the constant 0, as shared rows may have
-    (IN_TURN, PLAIN, Event(0, 1), false, 0),
+    // the rows Empty, Full(1) and Keep are none of the shared ones, though some of these have the constant 0 too
+    (IN_TURN, PLAIN, Event(0, 1), true, 3),
     (IN_TURN, PLAIN, States(0, 1), true, 1),
     (STEP, PURE_PLAIN, Event(1, 0), true, 1),
     // a class that asks a marking splits the start in the event problems of a plain class, and in all of a bounded one

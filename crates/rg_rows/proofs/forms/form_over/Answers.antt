@@ -1,7 +1,6 @@
 use Rattle.std.proofs.Common.{map, ap, sym, subst, ◌∙◌, of_z, to_z}
 use Rattle.std.specs.Prelude.{pos, ◌*ℤ◌}
 use Rattle.std.specs.Int.{w128}
-use Rattle.std.specs.Arc.{arc_slice_items}
 use Rattle.rg_integers.proofs.Casts.{back}
 use Rattle.rg_cycles.proofs.Numbers.{equals_zero}
 use Rattle.rg_rows.proofs.FormTimes.{Tells, part_of_none, part_of_some}
@@ -14,12 +13,12 @@ returns-clause-row c =
     let t = c.times-times.result in
     let same = back t c.times-times.ensures.in_range in
     let told = c.times-times.ensures.times d some (c.deref.ensures.value ∙ are ∙ ap (map (λ z. pos d *ℤ z)) (sym c.deref-2.ensures.value)) in
-    let items = arc_slice_items c.args.terms.coeffs in
+    let items = c.args.terms.coeffs.items in
     let tells = subst (Tells t d) c.deref.ensures.value told in
     elim c.if-times-eq0.branch [
       | then-times-eq0 w ↦ part_of_none (to_z w128 (of_z w128 t)) t items
-          (arc_slice_items c.args.row.now.coeffs) c.if-times-eq0.result c.args.index d some w.result-is same
+          c.args.row.now.coeffs.items c.if-times-eq0.result c.args.index d some w.result-is same
           (equals_zero t c.times-times.ensures.in_range w.if-times-eq0.true) tells
       | else-times-eq0 w ↦ part_of_some (to_z w128 (of_z w128 t)) t items
-          (arc_slice_items c.args.row.now.coeffs) c.if-times-eq0.result c.args.index d some w.result-is same (λ e. w.if-times-eq0.false (ap (of_z w128) e)) are tells
+          c.args.row.now.coeffs.items c.if-times-eq0.result c.args.index d some w.result-is same (λ e. w.if-times-eq0.false (ap (of_z w128) e)) are tells
     ]

@@ -1,6 +1,5 @@
 use Rattle.std.proofs.Common.{rules, ◌≡◌, Ok, Err, length, subst, sym}
 use Rattle.std.specs.Prelude.{IfOk}
-use Rattle.std.specs.Arc.{arc_slice_items}
 use Rattle.rg_folds.specs.Fold.{shown_result}
 use Rattle.rg_case_folds.specs.Rewriting.{column_count, row_fold}
 use Rattle.rg_rows.specs.declared.case_row.CaseRow.{CaseRow}
@@ -21,8 +20,8 @@ pub returns-in-Some-Ok-clause-one_each : goal.returns-in-Some-Ok-clause-one_each
 returns-in-Some-Ok-clause-one_each c =
     let s = shown_case c.args.c in
     let (told, one_each) = c.in-Some-Ok.ensures s c.requires.common in
-    subst (λ (r : CaseRow). length (arc_slice_items r.coeffs) ≡ column_count s.lts s.basis s.class) (sym c.in-Some-Ok.row-is)
-    (subst (λ w. IfOk w (λ (r : CaseRow). length (arc_slice_items r.coeffs) ≡ column_count s.lts s.basis s.class)) c.in-Some-Ok.field-0-is one_each)
+    subst (λ (r : CaseRow). length r.coeffs.items ≡ column_count s.lts s.basis s.class) (sym c.in-Some-Ok.row-is)
+    (subst (λ w. IfOk w (λ (r : CaseRow). length r.coeffs.items ≡ column_count s.lts s.basis s.class)) c.in-Some-Ok.field-0-is one_each)
 
 pub returns-in-Some-Err-clause-comes : goal.returns-in-Some-Err-clause-comes
 returns-in-Some-Err-clause-comes c =

@@ -1,5 +1,4 @@
-use Rattle.std.proofs.Common.{rules, ◌≡◌, ◌+◌, ◌*◌, ◌^◌, ◌<◌, ◌≤◌, [], All, Contains, List, map, length, Ok, Err, ap, refl, subst, sym, ◌∙◌, arith}
-use Rattle.std.specs.Arc.{arc_slice_items}
+use Rattle.std.proofs.Common.{rules, ◌≡◌, ◌+◌, ◌*◌, ◌^◌, ◌<◌, ◌≤◌, [], All, Contains, List, map, length, take, Ok, Err, ap, ap₂, refl, subst, sym, ◌∙◌, arith}
 use Rattle.std.proofs.lemmas.List.{length-map}
 use Rattle.rg_theory.specs.System.{states, labels}
 use Rattle.rg_fraction.specs.declared.fold_stop.FoldStop.TheVariants as stop
@@ -13,13 +12,14 @@ use Rattle.rg_linear.specs.System.{LinearSystem}
 use Rattle.rg_linear.specs.View.{linear_system}
 use Rattle.rg_cycles.specs.View.{cycle_of}
 use Rattle.rg_rows.specs.declared.held_row.HeldRow.{HeldRow}
-use Rattle.rg_rows.specs.View.{kept_row, row_in, columns_in, AreNamesWithin, AreIndices, fold_of}
+use Rattle.rg_rows.specs.View.{kept_row, row_in, columns_in, AreNamesWithin, AreIndices, AreRowsOf, fold_of}
 use Rattle.rg_rows.specs.Forms.{linear_form, case_forms, StandsInRow, AreFormsOf}
 use Rattle.rg_rows.specs.Making.{IsMade}
 use Rattle.rg_case_parts.specs.SettingViews.{shown_setting, shown_case}
 use Rattle.rg_case_parts.proofs.Picking.{columns_few}
 use Rattle.rg_linear.proofs.Firsts.{kept_count}
 use Rattle.rg_rows.proofs.Terms.{names_within}
+use Rattle.rg_rows.proofs.Naming.{own_taken, own_no_more}
 use Rattle.rg_rows.proofs.Making.{case_fails, case_made, forms_fail}
 use Rattle.rg_rows.proofs.Forming.{names_few, well_formed}
 use Rattle.rg_rows.proofs.FormNames.{forms_are, has_start_name}
@@ -29,10 +29,25 @@ use Rattle.rg_rows.proofs.Assembling.{all_stand, all_forms}
 use Rattle.rg_rows.proofs.named_case.whole_case.Goals as goal
 use Rattle.rg_cert_meaning.specs.declared.RowName.TheVariants as row_name
 
-pub rows-requires-clause-names : goal.rows-requires-clause-names
-rows-requires-clause-names c =
+pub rows_after-requires-clause-names : goal.rows_after-requires-clause-names
+rows_after-requires-clause-names c =
     let named = c.deref.ensures.value ∙ c.in_ok-names.ensures in
     subst (AreNamesWithin (shown_case c.args.c)) (sym named) (names_within (shown_case c.args.c) c.requires.asked)
+
+pub rows_after-requires-clause-known : goal.rows_after-requires-clause-known
+rows_after-requires-clause-known c =
+    let s = shown_case c.args.c in
+    let named = c.deref.ensures.value ∙ c.in_ok-names.ensures in
+    let many = sym (length-map c.args.own.items row_in) ∙ c.requires.own.many in
+    subst (λ (l : List RowName). AreRowsOf s l (map row_in c.args.own.items)) (sym (ap₂ take many named ∙ own_taken s.lts s.class s.problem s.number)) c.requires.own
+
+pub rows_after-requires-clause-within : goal.rows_after-requires-clause-within
+rows_after-requires-clause-within c =
+    let s = shown_case c.args.c in
+    let named = ap length (c.deref.ensures.value ∙ c.in_ok-names.ensures) in
+    let many = sym (length-map c.args.own.items row_in) ∙ c.requires.own.many in
+    let less = own_no_more s.lts s.class s.problem s.number in
+    omega arith
 
 pub firsts-requires : goal.firsts-requires
 firsts-requires c =
@@ -103,7 +118,7 @@ invariant_of-result c =
     has_names c.count.result c.in_ok-kept.kept c.in_ok-forms.forms.items kept shows
     (well_formed c.count.result all c.in_ok-kept.kept.rows.items kept shows.rows
     (subst (λ l. KeepsEqualRows (λ k. k.row) IsIdle [] (map kept_row (map row_in l)) kept) c.deref-2.ensures.value firsts)
-    (subst (λ n. All (λ r. length (arc_slice_items r.coeffs) ≡ n) all) (sym columns) c.in_ok-all.ensures.one_each)
+    (subst (λ n. All (λ r. length r.coeffs.items ≡ n) all) (sym columns) c.in_ok-all.ensures.one_each)
     few)
 
 pub returns-clause-made : goal.returns-clause-made

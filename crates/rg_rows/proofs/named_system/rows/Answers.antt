@@ -1,7 +1,6 @@
 use Rattle.std.proofs.Common.{rules, ◌≡◌, ◌+◌, [], ◌∷◌, All, Err, map, length, ap, refl, subst, sym, ◌∙◌, Vec, Global}
 use Rattle.std.proofs.lemmas.List.{length-append}
 use Rattle.std.proofs.lemmas.List.Elements.{All-nil, All-cons, All-append}
-use Rattle.std.specs.Arc.{arc_slice_items}
 use Rattle.rg_theory.specs.System.{states}
 use Rattle.rg_case_folds.specs.Rewriting.{column_count}
 use Rattle.rg_cycles.specs.View.{cycle_of}
@@ -32,7 +31,7 @@ loop-name-preserved c =
     let rows = c.loop-name.rows.items in
     let held = c.in_ok-row_in_case.field-0 in
     let row = row_in held in
-    let lengths = λ (r : CaseRow). length (arc_slice_items r.coeffs) ≡ column_count c.args.c.setting.lts.now (cycle_of c.args.c.setting.basis.now) c.args.c.setting.class in
+    let lengths = λ (r : CaseRow). length r.coeffs.items ≡ column_count c.args.c.setting.lts.now (cycle_of c.args.c.setting.basis.now) c.args.c.setting.class in
     let same = map_push row_in rows c.push.new.self.items held c.in_ok-push.ensures.items in
     let made = c.in_ok-row_in_case.ensures.comes in
     record {

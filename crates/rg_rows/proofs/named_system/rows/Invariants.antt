@@ -1,5 +1,4 @@
 use Rattle.std.proofs.Common.{◌≡◌, map, drop, length, List, Result, All}
-use Rattle.std.specs.Arc.{arc_slice_items}
 use Rattle.rg_integers.specs.declared.term.Wide.{Wide}
 use Rattle.rg_folds.specs.Fold.{each}
 use Rattle.rg_case_folds.specs.Rewriting.{KeptRow, column_count}
@@ -14,6 +13,6 @@ invariant-loop-name l = record {
   so_far : (r : Result (List KeptRow) Wide)
       → each (fold_of (shown_case l.c)) (drop l.name-index l.names) r
       → each (fold_of (shown_case l.c)) l.names (behind (map kept_row (map row_in l.rows.items)) r);
-  one_each : All (λ r. length (arc_slice_items r.coeffs) ≡ column_count l.c.setting.lts.now (cycle_of l.c.setting.basis.now) l.c.setting.class) (map row_in l.rows.items);
+  one_each : All (λ r. length r.coeffs.items ≡ column_count l.c.setting.lts.now (cycle_of l.c.setting.basis.now) l.c.setting.class) (map row_in l.rows.items);
   few : length l.rows.items ≡ l.name-index;
 }

@@ -1,6 +1,5 @@
 use Rattle.std.proofs.Common.{◌≡◌, ◌<◌, ◌^◌, ◌++◌, ◌∷◌, [], length, max, ap, refl, subst, sym, ◌∙◌, arith}
 use Rattle.std.specs.Prelude.{◌↔◌, IsTrue, pos, ◌<ℤ◌, ◌≤ℤ◌, unsigned_abs}
-use Rattle.std.specs.Arc.{arc_slice_items}
 use Rattle.std.specs.Int.{w128, cast_signed, cast_unsigned, int_max}
 use Rattle.std.proofs.lemmas.Int.{ints}
 use Rattle.rg_integers.specs.Range.{InRange}
@@ -22,7 +21,7 @@ invariant_of-result c =
     let part = c.reduce_by_common-divisor.ensures.part in
     let whole : c.push.new.self.len ≡ length old = omega arith in
     let given = c.deref_mut.ensures.value in
-    let coeffs_are = arc_slice_items c.in_ok-coeffs.coeffs in
+    let coeffs_are = c.in_ok-coeffs.coeffs.items in
     let constant_is = c.in_ok-coeffs.constant in
     let parted = c.in_ok-coeffs.ensures ∙ c.deref.ensures.value ∙ written_back new old c.push.new.self.len (part.same_length ∙ ap length given) whole in
     let (coeffs, constant) = parts_in_range coeffs_are constant_is new (length c.deref_mut.result.now) parted part.same_length c.reduce_by_common-divisor.ensures.numbers_in_range in
@@ -33,7 +32,7 @@ invariant_of-result c =
           ∙ ap (λ xs. kept_norm (row_norm xs (cast_signed w128 (cast_unsigned w128 constant_is)))) c.deref-2.ensures.value;
       idle_is = subst (λ xs. IsTrue c.always_holds-idle.result ↔ (IsZeroVector xs × (pos 0 ≤ℤ cast_signed w128 (cast_unsigned w128 constant_is)))) c.deref-3.ensures.value
           c.always_holds-idle.ensures;
-      numbers_are = c.in_ok-numbers.ensures ∙ sym (ap (λ z. coeffs_are ++ z ∷ []) (back constant_is constant) ∙ c.in_ok-coeffs.ensures ∙ c.deref.ensures.value);
+      numbers_are = c.new-numbers.ensures ∙ sym (ap (λ z. coeffs_are ++ z ∷ []) (back constant_is constant) ∙ c.in_ok-coeffs.ensures ∙ c.deref.ensures.value);
     }
 
 pub returns-clause-comes : goal.returns-clause-comes
@@ -45,7 +44,7 @@ returns-clause-comes c =
     let whole : c.push.new.self.len ≡ length old = omega arith in
     let given = c.deref_mut.ensures.value in
     let items : old ≡ numbers ++ c.args.constant ∷ [] = c.in_ok-push.ensures.items ∙ ap (λ z. numbers ++ z ∷ []) (back c.args.constant c.requires) in
-    let coeffs_are = arc_slice_items c.in_ok-coeffs.coeffs in
+    let coeffs_are = c.in_ok-coeffs.coeffs.items in
     let constant_is = c.in_ok-coeffs.constant in
     let parted = c.in_ok-coeffs.ensures ∙ c.deref.ensures.value ∙ written_back new old c.push.new.self.len (part.same_length ∙ ap length given) whole in
     let (coeffs, constant) = parts_in_range coeffs_are constant_is new (length c.deref_mut.result.now) parted part.same_length c.reduce_by_common-divisor.ensures.numbers_in_range in
@@ -55,12 +54,12 @@ returns-clause-comes c =
     let size : c.max.result ≡ pos (max g 1) = c.max.ensures.value ∙ ap (λ z. int_max z (pos 1)) (back divisor small) ∙ bigger_is divisor c.reduce_by_common-divisor.ensures.not_negative in
     let fits : InRange (pos (max g 1)) = let s : g < 2 ^ 127 = small in omega (arith, ints) in
     let most = back c.max.result (subst InRange (sym size) fits) ∙ size in
-    let value = subst (λ z. IsValue c.new-2.result z (pos (max g 1))) (back c.args.scaled.multiple c.args.scaled.multiple_in_range)
-    (subst (λ z. IsValue c.new-2.result (cast_signed w128 (cast_unsigned w128 c.args.scaled.multiple)) z) most c.new-2.ensures) in
+    let value = subst (λ z. IsValue c.new.result z (pos (max g 1))) (back c.args.scaled.multiple c.args.scaled.multiple_in_range)
+    (subst (λ z. IsValue c.new.result (cast_signed w128 (cast_unsigned w128 c.args.scaled.multiple)) z) most c.new.ensures) in
     let positive : pos 0 <ℤ pos (max g 1) = omega (arith, ints) in (
       refl,
       row_divided (scaled_of c.args.scaled) c.args.constant new g _
           (subst (λ l. IsPrimitivePart l new g) (given ∙ items) part)
           (ap (λ z. coeffs_are ++ z ∷ []) (back constant_is constant) ∙ parted)
-          (new_step c.new-2.result c.args.scaled.multiple (pos (max g 1)) (positive_differs (pos (max g 1)) positive) value),
+          (new_step c.new.result c.args.scaled.multiple (pos (max g 1)) (positive_differs (pos (max g 1)) positive) value),
     )

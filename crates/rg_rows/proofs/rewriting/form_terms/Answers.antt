@@ -13,9 +13,9 @@ returns-in_err-scaled-clause-comes c =
     (λ w is. rw is at c.in_err-scaled.ensures.comes))
 
 pub returns-clause-comes : goal.returns-clause-comes
-returns-clause-comes c = subst (λ (s : Scaled). terms_fold (shown_setting c.args.setting) (expression_of c.args.expression.now).terms (Ok s)) (sym c.in_ok-terms.ensures) c.in_ok-scaled.ensures.comes
+returns-clause-comes c = subst (λ (s : Scaled). terms_fold (shown_setting c.args.setting) (expression_of c.args.expression.now).terms (Ok s)) (sym c.with_numbers.ensures) c.in_ok-scaled.ensures.comes
 
 pub returns-clause-one_each : goal.returns-clause-one_each
 returns-clause-one_each c =
     let s = shown_setting c.args.setting in
-    subst (λ (x : Scaled). length x.numbers ≡ column_count s.lts s.basis s.class) (sym c.in_ok-terms.ensures) c.in_ok-scaled.ensures.one_each
+    subst (λ (x : Scaled). length x.numbers ≡ column_count s.lts s.basis s.class) (sym c.with_numbers.ensures) c.in_ok-scaled.ensures.one_each

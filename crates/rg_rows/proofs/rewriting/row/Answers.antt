@@ -1,6 +1,5 @@
 use Rattle.std.proofs.Common.{rules, ◌≡◌, Err, length, subst, ◌∙◌}
 use Rattle.std.specs.Prelude.{pos}
-use Rattle.std.specs.Arc.{arc_slice_items}
 use Rattle.rg_integers.proofs.Casts.{back}
 use Rattle.rg_fraction.specs.Fractions.{IsValue}
 use Rattle.rg_case_parts.specs.SettingViews.{shown_setting}
@@ -51,5 +50,5 @@ returns-clause-comes c =
 
 pub returns-clause-one_each : goal.returns-clause-one_each
 returns-clause-one_each c =
-    if_ok_more c.divide_by_common.result (λ r. length (arc_slice_items r.coeffs) ≡ length c.in_ok-scaled.scaled.numbers.items) _
+    if_ok_more c.divide_by_common.result (λ r. length r.coeffs.items ≡ length c.in_ok-scaled.scaled.numbers.items) _
     (λ r h. h ∙ c.in_ok-scaled.ensures.one_each) c.divide_by_common.ensures.one_each

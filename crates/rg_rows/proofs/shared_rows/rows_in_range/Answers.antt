@@ -1,5 +1,5 @@
 use Rattle.std.proofs.Common.{Vec, Global, ◌≡◌, ◌≤◌, List, [], map, length, All, Ok, ap, subst, sym, ◌∙◌, arith}
-use Rattle.std.specs.Prelude.{pos, ◌≤ℤ◌}
+use Rattle.std.specs.Prelude.{IsTrue}
 use Rattle.std.proofs.lemmas.List.{length-map}
 use Rattle.rg_theory.specs.System.{states, labels}
 use Rattle.rg_theory.specs.declared.Problem.TheVariants.{States}
@@ -8,16 +8,13 @@ use Rattle.rg_case_folds.specs.Setting.{case_at}
 use Rattle.rg_folds.specs.Fold.{each}
 use Rattle.rg_case_folds.specs.Rewriting.{KeptRow, IsIdle, form_fold}
 use Rattle.rg_linear.specs.Firsts.{KeepsEqualRows}
-use Rattle.rg_linear.specs.System.{LinearRow}
-use Rattle.rg_linear.specs.View.{linear_row}
 use Rattle.rg_rows.specs.Forms.{linear_form, forms_in}
 use Rattle.rg_rows.specs.Making.{IsMade}
-use Rattle.rg_rows.proofs.FormsAfter.{of_mapped}
 use Rattle.rg_case_parts.specs.SettingViews.{shown_setting}
 use Rattle.rg_rows.specs.declared.held_row.HeldRow.{HeldRow}
 use Rattle.rg_linear.specs.declared.row.Row.{Row}
 use Rattle.rg_rows.specs.View.{ShowsRows, kept_row, row_in, columns_in, fold_of, AreNamesWithin, AreIndices}
-use Rattle.rg_rows.specs.Sharing.{shared_names}
+use Rattle.rg_rows.specs.Sharing.{has_hash, shared_names}
 use Rattle.rg_rows.proofs.Forming.{shared_few}
 use Rattle.rg_rows.proofs.SharedNames.{shared_within, made_in_each}
 use Rattle.rg_rows.proofs.shared_rows.rows_in_range.Goals as goal
@@ -40,22 +37,22 @@ firsts-requires c =
 pub forms-requires-clause-names : goal.forms-requires-clause-names
 forms-requires-clause-names c =
     let s = shown_setting c.args.setting in
-    subst (AreNamesWithin (case_at s (States 0 0) 0)) (sym (c.deref-4.ensures.value ∙ c.in_ok-names.ensures)) (shared_within s 0 0)
+    subst (AreNamesWithin (case_at s (States 0 0) 0)) (sym (c.deref-3.ensures.value ∙ c.in_ok-names.ensures)) (shared_within s 0 0)
 
 pub forms-requires-clause-rows : goal.forms-requires-clause-rows
 forms-requires-clause-rows c =
     let it = case_at (shown_setting c.args.setting) (States 0 0) 0 in
-    subst (λ (l : List RowName). each (fold_of it) l (Ok (map kept_row (map row_in c.deref-5.result.now)))) (c.deref.ensures.value ∙ sym c.deref-4.ensures.value)
-    (subst (λ (l : List HeldRow). each (fold_of it) c.deref.result.now (Ok (map kept_row (map row_in l)))) (sym c.deref-5.ensures.value) c.in_ok-all.ensures.comes)
+    subst (λ (l : List RowName). each (fold_of it) l (Ok (map kept_row (map row_in c.deref-4.result.now)))) (c.deref.ensures.value ∙ sym c.deref-3.ensures.value)
+    (subst (λ (l : List HeldRow). each (fold_of it) c.deref.result.now (Ok (map kept_row (map row_in l)))) (sym c.deref-4.ensures.value) c.in_ok-all.ensures.comes)
 
 pub forms-requires-clause-one_each : goal.forms-requires-clause-one_each
-forms-requires-clause-one_each c = ap length c.deref-5.ensures.value ∙ c.in_ok-all.ensures.few ∙ ap length (c.deref.ensures.value ∙ sym c.deref-4.ensures.value)
+forms-requires-clause-one_each c = ap length c.deref-4.ensures.value ∙ c.in_ok-all.ensures.few ∙ ap length (c.deref.ensures.value ∙ sym c.deref-3.ensures.value)
 
 pub forms-requires-clause-indices : goal.forms-requires-clause-indices
 forms-requires-clause-indices c =
     let (kept, shows, firsts, indices) = c.in_ok-kept.ensures in
-    ap length c.deref-6.ensures.value ∙ indices.one_each ∙ length-map (map row_in c.deref-2.result.now) kept_row
-    ∙ length-map c.deref-2.result.now row_in ∙ ap length (c.deref-2.ensures.value ∙ sym c.deref-5.ensures.value)
+    ap length c.deref-5.ensures.value ∙ indices.one_each ∙ length-map (map row_in c.deref-2.result.now) kept_row
+    ∙ length-map c.deref-2.result.now row_in ∙ ap length (c.deref-2.ensures.value ∙ sym c.deref-4.ensures.value)
 
 pub returns : goal.returns
 returns c =
@@ -63,7 +60,7 @@ returns c =
     let (kept, shows, firsts, indices) = c.in_ok-kept.ensures in
     let all = map row_in c.in_ok-all.all.items in
     let named = c.deref.ensures.value ∙ c.in_ok-names.ensures in
-    let named_again = c.deref-4.ensures.value ∙ c.in_ok-names.ensures in
+    let named_again = c.deref-3.ensures.value ∙ c.in_ok-names.ensures in
     let forms = c.in_ok-forms.forms.items in
     let made = subst (λ (l : List RowName). each (fold_of (case_at s (States 0 0) 0)) l (Ok (map kept_row all))) named c.in_ok-all.ensures.comes in
     record {
@@ -74,12 +71,11 @@ returns c =
       kept = kept;
       shows = subst (λ (rows : Vec Row Global). ShowsRows (record { rows = rows; names = c.in_ok-kept.kept.names; factors = c.in_ok-kept.kept.factors }) kept) (sym c.new.ensures) shows;
       firsts = subst (λ l. KeepsEqualRows (λ k. k.row) IsIdle [] (map kept_row (map row_in l)) kept) c.deref-2.ensures.value firsts;
-      not_negative = of_mapped (λ (k : KeptRow). k.row) (λ (r : LinearRow). pos 0 ≤ℤ r.constant) kept
-          (subst (All (λ (r : LinearRow). pos 0 ≤ℤ r.constant)) (ap (map linear_row) c.deref-3.ensures.value ∙ shows.rows) (c.none_negative.ensures c.if-not-none_negative.false));
+      hashed = subst (λ l. All (λ (k : KeptRow). IsTrue (has_hash c.in_ok-hashes.field-0.keys k.row)) (map kept_row (map row_in l))) c.deref-6.ensures.value c.in_ok-hashes.ensures;
       indices = c.in_ok-kept.indices.items;
       are_indices = subst (λ l. AreIndices (map kept_row (map row_in l)) kept c.in_ok-kept.indices.items) c.deref-2.ensures.value indices;
       forms_made = subst (λ (l : List RowName). each (form_fold s) (forms_in s.class l) (Ok (map linear_form forms))) named_again c.in_ok-forms.ensures.comes;
       splits = c.in_ok-forms.ensures.forms ∙ ap (forms_in s.class) named_again;
-      are_made = subst (λ l. All (IsMade s.lts s.class (columns_in s) (map kept_row all) l) forms) c.deref-6.ensures.value
-          (subst (λ (l : List HeldRow). All (IsMade s.lts s.class (columns_in s) (map kept_row (map row_in l)) c.deref-6.result.now) forms) c.deref-5.ensures.value c.in_ok-forms.ensures.made);
+      are_made = subst (λ l. All (IsMade s.lts s.class (columns_in s) (map kept_row all) l) forms) c.deref-5.ensures.value
+          (subst (λ (l : List HeldRow). All (IsMade s.lts s.class (columns_in s) (map kept_row (map row_in l)) c.deref-5.result.now) forms) c.deref-4.ensures.value c.in_ok-forms.ensures.made);
     }
