@@ -10,7 +10,7 @@ ghost use Rattle.rg_branch.specs.Relating.{IsPointOf, IsRefutedBy};
 ghost use Rattle.rg_branch.specs.Answer.{NodeTells};
 
 use crate::bounded::Bounded;
-use crate::point::{first_fraction, values};
+use crate::point::{are_whole, first_fraction, values};
 use crate::relations::Relations;
 use crate::splits::Splits;
 use rg_feasible::{Dictionary, PivotWide, Settled};
@@ -134,12 +134,10 @@ fn point_end(
     requires point { (above : List SplitSide) × (members : List ℕ) × IsPointOf (node_system system.now (forms_of forms.now) above) members relations }
     ensures { (above : List SplitSide) (members : List ℕ) → IsPointOf (node_system system.now (forms_of forms.now) above) members relations.entry → IfOk result (NodeTells system.now (forms_of forms.now) above) }
 {
-    match first_fraction(relations, system, forms, before) {
+    let values = values(alloc, relations, system.columns())?;
+    match first_fraction(relations, system, forms, before, are_whole(&values)) {
         Some((form, floor)) => Ok(NodeEnd::Fraction(form, floor)),
-        None => {
-            let values = values(alloc, relations, system.columns())?;
-            Ok(NodeEnd::Whole(values))
-        }
+        None => Ok(NodeEnd::Whole(values)),
     }
 }
 
