@@ -24,8 +24,8 @@ const RING_AND_LABEL: &str =
 const OF_SIXTEEN: [u32; 16] = [0, 1, 2, 3, 4, 5, 6, 7, 8, 9, 10, 11, 12, 13, 14, 15];
 
 // Words and files of a run, and the problems of the first block that are inside at once: the first one of each part. They are dealt to the
-// parts one by one. Of the word's eleven problems one part has 0, 2, 4, 6 and 8, and the other 1, 3, 5, 7, 9 and 10.
-const RUNS: [(&str, &str, &[u32]); 10] = [
+// parts one by one. Of the word's eleven problems one part has 0, 2, 4, 6 and 8, and the other 1, 3, 5, 7, 9 and 10; two pairs of them are held.
+const RUNS: [(&str, &str, &[u32]); 11] = [
     ("words synthesize none f\n", RING, &[0]),
     ("words synthesize none f --jobs 2\n", RING, &[0, 1]),
     ("words synthesize none f --jobs 3\n", RING, &[0, 1, 2]),
@@ -47,6 +47,11 @@ const RUNS: [(&str, &str, &[u32]); 10] = [
         "words synthesize none f --from words --jobs 2\n",
         WORD,
         &[0, 10],
+    ),
+    (
+        "words synthesize none f --from words --jobs 2\n",
+        WORD,
+        &[4, 5],
     ),
 ];
 

@@ -9,7 +9,7 @@ const TURNS: u64 = 1_000_000_000;
 const FURTHER_TURNS: u64 = 5_000_000;
 
 /// Holds some numbers, each the first time it is entered, until all of them are inside, and then until one more is or for some million
-/// turns. It counts how many are inside at once, and how often numbers are entered and left.
+/// turns. It counts how many are inside at once, how often numbers are entered and left, and keeps which ones.
 #[derive(Drop)]
 pub struct Holding<'a> {
     held: &'a [u32],
@@ -18,6 +18,8 @@ pub struct Holding<'a> {
     most: AtomicU64,
     entered: AtomicU64,
     seen: AtomicU64,
+    left: AtomicU64,
+    gone: AtomicU64,
 }
 
 impl<'a> Holding<'a> {
@@ -30,6 +32,8 @@ impl<'a> Holding<'a> {
             most: AtomicU64::new(0),
             entered: AtomicU64::new(0),
             seen: AtomicU64::new(0),
+            left: AtomicU64::new(0),
+            gone: AtomicU64::new(0),
         }
     }
 
@@ -38,12 +42,13 @@ impl<'a> Holding<'a> {
         self.most.load(Ordering::SeqCst) == self.held.len() as u64
     }
 
-    /// Whether each number below `count` was entered once, no other was, and all are left.
+    /// Whether each number below `count` was entered once and left once, and no other was.
     pub fn has_passed_once(&self, count: u32) -> bool {
         let all = 1u64.checked_shl(count).unwrap_or(0).wrapping_sub(1);
         self.entered.load(Ordering::SeqCst) == u64::from(count)
             && self.seen.load(Ordering::SeqCst) == all
-            && self.inside.load(Ordering::SeqCst) == 0
+            && self.left.load(Ordering::SeqCst) == u64::from(count)
+            && self.gone.load(Ordering::SeqCst) == all
     }
 
     // Waits until so many of the numbers that are held have come.
@@ -80,7 +85,10 @@ impl Gate for Holding<'_> {
         }
     }
 
-    fn leave(&self, _: u32) {
+    fn leave(&self, i: u32) {
         self.inside.fetch_sub(1, Ordering::SeqCst);
+        self.left.fetch_add(1, Ordering::SeqCst);
+        let bit = 1u64.checked_shl(i).unwrap_or(0);
+        self.gone.fetch_or(bit, Ordering::SeqCst);
     }
 }
