@@ -1,11 +1,9 @@
 -- What a branching asks of the forms of a case.
-use Rattle.std.proofs.Common.{◌≡◌, ℕ, zero, suc, ◌+◌, ◌<◌, List, [], ◌∷◌, ◌++◌, map, take, drop, length, get_or, All, Global, refl, ap, sym, subst, ◌∙◌, arith}
+use Rattle.std.proofs.Common.{◌≡◌, ℕ, zero, suc, ◌+◌, ◌<◌, List, [], ◌∷◌, ◌++◌, map, take, drop, length, get_or, All, Vec, Global, refl, ap, sym, subst, ◌∙◌, arith}
 use Rattle.std.specs.Prelude.{ℤ, pos, negsuc, ◌+ℤ◌, ◌-ℤ◌, ◌*ℤ◌, ◌≤ℤ◌, ◌<ℤ◌}
 use Rattle.std.proofs.lemmas.Int.{ints}
 use Rattle.std.proofs.lemmas.List.{length-map, map-append, take_more}
 use Rattle.std.proofs.lemmas.List.Elements.{All-nil, All-cons, All-head, All-tail, All-weaker}
-use Rattle.std.specs.Arc.{arc_slice_items}
-use Rattle.std.specs.declared.sync.ArcSlice.{ArcSlice}
 use Rattle.rg_integers.specs.Range.{InRange}
 use Rattle.rg_integers.specs.Sum.{sum_over}
 use Rattle.rg_linear.specs.System.{LinearSystem, entry}
@@ -90,7 +88,7 @@ asked system before f b is e = record {
     scale : b.scale ≡ f.scale
     scale = ap (λ (x : Form). x.scale) form
 
-    coeffs : arc_slice_items b.coeffs ≡ arc_slice_items f.coeffs
+    coeffs : b.coeffs.items ≡ f.coeffs.items
     coeffs = ap (λ (x : Form). x.coeffs) form
 
     low : b.low ≡ f.low
@@ -100,10 +98,10 @@ asked system before f b is e = record {
     high = ap (λ (x : Form). x.high) form
 
 -- the form with a clone of its coefficients
-abbrev pub copy_of : NamedForm → ArcSlice ℤ Global → Bounded
+abbrev pub copy_of : NamedForm → Vec ℤ Global → Bounded
 copy_of f coeffs = record { scale = f.scale; coeffs = coeffs; low = f.low; high = f.high; row = f.row; times = f.times }
 
-pub copy_seen : (f : NamedForm) (coeffs : ArcSlice ℤ Global) → arc_slice_items coeffs ≡ arc_slice_items f.coeffs → bounded_form (copy_of f coeffs) ≡ listed_form f
+pub copy_seen : (f : NamedForm) (coeffs : Vec ℤ Global) → coeffs.items ≡ f.coeffs.items → bounded_form (copy_of f coeffs) ≡ listed_form f
 copy_seen f coeffs same = ap (λ cs. (record { scale = f.scale; coeffs = cs; low = f.low; high = f.high }, f.row, f.times)) same
 
 -- one form more

@@ -121,7 +121,7 @@ pub(crate) fn bounded_forms(alloc: Global, forms: &[NamedForm]) -> Result<Vec<Bo
     for form in forms {
         bounded.push(Bounded {
             scale: form.scale,
-            coeffs: form.coeffs.clone()?,
+            coeffs: form.coeffs.to_vec(alloc)?,
             low: form.low,
             high: form.high,
             row: form.row,
