@@ -25,7 +25,7 @@ export PATH="$room/bin:$PATH"
 passed=0
 failed=0
 # how many lines the pages have at least; raise it when they get more
-least=227
+least=228
 
 # counts a result. Arguments: whether the result is right, the page, the command, what differs
 count() {
@@ -163,11 +163,19 @@ try 'cp examples/lock2.apt system.apt; bash -e script; regions check pure system
 try 'cp examples/side.apt system.apt; bash -e script; regions verify system.apt system.cert' 'accepted: no net of class pure' docs/guide.md
 try "echo x > system.apt; bash -e script 2>&1 # status 2" "file 1: expected Section at 0
 status 3" docs/guide.md
-block docs/guide.md '.DELETE_ON_ERROR:' > Makefile
-try 'cp examples/lock2.apt good.apt; make -s good.net; regions check pure good.apt good.net' yes docs/guide.md
-try 'cp examples/side.apt bad.apt; make -s bad.net 2> /dev/null; ls bad.*' 'bad.apt
-bad.cert' docs/guide.md
-try 'echo x > broken.apt; make -s broken.net 2> /dev/null; ls broken.*' 'broken.apt' docs/guide.md
+mkdir many
+block docs/guide.md 'all: $(patsubst %.apt,%.done,$(wildcard *.apt))' > many/Makefile
+try 'cp examples/side.apt many/bad.apt; cp examples/lock2.apt many/good.apt; touch many/bad.net; make -s -C many; ls many; regions check pure many/good.apt many/good.net' 'Makefile
+bad.apt
+bad.cert
+bad.done
+good.apt
+good.done
+good.net
+yes' docs/guide.md
+try 'make -C many | grep -c regions # status 1' 0 docs/guide.md
+try 'echo x > many/a.apt; make -s -C many 2> /dev/null # status 2' '' docs/guide.md
+try 'ls many/a.*' 'many/a.apt' docs/guide.md
 echo "$passed passed, $failed failed"
 tried=$((passed + failed))
 [ "$tried" -ge "$least" ] || echo "tried $tried lines, expected $least at least"
