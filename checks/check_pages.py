@@ -7,6 +7,9 @@ Of README.md, docs/, docs/dev/ and the README.md of bench/, checks/, tools/ and 
   names   each name in backquotes with an underscore or two capitals is one of the code, its definitions, its tests or its scripts
   paths   each path in backquotes and each target of a link exists, and so does the heading after a `#`
   counts  "N cases", "N must-fail edits", "N files and M lines" of definitions and the like are what is counted
+  pairs   of "`NAME` in `PATH`" and "`NAME` of `CRATE`" the file or the crate has the name
+  cases   the cases that docs/dev/contributing.md names are in the file that it names with them
+  lines   docs/messages.md has each fault of a file that a case expects, as a whole
   trusted the crates that docs/proof.md lists as trusted are those of crates.txt that have no folder in crates/
   width   no line of prose has more than 120 characters
   words   none of the words that the pages avoid, but in names in backquotes
@@ -101,6 +104,52 @@ def check_paths(page, text):
                 yield f'{page}:{number}: no heading {target}'
 
 
+def files_of(place):
+    """The files of a path, or of a crate; None if it is neither."""
+    whole = os.path.join(TOP, re.sub(r'^(?=rg_\w+/)', 'crates/', place))
+    if os.path.isfile(whole):
+        return [whole]
+    if re.fullmatch(r'rg_\w+', place) and os.path.isdir(os.path.join(TOP, 'crates', place)):
+        return [path for end in ('rt', 'antt', 'edit') for path in glob.glob(os.path.join(TOP, 'crates', place, '**/*.' + end), recursive=True)
+                if '/out/' not in path]
+    return None
+
+
+def check_pairs(page, text):
+    joined = '\n'.join(line for _, line in prose(text))
+    for named, place in re.findall(r'`([\w:]+)`\s+(?:in|of)\s+`([\w/.]+)`', joined):
+        files = files_of(place)
+        if files is not None and not any(re.search(r'\b%s\b' % re.escape(named), read(path)) for path in files):
+            name = named.split('::')[-1]
+            if not any(re.search(r'\b%s\b' % re.escape(name), read(path)) for path in files):
+                yield f'{page}: no {named} in {place}'
+
+
+def cases_in(name):
+    """The names of the cases of a file of worked_runs, each with what the page may leave out."""
+    return [line[5:] for line in read(f'crates/worked_runs/data/{name}').split('\n') if line.startswith('case ')]
+
+
+def check_cases(page, text):
+    for number, line in prose(text):
+        for name, said in re.findall(r'`(\w+\.cases)`: ((?:(?!`\w+\.cases`)[^|])*)', line):
+            cases = cases_in(name)
+            for part in said.strip().rstrip(';').split('; '):
+                words = re.sub(r'^(of|for) .*', '', part.strip().rstrip(',')).strip()
+                if words and not any(words in case for case in cases) and not all(any(word.strip() in case for case in cases) for word in words.split(', ')):
+                    yield f'{page}:{number}: no case {words!r} in {name}'
+
+
+def check_messages(text):
+    expected = set()
+    for path in glob.glob(os.path.join(TOP, 'crates/worked_runs/data/*.cases')):
+        expected.update(re.findall(r'^\| file [12]: ([a-zA-Z ]+?)( at | at line |)(?:\d+)?$', read(path), re.MULTILINE))
+    for words, where in sorted(expected):
+        whole = f'`{words}{where}{"L" if "line" in where else "P" if where else ""}`'
+        if whole not in text and not ('line' in where and f'`{words} at P`' in text):
+            yield f'docs/messages.md: no {whole}'
+
+
 def counted():
     """What is counted: a pattern of a page, and the numbers that it should have."""
     edits = len(glob.glob(os.path.join(TOP, 'crates/*/must-fail/*.edit')))
@@ -114,6 +163,8 @@ def counted():
         yield r'([\d,]+) cases of whole runs', [int(cases.group(1))]
     yield r'([\d,]+) crates in all', [crates]
     yield r'([\d,]+) files with ([\d,]+) lines together', [int(files), int(lines)]
+    whole = subprocess.run([sys.executable, os.path.join(TOP, 'checks/definitions.py'), 'crates/rg_top/specs/Run.antt'], cwd=TOP, capture_output=True, text=True).stdout
+    yield r'reach ([\d,]+) files and ([\d,]+) lines', [int(number) for number in re.search(r'(\d+) files\s+(\d+) lines\s+together', whole).groups()]
 
 
 def check_counts(page, text):
@@ -163,6 +214,9 @@ def main():
         if page.endswith('.md'):
             found += check_paths(page, text)
             found += check_shown(page, text)
+            found += check_pairs(page, text)
+    found += check_cases(CASE_NAMES, read(CASE_NAMES))
+    found += check_messages(read('docs/messages.md'))
     found += check_trusted(read('docs/proof.md'))
     print('\n'.join(found) if found else f'{len(PAGES)} pages agree')
     return 1 if found else 0
