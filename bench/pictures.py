@@ -43,6 +43,15 @@ def draw_net(program, name, words, renamed_by=None):
     draw(name, run(['awk', '-f', 'tools/net2dot.awk'], net))
 
 
+def peterson(program):
+    """What the certificate of Peterson's algorithm says of its system."""
+    cert = os.path.join(IMG, 'cert.tmp')
+    with open(cert, 'w', encoding='ascii') as file:
+        file.write(run([program, 'synthesize', 'none', 'examples/peterson.apt']))
+    draw('peterson-why', run(['tools/why', 'examples/peterson.apt', cert, '--dot']))
+    os.remove(cert)
+
+
 def celement(program):
     """The state graph of the C-element with its signals, and its net."""
     plain = os.path.join(IMG, 'plain.tmp')
@@ -218,6 +227,7 @@ def main():
     draw_system(program, 'cycle3', ['examples/cycle3.apt'])
     draw_net(program, 'cycle3-net', ['pure', 'examples/cycle3.apt'])
     celement(program)
+    peterson(program)
     certificate()
     chain()
     layers()
