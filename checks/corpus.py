@@ -20,8 +20,8 @@ FOLDER = os.path.join(TOP, 'tools', 'certificates')
 FILES = ('certificates.cases', 'marking.cases', 'single.cases', 'large.cases', 'random.cases', 'random_marking.cases')
 MOST = {'accepted': 40, 'refused': 45}
 NAMED = 'checkers.cases'
-# a checker with numbers of any size refuses it too, since the sum isn't 0
-REFUSED_BY_ALL = 'a-sum-of-2-to-the-128-is-not-0'
+# a checker with numbers of any size refuses these too: the sum of a column isn't 0, or that of the constants isn't negative
+REFUSED_BY_ALL = ('a-sum-of-2-to-the-128-is-not-0', 'constants-of-2-to-the-128-are-positive')
 
 
 def form_of_line(line):
@@ -63,7 +63,7 @@ def write():
         for ending, text in (('apt', system), ('cert', cert)):
             with open(os.path.join(FOLDER, f'{stem}.{ending}'), 'w', newline='', encoding='latin-1') as file:
                 file.write(text)
-        or_accepted = line.endswith('sum passes') and stem != REFUSED_BY_ALL
+        or_accepted = line.endswith('sum passes') and stem not in REFUSED_BY_ALL
         rows.append(f'{stem}\t{line}' + '\tor accepted' * or_accepted + '\n')
     with open(os.path.join(FOLDER, 'verdicts.tsv'), 'w', encoding='ascii') as file:
         file.writelines(rows)

@@ -3,8 +3,8 @@
 
     checks/mutants.py
 
-A change replaces a text of the checker, which has to be there once, by another one. A pair catches it if the changed checker accepts what
-`verdicts.tsv` refuses, refuses what it accepts, or fails. The last line counts the changes. The status is 1 if one isn't caught, but for
+A change replaces texts of the checker, each of which has to be there once, by others. A pair catches it if the changed checker accepts
+what `verdicts.tsv` refuses, or refuses what it accepts; one that fails refuses, as its exit status says. The last line counts the changes. The status is 1 if one isn't caught, but for
 those that change no answer, which are listed with the reason.
 """
 import os
@@ -17,7 +17,7 @@ from systems import TOP  # noqa: E402
 
 MORE, LESS = 'accepts more', 'accepts less'
 
-# the rule of docs/certificates.md, the direction, the text of the checker, and what replaces it
+# the rule of docs/certificates.md, the direction, then texts of the checker, each with what replaces it
 CHANGES = (
     ('the first line', MORE, 'require(version in (["certificate", "1"], ["certificate", "2"]), "a line of another form")', 'require(version[:1] == ["certificate"] and len(version) == 2, "a line of another form")'),
     ('the first line', LESS, '(["certificate", "1"], ["certificate", "2"])', '(["certificate", "1"],)'),
@@ -36,7 +36,8 @@ CHANGES = (
     ('numbers of a class', MORE, 'and len(text) <= 3 and int(text) <= 255', 'and len(text) <= 3'),
     ('numbers of a class', LESS, 'int(text) <= 255', 'int(text) <= 254'),
     ('numbers of a class', MORE, 'text.isascii() and text.isdigit() and text[0] != "0"', 'text.isascii() and text[-1:].isdigit() and text[0] != "0"'),
-    ('a line feed ends each line', MORE, 'require(self.line + 1 < len(self.lines), "a line is missing, or isn\'t ended")', 'require(self.line < len(self.lines), "a line is missing, or isn\'t ended")'),
+    ('a line feed ends each line', MORE, 'require(self.line + 1 < len(self.lines), "a line is missing, or isn\'t ended")', 'require(self.line < len(self.lines), "a line is missing, or isn\'t ended")',
+     'self.lines[self.line:] == [""]', 'self.lines[self.line:] in ([""], [])'),
     ('one blank between words', MORE, 'return self.lines[self.line - 1].split(" ")', 'return self.lines[self.line - 1].split()'),
     ('no line end of Windows', MORE, 'self.lines, self.line = system, text.split("\\n"), 0', 'self.lines, self.line = system, text.replace("\\r", "").split("\\n"), 0'),
     ('the last line', MORE, 'require(self.take() == ["end"], "expected `end`")', 'self.take()'),
@@ -106,6 +107,21 @@ CHANGES = (
     ('arc: of the system', MORE, 'self.allowed((q, t, r) in self.system.arcs)', 'self.allowed((q, t) in self.system.leaving)'),
     ('arc: of the system', MORE, 'self.allowed((q, t, r) in self.system.arcs)', 'pass'),
     ('arc: its three terms', LESS, 'return [(1, tokens_at(q)), (1, effect_of(t)), (-1, tokens_at(r))], 0', 'return [(1, tokens_at(q)), (-1, effect_of(t)), (-1, tokens_at(r))], 0'),
+    ('M(Q) and E(T) of one name are two variables', MORE, 'return ("M", state)', 'return ("E", state)'),
+    ('numbers of digits alone', MORE, 'digits.isascii() and digits.isdigit()', 'digits.isascii() and digits.replace("_", "").isdigit()'),
+    ('constants of more than 64 bits', MORE, 'constants += k * constant', 'constants = (constants + k * constant + 2**63) % 2**64 - 2**63'),
+    ('constants of more than 128 bits', MORE, 'constants += k * constant', 'constants = (constants + k * constant + 2**127) % 2**128 - 2**127'),
+    ('constants are multiplied', MORE, 'constants += k * constant', 'constants += constant'),
+    ('sums are whole numbers of any size', MORE, 'sums[variable] = sums.get(variable, 0) + k * coefficient', 'sums[variable] = sums.get(variable, 0) + float(k * coefficient)'),
+    ('states: the orders hold the consumers', MORE, 'for order in (0, 1):\n                for consumer in consumers:', 'for consumer in consumers:\n                for order in (0, 1):'),
+    ('states: consumers in the order of the labels', MORE, 'for consumer in consumers:', 'for consumer in sorted(consumers, key=str):'),
+    ('states: labels without arcs are consumers', MORE, 'for consumer in consumers:', 'for consumer in [c for c in consumers if c in {None, *(t for _, t, _ in system.arcs)}]:'),
+    ('cap: not of a marking', MORE, 'self.allowed(net_class.bound is not None)\n            return [(-1, tokens_at(q))], net_class.bound',
+     'self.allowed(net_class.bound or net_class.marking)\n            return [(-1, tokens_at(q))], net_class.bound or net_class.marking'),
+    ('above: splits by depth, not in preorder', MORE, 'path, done = [], False', 'path, done, self.all = [], False, []', 'path.append(self.split(words))', 'path.append(self.split(words))\n                self.all.append(path[-1])',
+     'self.allowed(q < len(path))\n        return self.side(path[q])', 'self.allowed(q < len(self.all))\n        return self.side(self.all[q])'),
+    ('above: counted from 0', MORE, 'self.allowed(q < len(path))\n        return self.side(path[q])', 'self.allowed(1 <= q <= len(path))\n        return self.side(path[q - 1])'),
+    ('splits of any depth', LESS, 'path.append(self.split(words))', 'path.append(self.split(words))\n                require(len(path) <= 16, "")'),
     ('tokens: at any state', LESS, 'if word == "tokens":  # M(Q) >= 0; always', 'if word == "tokens" and not self.allowed(q == self.system.initial):  # M(Q) >= 0; always'),
     ('cap: in a bounded class', MORE, 'self.allowed(net_class.bound is not None)\n            return [(-1, tokens_at(q))], net_class.bound', 'return [(-1, tokens_at(q))], net_class.bound or 0'),
     ('cap: the bound', MORE, 'return [(-1, tokens_at(q))], net_class.bound', 'return [(-1, tokens_at(q))], net_class.bound - 1'),
@@ -142,7 +158,7 @@ CHANGES = (
     ('keep: in a plain class that isn\'t pure', MORE, 'self.allowed(event and plain_alone)\n            return [(-1, effect_of(self.t))], 0', 'self.allowed(event)\n            return [(-1, effect_of(self.t))], 0'),
     ('keep: no gain', MORE, 'return [(-1, effect_of(self.t))], 0', 'return [(-1, effect_of(self.t))], -1'),
     ('keep: no gain', LESS, 'return [(-1, effect_of(self.t))], 0', 'return [(-1, effect_of(self.t))], 1'),
-    ('apart: of two states', MORE, 'self.allowed(not event)', 'pass'),
+    ('apart: of two states', MORE, '            self.allowed(not event)\n', '            if event:\n                return [], -1\n'),
     ('apart: by the order', LESS, 'if self.order == 0 else (self.other, self.s)', 'if self.order == 1 else (self.other, self.s)'),
     ('apart: by the order', MORE, '(self.s, self.other) if self.order == 0 else (self.other, self.s)', '(self.s, self.other)'),
     ('apart: at least one more', LESS, 'return [(1, tokens_at(more)), (-1, tokens_at(less))], -1', 'return [(1, tokens_at(more)), (-1, tokens_at(less))], 0'),
@@ -162,7 +178,6 @@ CHANGES = (
 
 # no pair can show these: why
 SAME = {
-    ('a line feed ends each line', MORE): 'a last line that isn\'t ended is refused as the end of the file too',
     ('multipliers up to 2^127 - 1', LESS): 'with so large a multiplier the sums pass 2^127 - 1, which a checker may refuse',
     ('multipliers from -(2^127 - 1)', LESS): 'the same',
 }
@@ -176,14 +191,12 @@ def checker(text):
 
 
 def accepts(module, texts):
-    """Whether the checker accepts the pair; None if it fails otherwise."""
+    """Whether the checker accepts the pair. One that fails refuses it."""
     try:
         module.Checker(module.System(texts[0]), texts[1]).check()
         return True
-    except module.Refused:
-        return False
     except Exception:  # pylint: disable=broad-except
-        return None
+        return False
 
 
 def read(path):
@@ -195,16 +208,18 @@ def main():
     text = read(os.path.join(TOP, 'tools', 'check_certificate.py'))
     pairs = [(stem, [read(path) for path in files], line.startswith('accepted')) for stem, files, line, either in verdicts() if not either]
     caught, missed, stale = 0, [], []
-    for rule, direction, old, new in CHANGES:
-        if text.count(old) != 1:
-            stale.append(f'{rule}: {old!r} is there {text.count(old)} times')
-            continue
-        module = checker(text.replace(old, new))
-        by = [stem for stem, texts, accepted in pairs if accepts(module, texts) is not accepted]
+    for rule, direction, *texts in CHANGES:
+        changed = text
+        for old, new in zip(texts[::2], texts[1::2]):
+            if changed.count(old) != 1:
+                stale.append(f'{rule}: {old!r} is there {changed.count(old)} times')
+            changed = changed.replace(old, new)
+        module = checker(changed)
+        by = [stem for stem, pair, accepted in pairs if accepts(module, pair) != accepted]
         print(f'{rule} ({direction}): {len(by)} pairs{": " + ", ".join(by[:4]) if by else ""}')
         caught += bool(by)
         if not by and (rule, direction) not in SAME:
-            missed.append(f'{rule} ({direction}): {new!r}')
+            missed.append(f'{rule} ({direction}): {texts[-1]!r}')
     print('\n'.join(stale + [f'not caught: {name}' for name in missed]))
     print(f'{len(CHANGES)} changes, {caught} caught, {len(missed)} not caught')
     return 1 if missed or stale else 0
