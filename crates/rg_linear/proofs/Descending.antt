@@ -3,15 +3,19 @@ use Rattle.std.proofs.Common.{◌≡◌, ◌⊎◌, ℕ, ◌+◌, ◌-◌, ◌<�
 use Rattle.std.proofs.lemmas.List.{reverse-append}
 use Rattle.rg_linear.specs.System.{LinearSystem, row_variable}
 use Rattle.rg_linear.specs.Exchange.{exchanged, AllFit}
-use Rattle.rg_linear.specs.Descent.{Outcome, Outcome.point, Outcome.refuted, DescentFromStart, IsSatisfied, IsStuck, Chooses}
-use Rattle.rg_linear.specs.Stack.{fixed_of, limit, Resumes, work_left, IsFalling, IsStackOf}
-use Rattle.rg_linear.proofs.Stacks.{step_satisfied, step_stuck, step_exchange, step_return, step_end, work-satisfied, work-exchange, stack_pushed, stack_popped, room_on_stack}
+use Rattle.rg_linear.specs.Descent.{Outcome, Outcome.point, Outcome.refuted, DescentFrom, DescentFrom.after_last, DescentFromStart, IsSatisfied, IsStuck, Chooses}
+use Rattle.rg_linear.specs.Stack.{fixed_of, limit, Resumes, Resumes.last, work_left, IsFalling, IsStackOf}
+use Rattle.rg_linear.proofs.Stacks.{step_satisfied, step_stuck, step_exchange, step_return, work-satisfied, work-exchange, stack_pushed, stack_popped, room_on_stack}
 
--- what is left at row i of the rows below, with these rows fixed, leads to the outcome of the whole
+-- what is left at row i, with these rows fixed, leads to the outcome of the whole
+abbrev pub LeadsTo : LinearSystem → List ℕ → List ℕ → ℕ → Type 0
+LeadsTo system members stack i = (o : Outcome) → Resumes system (reverse stack) members i o → DescentFromStart system o
+
+-- so it does at a row of the rows below
 pub record LeadsOn (system : LinearSystem) (members stack : List ℕ) (below i : ℕ) : Type 0 where
   pub limit : below ≡ limit system (reverse stack)
   pub stacked : IsStackOf system (reverse stack) members
-  pub leads : (o : Outcome) → Resumes system (reverse stack) members i o → DescentFromStart system o
+  pub leads : LeadsTo system members stack i
 
 reverse-push : (stack : List ℕ) (s : ℕ) → reverse (stack ++ s ∷ []) ≡ s ∷ reverse stack
 reverse-push stack s = reverse-append stack (s ∷ [])
@@ -57,21 +61,39 @@ abbrev pub IsExchange : LinearSystem → List ℕ → List ℕ → ℕ → List 
 IsExchange system old stack i new =
     (j : ℕ) × Chooses system old (fixed_of system stack) i j × AllFit system old (row_variable system i) j × (new ≡ exchanged old (row_variable system i) j)
 
+module _ (system : LinearSystem) (members stack : List ℕ) (i : ℕ) (leads : LeadsTo system members stack i) where
+  pub to_satisfied : i < limit system (reverse stack) → IsSatisfied system members i → LeadsTo system members stack (i + 1)
+  to_satisfied lt satisfied o rest = leads o
+      (step_satisfied system (reverse stack) members i o lt satisfied (subst (λ k. Resumes system (reverse stack) members k o) (add-one i) rest))
+
+  pub to_exchanged : i < limit system (reverse stack) → (j : ℕ) → Chooses system members (fixed_of system (reverse stack)) i j → AllFit system members (row_variable system i) j
+      → (pushed : List ℕ) → pushed ≡ stack ++ i ∷ [] → LeadsTo system (exchanged members (row_variable system i) j) pushed 0
+  to_exchanged lt j chooses fit pushed was o rest = leads o (step_exchange system (reverse stack) members i j o lt chooses fit
+      (subst (λ xs. Resumes system xs (exchanged members (row_variable system i) j) 0 o) (ap reverse was ∙ reverse-push stack i) rest))
+
+  -- the last fixed row is taken up after itself
+  pub to_popped : (popped : List ℕ) (s : ℕ) → stack ≡ popped ++ s ∷ [] → s ≤ i → LeadsTo system members popped (s + 1)
+  to_popped popped s was le o rest = leads o (subst (λ xs. Resumes system xs members i o) (sym (ap reverse was ∙ reverse-push popped s))
+      (step_return system s (reverse popped) members i o le (subst (λ k. Resumes system (reverse popped) members k o) (add-one s) rest)))
+
+  -- with nothing fixed
+  pub to_reached : (0 < length stack → ⊥) → (o : Outcome) → DescentFrom system members [] (length system.rows) i o → DescentFromStart system o
+  to_reached none o from = leads o (subst (λ xs. Resumes system (reverse xs) members i o) (sym (none_left stack none)) (last from))
+
 module _ (system : LinearSystem) (members stack : List ℕ) (below i : ℕ) (is : LeadsOn system members stack below i) where
   pub within_rows : below ≤ length system.rows
   within_rows = let le = limit_within system (reverse stack) is.stacked.falls in let e = is.limit in omega arith
 
   -- behind the last row with nothing fixed
   pub leads_point : (0 < length stack → ⊥) → below ≤ i → DescentFromStart system (point members)
-  leads_point none le = is.leads (point members)
-      (subst (λ xs. Resumes system (reverse xs) members i (point members)) (sym empty)
-      (step_end system members i (let e = is.limit ∙ ap (λ xs. limit system (reverse xs)) empty in omega arith)))
-    where
-      empty : stack ≡ []
-      empty = none_left stack none
+  leads_point none le = to_reached system members stack i is.leads none (point members)
+      (after_last (let e = is.limit ∙ ap (λ xs. limit system (reverse xs)) (none_left stack none) in omega arith))
+
+  pub last_row : (0 < length stack → ⊥) → below ≤ i → i ≤ below → i ≡ length system.rows
+  last_row none le ge = let e = is.limit ∙ ap (λ xs. limit system (reverse xs)) (none_left stack none) in omega arith
 
   module _ (lt : i < below) where
-    before_limit : i < limit system (reverse stack)
+    pub before_limit : i < limit system (reverse stack)
     before_limit = subst (λ n. i < n) is.limit lt
 
     pub leads_refuted : (new : List ℕ) → IsStuck system members (fixed_of system (reverse stack)) i × (new ≡ members) → DescentFromStart system (refuted new i (fixed_of system (reverse stack)))
@@ -82,8 +104,7 @@ module _ (system : LinearSystem) (members stack : List ℕ) (below i : ℕ) (is 
     leads_satisfied new told = record {
       limit = is.limit;
       stacked = subst (IsStackOf system (reverse stack)) (sym told.1) is.stacked;
-      leads = λ o rest. is.leads o (step_satisfied system (reverse stack) members i o before_limit told.0
-          (subst (λ k. Resumes system (reverse stack) members k o) (add-one i) (subst (λ ms. Resumes system (reverse stack) ms (i + 1) o) told.1 rest)));
+      leads = subst (λ ms. LeadsTo system ms stack (i + 1)) (sym told.1) (to_satisfied system members stack i is.leads before_limit told.0);
     }
 
     -- the stack has room for one more
@@ -95,8 +116,7 @@ module _ (system : LinearSystem) (members stack : List ℕ) (below i : ℕ) (is 
       limit = sym (ap (limit system) turned);
       stacked = subst (λ xs. IsStackOf system xs new) (sym turned)
           (subst (IsStackOf system (i ∷ reverse stack)) (sym e) (stack_pushed system (reverse stack) members i j before_limit is.stacked chooses));
-      leads = λ o rest. is.leads o (step_exchange system (reverse stack) members i j o before_limit chooses fit
-          (subst (λ ms. Resumes system (i ∷ reverse stack) ms 0 o) e (subst (λ xs. Resumes system xs new 0 o) turned rest)));
+      leads = subst (λ ms. LeadsTo system ms pushed 0) (sym e) (to_exchanged system members stack i is.leads before_limit j chooses fit pushed was);
     }
       where
         turned : reverse pushed ≡ i ∷ reverse stack
@@ -118,6 +138,13 @@ module _ (system : LinearSystem) (members stack : List ℕ) (below i : ℕ) (is 
     at_top : IsStackOf system (s ∷ reverse popped) members
     at_top = subst (λ xs. IsStackOf system xs members) turned is.stacked
 
+    pub top_below : below ≤ i → s ≤ i
+    top_below le = subst (λ n. n ≤ i) (is.limit ∙ ap (limit system) turned) le
+
+    -- its row is below the one that was fixed before it
+    pub popped_below : (next : ℕ) → next ≡ limit system (reverse popped) → s < next
+    popped_below next e = subst (λ n. s < n) (sym e) at_top.falls.0
+
     pub popped_row : s < length system.rows
     popped_row = let lt = at_top.falls.0 in let le = limit_within system (reverse popped) at_top.falls.1 in omega arith
 
@@ -125,7 +152,5 @@ module _ (system : LinearSystem) (members stack : List ℕ) (below i : ℕ) (is 
     leads_popped le next e = record {
       limit = e;
       stacked = stack_popped system s (reverse popped) members at_top;
-      leads = λ o rest. is.leads o (subst (λ xs. Resumes system xs members i o) (sym turned)
-          (step_return system s (reverse popped) members i o (subst (λ n. n ≤ i) (is.limit ∙ ap (limit system) turned) le)
-          (subst (λ k. Resumes system (reverse popped) members k o) (add-one s) rest)));
+      leads = to_popped system members stack i is.leads popped s was (top_below le);
     }

@@ -52,14 +52,12 @@ norms_of own further a b n first second greater small i lt = go (cases_lt i (len
         subst (λ m. m ≤ n) (sym (norm_is _ _ (get_or-append_right own further (length own) i (record { coeffs = []; constant = pos 0 }) refl past)))
         (below _ _ (at_most (length further) (norm_at further) (i - length own) inside) (unkept (greatest_norm further) b a n second (turned_max a b n greater) small))
 
-pub has_norms : (system : LinearSystem) (columns : ℕ) (own shared further : List Row) → columns ≡ system.columns → map linear_row own ++ map linear_row shared ≡ system.rows
-    → (a b n most : ℕ) → a ≡ kept_norm (greatest_norm system.rows) → b ≡ kept_norm (greatest_norm (map linear_row further)) → n ≡ max a b → 1 ≤ most → (n + 1) * most < 2 ^ 63
-    → HasNorms (linear_system columns (own ++ shared ++ further)) n
-has_norms system columns own shared further same are a b n most first second greater some room = subst (λ s. HasNorms s n) (sym (rows_behind system columns own shared further same are))
-    (norms_of system.rows (map linear_row further) a b n first second greater (small n most some room))
-  where
-    small : (n most : ℕ) → 1 ≤ most → (n + 1) * most < 2 ^ 63 → n < 2 ^ 63
-    small n most some room = let m = mul-le-mul (le_refl (n + 1)) some in omega arith
+pub further_norms : (system : LinearSystem) (further : List LinearRow) (a b n most : ℕ) → a ≡ kept_norm (greatest_norm system.rows) → b ≡ kept_norm (greatest_norm further) → n ≡ max a b
+    → n ≤ most → most < 2 ^ 63 → HasNorms (with_rows system further) most
+further_norms system further a b n most first second greater le fits i lt = let h = norms_of system.rows further a b n first second greater (omega arith) i lt in omega arith
+
+pub small_norm : (n most : ℕ) → 1 ≤ most → (n + 1) * most < 2 ^ 63 → n < 2 ^ 63
+small_norm n most some room = let m = mul-le-mul (le_refl (n + 1)) some in omega arith
 
 -- ---- room
 

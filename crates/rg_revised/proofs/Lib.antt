@@ -35,3 +35,4 @@ pub mod LongRows
 pub mod Crossed
 pub mod Advancing
 pub mod Supported
+pub mod Extending

@@ -2,9 +2,7 @@
 use Rattle.std.proofs.Common.{◌≡◌, ℕ, List, [], length, map, reverse, ap, refl, subst, sym, ◌∙◌, ◌<◌, ◌≤◌}
 use Rattle.std.specs.Prelude.{slice_index_or}
 use Rattle.std.proofs.lemmas.List.{length-map}
-use Rattle.rg_linear.specs.Dictionary.{numbers_from}
-use Rattle.rg_linear.specs.Descent.{Outcome, DescentFromStart}
-use Rattle.rg_linear.specs.Stack.{limit, Resumes, Resumes.last, work_left, IsStackOf}
+use Rattle.rg_linear.specs.Stack.{limit, work_left, IsStackOf}
 use Rattle.rg_linear.specs.declared.row.Row.{Row}
 use Rattle.rg_integers.specs.Range.{InRange}
 use Rattle.rg_linear.specs.System.{LinearSystem, LinearRow, row_at}
@@ -13,16 +11,16 @@ use Rattle.rg_linear.proofs.Members.{Contains-nil}
 use Rattle.rg_linear.proofs.KeptRows.{item_is, below_rows, row_length, constant_in_range}
 use Rattle.rg_linear.proofs.Descending.{LeadsOn}
 use Rattle.rg_revised.specs.State.{IsRow}
+use Rattle.rg_revised.specs.Reaching.{Reaches}
+use Rattle.rg_revised.proofs.Extending.{begins_to}
 
-pub begins : (columns : ℕ) (rows : List Row) (stack : List ℕ) → stack ≡ [] → LeadsOn (linear_system columns rows) (numbers_from 0 columns) stack (length rows) 0
-begins columns rows stack none = record {
+pub begins : (columns : ℕ) (rows : List Row) (members stack : List ℕ) (from : ℕ) → stack ≡ [] → Reaches (linear_system columns rows) members from
+    → LeadsOn (linear_system columns rows) members stack (length rows) from
+begins columns rows members stack from none reaches = record {
   limit = sym (length-map rows linear_row) ∙ ap (λ xs. limit (linear_system columns rows) (reverse xs)) (sym none);
-  stacked = subst (λ xs. IsStackOf (linear_system columns rows) (reverse xs) (numbers_from 0 columns)) (sym none) (record { falls = tt; all = λ m has. absurd (Contains-nil m has) });
-  leads = λ o rest. at_start o (subst (λ xs. Resumes (linear_system columns rows) (reverse xs) (numbers_from 0 columns) 0 o) none rest);
+  stacked = subst (λ xs. IsStackOf (linear_system columns rows) (reverse xs) members) (sym none) (record { falls = tt; all = λ m has. absurd (Contains-nil m has) });
+  leads = begins_to (linear_system columns rows) members stack from none reaches;
 }
-  where
-    at_start : (o : Outcome) → Resumes (linear_system columns rows) [] (numbers_from 0 columns) 0 o → DescentFromStart (linear_system columns rows) o
-    at_start o (last from) = from
 
 -- a measure by the number of the rows as code keeps them
 pub work_kept : (columns : ℕ) (rows : List Row) (a b : List ℕ) (i j : ℕ) → work_left (length (map linear_row rows)) a i < work_left (length (map linear_row rows)) b j

@@ -7,6 +7,7 @@ pub mod Held
 pub mod Reading
 pub mod State
 pub mod Supports
+pub mod Reaching
 pub mod Ending
 pub mod Starting
 pub mod View

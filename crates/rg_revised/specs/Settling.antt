@@ -1,5 +1,5 @@
 -- What a settled revised dictionary says of its system.
-use Rattle.std.specs.Prelude.{◌≡◌, ℕ, List, ◌∷◌, Some, ℤ, pos, ◌<ℤ◌, unsigned_abs}
+use Rattle.std.specs.Prelude.{◌≡◌, ℕ, List, ◌∷◌, length, Some, ℤ, pos, ◌<ℤ◌, unsigned_abs}
 use Rattle.rg_fraction.specs.Rows.{IsRowGcd}
 use Rattle.rg_linear.specs.System.{LinearSystem, row_variable}
 use Rattle.rg_linear.specs.Descent.{Outcome.refuted, DescentFromStart}
@@ -7,6 +7,7 @@ use Rattle.rg_revised.specs.Basis.{IsRelationOf}
 use Rattle.rg_revised.specs.Held.{relation_of}
 use Rattle.rg_revised.specs.State.{IsTableauOf}
 use Rattle.rg_revised.specs.Ending.{IsPointAt}
+use Rattle.rg_revised.specs.Reaching.{HasCome}
 use Rattle.rg_revised.specs.View.{RevisedState}
 use Rattle.rg_revised.specs.declared.descent.Descent.{Descent}
 use Rattle.rg_revised.specs.declared.descent.Descent.TheVariants.{Point, Refuted, Large}
@@ -14,6 +15,10 @@ use Rattle.rg_revised.specs.declared.descent.Descent.TheVariants.{Point, Refuted
 -- the relations are those of the system's columns over the set
 abbrev pub IsHeldOf : LinearSystem → List ℕ → RevisedState → Type 0
 IsHeldOf system members r = IsTableauOf system members r.tableau
+
+-- the descent of the system ended with a point, and whatever rows follow, it goes on from there with the relations
+abbrev pub IsAtPoint : LinearSystem → RevisedState → Type 0
+IsAtPoint system r = HasCome system (length system.rows) r.tableau
 
 -- the greatest number that divides d and all numbers
 pub record IsCommonFactor (d : ℤ) (numbers : List ℤ) (factor : ℤ) : Type 0 where

@@ -36,6 +36,18 @@ pub record HasSizes (t : TableauState) (named_room : ℕ) (most : ℤ) (sum_coun
   pub products : product_count ≡ length t.basis.slots * (length t.basis.slots + 1) + 1
   pub not_negative : pos 0 ≤ℤ most
 
+-- a copy of the relations, with the bounds of their tableau
+pub record SavedState : Type 0 where
+  pub columns : ℕ
+  pub basis : BasisState
+  pub norm : ℕ
+  pub most : ℕ
+  pub long : Bool
+
+-- the copy of a tableau's relations
+abbrev pub saved_of : TableauState → SavedState
+saved_of t = record { columns = length t.basis.slots; basis = t.basis; norm = t.norm; most = t.most; long = t.long }
+
 -- the tableau; after a refutation the row that fails, counted among the rows, and the common factor of its numbers
 pub record RevisedState : Type 0 where
   pub columns : ℕ

@@ -1,9 +1,10 @@
 //! The descent over all rows.
 
 ghost use Rattle.std.specs.Prelude.{◌≡◌, ℕ, ◌+◌, ◌<◌, ◌≤◌, ◌^◌, List, [], ◌∷◌, ◌++◌, length, slice_index_or, reverse, vec_len, vec_capacity};
-ghost use Rattle.rg_linear.specs.Dictionary.{numbers_from};
+ghost use Rattle.rg_linear.specs.System.{LinearSystem};
 ghost use Rattle.rg_linear.specs.View.{linear_system, IsWellFormed};
 ghost use Rattle.rg_linear.specs.Stack.{fixed_of};
+ghost use Rattle.rg_revised.specs.Reaching.{Extends, HasCome};
 ghost use Rattle.rg_revised.specs.State.{IsTableauOf, StepTells};
 ghost use Rattle.rg_revised.specs.Lists.{rows_of};
 ghost use Rattle.rg_revised.specs.Ending.{EndTells};
@@ -28,24 +29,27 @@ fn take(tableau: &mut Tableau, columns: u32, rows: Rows<'_>, stack: &[u32], i: u
     requires well_formed { IsWellFormed (linear_system columns (rows_of rows)) }
     requires whole { (members : List ℕ) × IsTableauOf (linear_system columns (rows_of rows)) members tableau.old }
     requires row { i < length (rows_of rows) }
-    ensures told { (members : List ℕ) → IsTableauOf (linear_system columns (rows_of rows.entry)) members tableau.old
-        → StepTells (linear_system columns (rows_of rows.entry)) members (fixed_of (linear_system columns (rows_of rows.entry)) (reverse stack.now)) i tableau.new result }
+    ensures told { (system : LinearSystem) (members : List ℕ) → Extends (linear_system columns (rows_of rows.entry)) tableau.old.norm system → IsTableauOf system members tableau.old
+        → StepTells system members (fixed_of system (reverse stack.now)) i tableau.new result }
+    ensures norm { tableau.new.norm ≡ tableau.old.norm }
     ensures columns { length tableau.new.basis.slots ≡ length tableau.old.basis.slots }
 {
     let row = rows.row(i as usize);
     take_row(tableau, &row.coeffs, row.constant, stack, i)
 }
 
-/// Takes all rows, from the first one. A row that is exchanged is fixed while the rows before it are taken again. The
+/// Takes the rows from number `from` on. A row that is exchanged is fixed while the rows before it are taken again. The
 /// stack has the fixed rows, the last one at its end.
 pub(crate) fn descend(
     tableau: &mut Tableau,
     columns: u32,
     rows: Rows<'_>,
     stack: &mut Vec<u32>,
+    from: u32,
 ) -> Descent
     requires well_formed { IsWellFormed (linear_system columns (rows_of rows)) }
-    requires start { IsTableauOf (linear_system columns (rows_of rows)) (numbers_from 0 columns) tableau.old }
+    requires start { HasCome (linear_system columns (rows_of rows)) from tableau.old }
+    requires within { from ≤ length (rows_of rows) }
     requires empty { stack.old.items ≡ [] }
     requires room { columns < vec_capacity stack.old }
     ensures outcome { EndTells (linear_system columns (rows_of rows.entry)) tableau.new result }
@@ -54,7 +58,7 @@ pub(crate) fn descend(
 {
     let count = rows.count();
     let mut below = count;
-    let mut i = 0;
+    let mut i = from;
     'rows: loop {
         if i >= below {
             match stack.pop() {

@@ -23,6 +23,7 @@ mod room;
 mod row;
 mod row_factors;
 mod rows;
+mod saved;
 mod starting;
 mod step;
 mod support;
@@ -42,6 +43,7 @@ ghost use Rattle.rg_revised.specs.Basis.{IsRelationOf, itself, IsBasis, row_over
 
 pub use descent::Descent;
 pub use revised::Revised;
+pub use saved::Saved;
 pub use walk::{RevisedWalk, Taken};
 
 /// A relation of a variable outside the set is a multiple of its primitive one, by a positive number.

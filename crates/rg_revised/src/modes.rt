@@ -16,6 +16,7 @@ impl Tableau {
         requires whole { (system : LinearSystem) × (members : List ℕ) × (i : ℕ) × IsTableauOf system members self.old × IsRow system i coeffs.now constant }
         ensures read { (system : LinearSystem) (members : List ℕ) (i : ℕ) → IsTableauOf system members self.old → IsRow system i coeffs.now constant → IsRowRead system members i coeffs.now constant self.old self.new }
         ensures short { HasShortNumbers self.new }
+        ensures norm { self.new.norm ≡ self.old.norm }
         ensures columns { length self.new.basis.slots ≡ length self.old.basis.slots }
     {
         self.basis.read(coeffs, constant, &mut self.numbers);
@@ -28,6 +29,7 @@ impl Tableau {
         requires whole { (system : LinearSystem) × (members : List ℕ) × (i : ℕ) × IsTableauOf system members self.old × IsRow system i coeffs.now constant }
         ensures read { IsTrue result → (system : LinearSystem) (members : List ℕ) (i : ℕ) → IsTableauOf system members self.old → IsRow system i coeffs.now constant → IsRowRead system members i coeffs.now constant self.old self.new }
         ensures short { IsTrue result → HasShortNumbers self.new }
+        ensures norm { self.new.norm ≡ self.old.norm }
         ensures columns { length self.new.basis.slots ≡ length self.old.basis.slots }
     {
         self.basis.sum(coeffs, constant, &mut self.sums);
@@ -46,6 +48,7 @@ impl Tableau {
         requires whole { (system : LinearSystem) × (members : List ℕ) × (i : ℕ) × IsTableauOf system members self.old × IsRow system i coeffs.now constant }
         ensures read { IsTrue result → (system : LinearSystem) (members : List ℕ) (i : ℕ) → IsTableauOf system members self.old → IsRow system i coeffs.now constant → IsRowRead system members i coeffs.now constant self.old self.new }
         ensures short { IsTrue result → HasShortNumbers self.new }
+        ensures norm { self.new.norm ≡ self.old.norm }
         ensures columns { length self.new.basis.slots ≡ length self.old.basis.slots }
     {
         if self.room.long {
@@ -60,6 +63,7 @@ impl Tableau {
         requires short { self.old.long ≡ false }
         requires relation { CanExchange self.old p variable }
         ensures exchanged { IsTrue result → IsSetExchange self.old p variable self.new }
+        ensures norm { self.new.norm ≡ self.old.norm }
         ensures columns { length self.new.basis.slots ≡ length self.old.basis.slots }
     {
         self.basis
@@ -71,6 +75,7 @@ impl Tableau {
         requires long { self.old.long ≡ true }
         requires relation { CanExchange self.old p variable }
         ensures exchanged { IsTrue result → IsSetExchange self.old p variable self.new }
+        ensures norm { self.new.norm ≡ self.old.norm }
         ensures columns { length self.new.basis.slots ≡ length self.old.basis.slots }
     {
         let largest = largest_size(self.over, &self.numbers);
@@ -94,6 +99,7 @@ impl Tableau {
     fn exchange_set(&mut self, p: usize, variable: u32) -> bool
         requires relation { CanExchange self.old p variable }
         ensures exchanged { IsTrue result → IsSetExchange self.old p variable self.new }
+        ensures norm { self.new.norm ≡ self.old.norm }
         ensures columns { length self.new.basis.slots ≡ length self.old.basis.slots }
     {
         if self.room.long {
@@ -108,6 +114,7 @@ impl Tableau {
     pub(crate) fn exchange(&mut self, p: usize, variable: u32) -> bool
         requires relation { CanExchange self.old p variable }
         ensures exchanged { IsTrue result → IsTableauExchange self.old p variable self.new }
+        ensures norm { self.new.norm ≡ self.old.norm }
         ensures columns { length self.new.basis.slots ≡ length self.old.basis.slots }
     {
         if !self.exchange_set(p, variable) {

@@ -1,21 +1,23 @@
 //! A revised dictionary.
 
-ghost use Rattle.std.specs.Prelude.{◌≡◌, ℕ, ◌+◌, ◌*◌, ◌^◌, ◌<◌, ◌≤◌, ◌++◌, List, length, map, vec_capacity, IfOk, IfSome, ℤ, pos, ◌≤ℤ◌, unsigned_abs};
+ghost use Rattle.std.specs.Prelude.{◌≡◌, ℕ, ◌+◌, ◌*◌, ◌^◌, ◌<◌, ◌≤◌, [], ◌∷◌, ◌++◌, List, length, map, vec_capacity, IfOk, IfSome, ℤ, pos, ◌≤ℤ◌, unsigned_abs};
 ghost use Rattle.rg_fraction.specs.Fractions.{IsValue};
-ghost use Rattle.rg_linear.specs.System.{LinearSystem, row_variable, row_at, with_rows};
+ghost use Rattle.rg_linear.specs.System.{LinearSystem, LinearRow, row_variable, row_at, with_rows};
 ghost use Rattle.rg_linear.specs.Dictionary.{Relation, DictionaryRow};
 ghost use Rattle.rg_linear.specs.Descent.{multiplier_of, IsBasicPoint};
 ghost use Rattle.rg_linear.specs.View.{linear_row, linear_system, IsWellFormed};
 ghost use Rattle.rg_revised.specs.Basis.{HasNorms};
 ghost use Rattle.rg_revised.specs.Lists.{rows_of};
 ghost use Rattle.rg_revised.specs.Ending.{EndTells};
+ghost use Rattle.rg_revised.specs.Reaching.{IsSavedAt};
 ghost use Rattle.rg_revised.specs.State.{HasRoomIn};
-ghost use Rattle.rg_revised.specs.Settling.{IsHeldOf, IsRefutedAt, IsDescent};
+ghost use Rattle.rg_revised.specs.Settling.{IsHeldOf, IsAtPoint, IsRefutedAt, IsDescent};
 
 use crate::descent::{Descent, descend};
 use crate::factor::divide_by_factor;
 use crate::room::Room;
 use crate::rows::Rows;
+use crate::saved::Saved;
 use crate::tableau::Tableau;
 use crate::value::{column_value, row_value};
 use rg_fraction::Fraction;
@@ -80,7 +82,7 @@ fn descend_from_start(
 {
     stack.clear();
     tableau.restart(room);
-    descend(tableau, columns, rows, stack)
+    descend(tableau, columns, rows, stack, 0)
 }
 
 // The same, where a short descent may end with a number that is too large: then a long one is made.
@@ -152,19 +154,76 @@ impl Revised {
             most,
             long: false,
         };
-        let columns = system.columns();
-        let (own, shared) = system.lists();
-        let rows = Rows {
-            own,
-            shared,
-            further,
-        };
-        let ended = descend_twice(&mut self.tableau, columns, rows, &mut self.stack, room);
+        let ended = descend_twice(
+            &mut self.tableau,
+            system.columns(),
+            Rows::of(system, further),
+            &mut self.stack,
+            room,
+        );
+        self.finish(ended);
+        ended
+    }
+
+    /// As `settle`, where the descent of the system without its last row ended with a point, and the dictionary is at it. The
+    /// descent goes on from there with the last row. Where that row's norm or a number is too large for it, the descent is made
+    /// from the start.
+    pub fn go_on(&mut self, system: &JoinedSystem<'_>, further: &[Row]) -> Descent
+        requires columns { self.old.columns ≡ system.now.columns }
+        requires well_formed { IsWellFormed (with_rows system.now (map linear_row further.now)) }
+        requires point { (front : List LinearRow) × (last : LinearRow) × (map linear_row further.now ≡ front ++ last ∷ []) × IsAtPoint (with_rows system.now front) self.old }
+        ensures outcome { IsDescent (with_rows system.now (map linear_row further.now)) self.new result }
+        ensures columns { self.new.columns ≡ self.old.columns }
+    {
+        let rows = Rows::of(system, further);
+        let norm = system.norm().max(largest_norm(further));
+        if norm <= self.tableau.norm() {
+            let last = rows.count() - 1;
+            self.stack.clear();
+            match descend(
+                &mut self.tableau,
+                system.columns(),
+                rows,
+                &mut self.stack,
+                last,
+            ) {
+                Descent::Large => {}
+                ended => {
+                    self.finish(ended);
+                    return ended;
+                }
+            }
+        }
+        self.settle(system, further)
+    }
+
+    // Keeps the row that fails and the common factor of its numbers, after a refutation.
+    fn finish(&mut self, ended: Descent)
+        requires { (system : LinearSystem) × EndTells system self.old.tableau ended }
+        ensures outcome { (system : LinearSystem) → EndTells system self.old.tableau ended → IsDescent system self.new ended }
+        ensures columns { self.new.columns ≡ self.old.columns }
+    {
         if let Descent::Refuted(row) = ended {
             self.failing = Some(row);
             self.factor = self.tableau.common_factor();
         }
-        ended
+    }
+
+    /// Returns a copy of the relations, for `restore`. Returns `AllocError` if there is no memory for it.
+    pub fn save(&self, alloc: Global) -> Result<Saved, AllocError>
+        ensures columns { IfOk result (λ s. s.columns ≡ self.now.columns) }
+        ensures point { IfOk result (λ s. (system : LinearSystem) → IsAtPoint system self.now → IsSavedAt system s) }
+    {
+        self.tableau.save(alloc)
+    }
+
+    /// Gives the dictionary the relations of a copy.
+    pub fn restore(&mut self, saved: Saved)
+        requires columns { saved.columns ≡ self.old.columns }
+        ensures point { (system : LinearSystem) → IsSavedAt system saved → IsAtPoint system self.new }
+        ensures columns { self.new.columns ≡ self.old.columns }
+    {
+        self.tableau.restore(saved);
     }
 
     /// The value of a row of the system at the point at which every member is 0.

@@ -1,9 +1,11 @@
 //! The rows of a descent, in three lists.
 
-ghost use Rattle.std.specs.Prelude.{◌≡◌, ◌<◌, ◌^◌, length, slice_index_or};
+ghost use Rattle.std.specs.Prelude.{◌≡◌, ◌<◌, ◌^◌, length, map, slice_index_or};
+ghost use Rattle.rg_linear.specs.System.{with_rows};
+ghost use Rattle.rg_linear.specs.View.{linear_row, linear_system};
 ghost use Rattle.rg_revised.specs.Lists.{rows_of};
 
-use rg_linear::Row;
+use rg_linear::{JoinedSystem, Row};
 
 /// The rows of a system, which are in two lists, and after them further ones.
 #[derive(Clone, Copy)]
@@ -14,6 +16,18 @@ pub(crate) struct Rows<'a> {
 }
 
 impl<'a> Rows<'a> {
+    /// The rows of the system, and after them these.
+    pub(crate) fn of(system: &JoinedSystem<'a>, further: &'a [Row]) -> Rows<'a>
+        ensures { linear_system system.now.columns (rows_of result) ≡ with_rows system.now (map linear_row further.now) }
+    {
+        let (own, shared) = system.lists();
+        Rows {
+            own,
+            shared,
+            further,
+        }
+    }
+
     /// Row number `i`, counted from 0.
     #[inline(always)]
     pub(crate) fn row(self, i: usize) -> &'a Row

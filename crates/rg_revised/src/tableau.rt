@@ -8,12 +8,15 @@ ghost use Rattle.rg_linear.specs.Dictionary.{numbers_from};
 ghost use Rattle.rg_revised.specs.Reading.{IsVacant, constant_over};
 ghost use Rattle.rg_revised.specs.State.{HasRoomIn, IsRow, IsTableauOf};
 ghost use Rattle.rg_revised.specs.Settling.{IsCommonFactor};
+ghost use Rattle.rg_revised.specs.Reaching.{IsCopyWith};
+ghost use Rattle.rg_revised.specs.View.{saved_of};
 
 use crate::basis::Basis;
 use crate::factor::common_factor;
 use crate::members::slot_of;
 use crate::naming::{constant_of, gather, long_constant_of};
 use crate::room::Room;
+use crate::saved::Saved;
 use std::alloc::{AllocError, Global};
 use std::marker::Model;
 
@@ -75,11 +78,34 @@ impl Tableau {
     pub(crate) fn restart(&mut self, room: Room)
         requires { pos 0 ≤ℤ room.most }
         ensures started { (system : LinearSystem) → system.columns ≡ length self.old.basis.slots → HasRoomIn system room.norm (unsigned_abs room.most) room.long → IsTableauOf system (numbers_from 0 system.columns) self.new }
+        ensures norm { self.new.norm ≡ room.norm }
         ensures columns { length self.new.basis.slots ≡ length self.old.basis.slots }
     {
         self.basis.restart();
         gather(&self.basis, &mut self.constants, &mut self.named);
         self.room = room;
+    }
+
+    /// Returns a copy of the relations.
+    pub(crate) fn save(&self, alloc: Global) -> Result<Saved, AllocError>
+        ensures { IfOk result (λ s. s ≡ saved_of self.now) }
+    {
+        Ok(Saved {
+            basis: self.basis.copy(alloc)?,
+            room: self.room,
+        })
+    }
+
+    /// Puts the relations of a copy in place of these.
+    pub(crate) fn restore(&mut self, saved: Saved)
+        requires { saved.columns ≡ length self.old.basis.slots }
+        ensures relations { (system : LinearSystem) (members : List ℕ) → IsCopyWith system members saved → IsTableauOf system members self.new }
+        ensures norm { self.new.norm ≡ saved.norm }
+        ensures columns { length self.new.basis.slots ≡ length self.old.basis.slots }
+    {
+        self.basis = saved.basis;
+        self.room = saved.room;
+        gather(&self.basis, &mut self.constants, &mut self.named);
     }
 
     /// The constant of the relation of the row with these coefficients and this constant.
@@ -108,6 +134,13 @@ impl Tableau {
         ensures { result ≡ length self.now.basis.slots }
     {
         self.basis.columns()
+    }
+
+    /// The bound on the norms of rows.
+    pub(crate) fn norm(&self) -> u64
+        ensures { result ≡ self.now.norm }
+    {
+        self.room.norm
     }
 
     /// The denominator of the relations.
