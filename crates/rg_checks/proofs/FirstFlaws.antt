@@ -3,8 +3,8 @@ use Rattle.std.proofs.Common.{◌≡◌, ◌⊎◌, inl, inr, ℕ, ◌<◌, ap}
 use Rattle.std.proofs.lemmas.Bool.{cases_order}
 use Rattle.rg_theory.specs.System.{System, IsInRange, IsAllReachable, IsLeastUnreachable, IsForkFree, IsLeastFork}
 use Rattle.rg_theory.proofs.Arcs.{arc_in_range}
-use Rattle.rg_decided.proofs.Reaching.{all_reached_or_not}
-use Rattle.rg_decided.proofs.Forking.{some_fork}
+use Rattle.rg_theory.proofs.Reaching.{all_reached_or_not}
+use Rattle.rg_theory.proofs.Forking.{some_fork}
 use Rattle.rg_checks.specs.declared.fork.Fork.{Fork}
 use Rattle.rg_checks.specs.declared.flaw.Flaw.{Flaw}
 use Rattle.rg_checks.specs.declared.flaw.Flaw.TheVariants.{Unreachable, Fork as IsFork}

@@ -80,6 +80,14 @@ impl Basis {
     }
 }
 
+// Asks that values of a type may move to another thread, and that threads may share them.
+fn crosses_threads<T: Send + Sync>() {}
+
+// Bases cross threads.
+fn bases_cross_threads() {
+    crosses_threads::<Basis>()
+}
+
 // The members that are labels.
 fn labels_among(alloc: Global, labels: u32, members: &[u32]) -> Result<Vec<u32>, AllocError>
     ensures { IfOk result (λ v. v.items ≡ filter (λ m. nat_lt m labels) members.now) }

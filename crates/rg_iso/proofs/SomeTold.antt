@@ -6,7 +6,7 @@ use Rattle.std.proofs.lemmas.Option.{same_Some, none-some, slice_get-get_or, get
 use Rattle.rg_theory.specs.System.{System, states, labels, HasArc}
 use Rattle.rg_theory.proofs.Arcs.{find_arc}
 use Rattle.rg_theory.proofs.Lists.{slice_get_some}
-use Rattle.rg_decided.proofs.Deciding.{Decided, holds, there_or_not, same_list, find_number}
+use Rattle.rg_theory.proofs.Deciding.{Decided, holds, there_or_not, same_list, find_number}
 use Rattle.rg_iso.specs.Isomorphic.{HaveSameLabels, HaveOneName}
 use Rattle.rg_iso.specs.Words.{Difference, Difference.step as by_step, Difference.target as by_target, IsFirstDifference}
 use Rattle.rg_iso.specs.Compared.{AreComparable, IsFirstAlone, HasLabelsOf, Told, Told.map as as_map, Told.label as as_label, Told.differs as as_difference}

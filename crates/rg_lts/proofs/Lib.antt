@@ -3,3 +3,5 @@ pub mod Drafts
 mod ArcOrder
 mod ArcRuns
 mod ArcSets
+mod Entering
+mod NameAt

@@ -1,3 +1,4 @@
 pub mod WellFormed
 pub mod Draft
 pub mod Faults
+pub mod Slots

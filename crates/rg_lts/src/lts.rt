@@ -4,8 +4,8 @@ ghost use Rattle.rg_theory.specs.declared.Arc.{Arc};
 ghost use Rattle.rg_theory.specs.System.{arc, System, HasArc, IsArcBefore, states, labels};
 ghost use Rattle.rg_lts.specs.WellFormed.{IsWellFormed, system_of, is_earlier};
 
+use crate::name_list::NameList;
 use crate::names::number_of;
-use rg_names::NameList;
 use rg_theory::Arc;
 use std::marker::Model;
 
@@ -134,6 +134,14 @@ impl Lts {
     {
         number_of(&self.label_names, name)
     }
+}
+
+// Asks that values of a type may move to another thread, and that threads may share them.
+fn crosses_threads<T: Send + Sync>() {}
+
+// Systems cross threads.
+fn systems_cross_threads() {
+    crosses_threads::<Lts>()
 }
 
 // Where the first arc of label t at state s leads, in a list in order.

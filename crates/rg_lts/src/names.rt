@@ -2,7 +2,7 @@
 ghost use Rattle.std.specs.Prelude.{◌≡◌, ◌<◌, ◌≤◌, length, Contains, Some, IfSome, IfNone, slice_get};
 ghost use Rattle.rg_theory.specs.Limits.{most_states};
 
-use rg_names::NameList;
+use crate::name_list::NameList;
 
 // The number of a name; None if it isn't there.
 pub(crate) fn number_of(names: &NameList, name: &str) -> Option<u32>

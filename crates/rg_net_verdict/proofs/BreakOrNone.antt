@@ -8,7 +8,7 @@ use Rattle.rg_theory.specs.Net.{Place, Net, Marking, pre_weight, post_weight, to
 use Rattle.rg_theory.specs.declared.Class.{Class}
 use Rattle.rg_theory.specs.Class.{IsMultiple, AllowsStart, IsPlaceInClass}
 use Rattle.rg_theory.proofs.Lists.{slice_get_some}
-use Rattle.rg_decided.proofs.Deciding.{Decided, PairBefore, find_number, find_pair}
+use Rattle.rg_theory.proofs.Deciding.{Decided, PairBefore, find_number, find_pair}
 use Rattle.rg_net.specs.declared.class_break.ClassBreak.{ClassBreak}
 use Rattle.rg_net.specs.declared.class_break.ClassBreak.TheVariants.{NotPure, NotPlain, Over, Branching, NotMultiple}
 use Rattle.rg_net.specs.ClassBreaks.{AreInClass, IsBreak, IsFirstBreak, IsBreakBefore, place_of, kind_of, first_of, second_of}

@@ -15,7 +15,7 @@ use Rattle.rg_theory.proofs.Lists.{Contains-cons_cases, slice_get_some, each_or_
 use Rattle.rg_theory.proofs.Arcs.{arc_in_range}
 use Rattle.rg_theory.proofs.Firing.{fires_enabled}
 use Rattle.rg_theory.proofs.Trees.{source_met, led_is_met, way_joins, way_of_initial}
-use Rattle.rg_decided.proofs.Deciding.{Decided, find_number}
+use Rattle.rg_theory.proofs.Deciding.{Decided, find_number}
 use Rattle.rg_net.specs.Firing.{left_on, StaysInRange, IsFirstPassed}
 use Rattle.rg_net_verdict.specs.declared.verdict.CheckWide.{CheckWide}
 use Rattle.rg_net_verdict.specs.Markings.{IsMarkingOf, FireBefore}

@@ -8,8 +8,8 @@ use Rattle.rg_theory.specs.Net.{Place, Net, Marking, pre_weight, post_weight, to
 use Rattle.rg_theory.specs.Tree.{IsTree}
 use Rattle.rg_theory.proofs.Arcs.{find_arc}
 use Rattle.rg_theory.proofs.Lists.{each_or_some}
-use Rattle.rg_decided.proofs.Deciding.{Decided, same_list, each_or_first, find_pair, PairBefore}
-use Rattle.rg_decided.proofs.Growing.{some_tree}
+use Rattle.rg_theory.proofs.Deciding.{Decided, same_list, each_or_first, find_pair, PairBefore}
+use Rattle.rg_theory.proofs.Growing.{some_tree}
 use Rattle.rg_checks.specs.declared.flaw.Flaw.{Flaw}
 use Rattle.rg_checks.specs.Flaws.{IsFlawless, IsFirstFlaw}
 use Rattle.rg_checks.proofs.FirstFlaws.{some_flaw}

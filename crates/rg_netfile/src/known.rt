@@ -2,7 +2,7 @@
 ghost use Rattle.std.specs.Prelude.{◌≡◌, ℕ, ◌<◌, length, Contains, Some, IfSome, IfNone, slice_get};
 ghost use Rattle.rg_netfile.specs.Built.{KnownNames, IsKnown, HasLabel};
 
-use rg_names::NameList;
+use rg_lts::NameList;
 use std::marker::Model;
 
 /// The names of places and of transitions, and the number of each transition's label.

@@ -5,9 +5,9 @@ use Rattle.rg_theory.specs.System.{System, IsInRange, IsAllReachable, IsForkFree
 use Rattle.rg_theory.specs.declared.Class.{Class}
 use Rattle.rg_theory.specs.ClassWords.{HasNumbersInRange}
 use Rattle.rg_theory.specs.Tree.{IsTree}
-use Rattle.rg_decided.proofs.Growing.{some_tree}
-use Rattle.rg_decided.proofs.Reaching.{all_reached_or_not}
-use Rattle.rg_decided.proofs.Forking.{some_fork}
+use Rattle.rg_theory.proofs.Growing.{some_tree}
+use Rattle.rg_theory.proofs.Reaching.{all_reached_or_not}
+use Rattle.rg_theory.proofs.Forking.{some_fork}
 use Rattle.rg_cert_meaning.specs.Refutes.{Reason.unreachable, Reason.fork}
 use Rattle.rg_outcome.specs.Outcome.{Answer, Answer.unsolvable, Out, Out.a_state, Out.a_fork}
 use Rattle.rg_outcome.proofs.SearchResults.{some_answer}

@@ -10,7 +10,7 @@ use Rattle.rg_theory.specs.Problem.{IsProblem, Separates, IsSeparatedBy, ComesBe
 use Rattle.rg_theory.proofs.Arcs.{find_arc}
 use Rattle.rg_theory.proofs.Yes.{region_unique}
 use Rattle.rg_outcome.specs.Coming.{IsFirstProblem, IsSeparated, IsLeft, IsBehind}
-use Rattle.rg_decided.proofs.Deciding.{Decided, find_pair}
+use Rattle.rg_theory.proofs.Deciding.{Decided, find_pair}
 use Rattle.rg_outcome.proofs.Ordering.{PairBefore, cases_order, not_before_itself, not_both_before}
 
 -- ---- pairs of numbers

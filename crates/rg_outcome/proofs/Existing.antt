@@ -15,7 +15,7 @@ use Rattle.rg_outcome.specs.Coming.{IsFirstProblem, Separation, Separation.place
 use Rattle.rg_outcome.specs.Coming.{IsDone, ComesFrom, ComesFrom.keeps, ComesFrom.goes_on, ComesFrom.ends, ComesFrom.all_separated, ComesFrom.one_is_left, AllComeTo}
 use Rattle.rg_outcome.specs.Coming.{PlacesSeparate, HasResults, IsSound}
 use Rattle.rg_outcome.proofs.Ordering.{cases_order}
-use Rattle.rg_decided.proofs.Deciding.{Decided}
+use Rattle.rg_theory.proofs.Deciding.{Decided}
 use Rattle.rg_outcome.proofs.Decided.{find_problem, from_last, behind_is_decided, is_separated_decided, left_is_decided, next_is_decided}
 
 -- what a place separates, it separates among more

@@ -4,7 +4,7 @@ use Rattle.rg_theory.specs.declared.Problem.{Problem}
 use Rattle.rg_theory.specs.declared.Problem.TheVariants.{Event, States}
 use Rattle.rg_theory.specs.Problem.{ComesBefore}
 use Rattle.rg_outcome.specs.Coming.{IsFirstProblem}
-pub use Rattle.rg_decided.proofs.Deciding.{PairBefore, cases_pair}
+pub use Rattle.rg_theory.proofs.Deciding.{PairBefore, cases_pair}
 
 pub pair_after : (s t s' t' s'' t'' : ℕ) → PairBefore s t s' t' → PairBefore s' t' s'' t'' → PairBefore s t s'' t''
 pair_after s t s' t' s'' t'' (inl a) (inl b) = inl (omega arith)

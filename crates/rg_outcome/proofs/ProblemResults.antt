@@ -44,7 +44,7 @@ use Rattle.rg_case_folds.proofs.ColumnValues.{count_is}
 use Rattle.rg_outcome.specs.Casing.{CaseResult, CaseResult.makes, CaseResult.refutes, CaseResult.passes, LeafWide, spread_tree, step_at, term_at, CaseComes, CaseComes.row_passes, CaseComes.pivot_passes, CaseComes.place_passes, CaseComes.place_is_made, CaseComes.leaf_passes, CaseComes.is_refuted}
 use Rattle.rg_outcome.specs.Solving.{Solved, Solved.placed, Solved.refuted, Solved.passed, CasesCome, CasesCome.first_place, CasesCome.all_refuted, CasesCome.first_term, ProblemComes}
 use Rattle.rg_outcome.specs.Coming.{HasResults}
-use Rattle.rg_decided.proofs.Deciding.{Decided, find_number}
+use Rattle.rg_theory.proofs.Deciding.{Decided, find_number}
 use Rattle.rg_outcome.proofs.Cases.{same_result}
 use Rattle.rg_outcome.proofs.Inseparable.{asked}
 use Rattle.rg_outcome.proofs.Steps.{HasSome, Each, IsOver, whole_over, some_ratio}

@@ -10,7 +10,7 @@ use Rattle.rg_case_folds.specs.Shown.{Shown}
 use Rattle.rg_outcome.specs.Solving.{Solved, Solved.placed, Solved.refuted, Solved.passed}
 use Rattle.rg_outcome.specs.Coming.{Separation, Separation.places, Separation.unsolvable, Separation.too_wide, IsSeparated, IsLeft, IsBehind, IsNext, ComesFrom, ComesFrom.keeps, ComesFrom.goes_on, ComesFrom.ends, ComesFrom.all_separated, ComesFrom.one_is_left, AllComeTo, IsOneResult, RefutedStay, IsRefutedIn, IsFirstRefuted, IsMade, Says}
 use Rattle.rg_outcome.proofs.Ordering.{cases_order, first_is_one}
-use Rattle.rg_decided.proofs.Deciding.{Decided}
+use Rattle.rg_theory.proofs.Deciding.{Decided}
 use Rattle.rg_outcome.proofs.Decided.{behind_is_decided}
 
 -- the place separates no problem that is refuted

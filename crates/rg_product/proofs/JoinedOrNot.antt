@@ -2,7 +2,7 @@
 use Rattle.std.proofs.Common.{◌≡◌, ◌⊎◌, inl, inr, ℕ, List, [], ◌∷◌, Contains, refl, sym, subst, ◌∙◌}
 use Rattle.std.proofs.lemmas.Bool.{cases_eq}
 use Rattle.rg_theory.proofs.Lists.{Contains-cons_cases}
-use Rattle.rg_decided.proofs.Deciding.{Decided, first_there, later_there, none_there}
+use Rattle.rg_theory.proofs.Deciding.{Decided, first_there, later_there, none_there}
 use Rattle.rg_product.specs.Squares.{Broken, broken_at}
 use Rattle.rg_product.specs.Blocks.{Joined, Joined.pair, Joined.same, Joined.turned, Joined.through, HaveOneOf}
 use Rattle.rg_product.proofs.ProductSquares.{joined_more}

@@ -4,7 +4,7 @@ use Rattle.std.proofs.lemmas.List.Elements.{Contains-append_left, Contains-appen
 use Rattle.std.proofs.lemmas.Bool.{cases_lt}
 use Rattle.std.proofs.lemmas.List.Kept.{AllPairs-cons}
 use Rattle.rg_theory.proofs.Lists.{Contains-cons_cases}
-use Rattle.rg_decided.proofs.Deciding.{Decided, first_there, later_there, none_there}
+use Rattle.rg_theory.proofs.Deciding.{Decided, first_there, later_there, none_there}
 
 pub record AreKept {X : Type 0} (R : X → X → Type 0) (P : X → Type 0) (xs ys : List X) : Type 0 where
   pub members : (x : X) → Contains ys x ↔ (Contains xs x × P x)

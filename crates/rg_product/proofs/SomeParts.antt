@@ -8,8 +8,8 @@ use Rattle.rg_theory.specs.System.{System, states, arc, IsArcInRange, Leads, IsI
 use Rattle.rg_theory.proofs.Arcs.{arc_in_range}
 use Rattle.rg_theory.proofs.Lists.{Contains-cons_cases}
 use Rattle.rg_line_formats.proofs.Parts.{some_with}
-use Rattle.rg_decided.proofs.Deciding.{Decided, first_there, later_there, none_there, there_or_not, all_where}
-use Rattle.rg_decided.proofs.Reaching.{reached_or_not}
+use Rattle.rg_theory.proofs.Deciding.{Decided, first_there, later_there, none_there, there_or_not, all_where}
+use Rattle.rg_theory.proofs.Reaching.{reached_or_not}
 use Rattle.rg_product.specs.Product.{Factor, name_at}
 use Rattle.rg_product.specs.Factoring.{LeadsBy, IsReachedBy, AreReachedBy, IsPart, AreFactors}
 use Rattle.rg_product.proofs.Ordered.{place_of, there_at, one_place}

@@ -8,10 +8,10 @@ use Rattle.rg_checks.specs.declared.lost.Loss.{Loss}
 use Rattle.rg_checks.specs.Flaws.{IsFirstFork}
 use Rattle.rg_checks.specs.Persistent.{HasStep, IsLost, IsPersistent, IsLostBefore, IsLeastLost}
 use Rattle.rg_checks.specs.Reversible.{LeadsBack, IsReversible, IsLeastStranded}
-use Rattle.rg_decided.proofs.Deciding.{Decided, both_decided, not_decided, holds, PairBefore, find_number, find_pair}
-use Rattle.rg_decided.proofs.Growing.{has_arc}
-use Rattle.rg_decided.proofs.Reaching.{reached_or_not, all_reached_or_not, leads_or_not}
-use Rattle.rg_decided.proofs.Forking.{some_fork}
+use Rattle.rg_theory.proofs.Deciding.{Decided, both_decided, not_decided, holds, PairBefore, find_number, find_pair}
+use Rattle.rg_theory.proofs.Growing.{has_arc}
+use Rattle.rg_theory.proofs.Reaching.{reached_or_not, all_reached_or_not, leads_or_not}
+use Rattle.rg_theory.proofs.Forking.{some_fork}
 use Rattle.rg_report.specs.Examined.{Examination, IsExamined}
 
 -- what is found of one property: the counterexample that there is, or none

@@ -147,6 +147,14 @@ impl Tree {
     }
 }
 
+// Asks that values of a type may move to another thread, and that threads may share them.
+fn crosses_threads<T: Send + Sync>() {}
+
+// Trees cross threads.
+fn trees_cross_threads() {
+    crosses_threads::<Tree>()
+}
+
 // The source's count, and one where the chord has the label, less the target's.
 fn difference(source: u32, own: bool, target: u32) -> i128
     ensures { result ≡ (pos source +ℤ (if own then pos 1 else pos 0)) -ℤ pos target }

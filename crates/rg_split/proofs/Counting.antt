@@ -22,7 +22,7 @@ use Rattle.rg_cert_meaning.specs.Refutes.{NamedRow, IsMultiplier, coefficient_su
 use Rattle.rg_cert_meaning.proofs.Rows.{Says-times}
 use Rattle.rg_cert_meaning.proofs.Sums.{no_contradiction}
 use Rattle.rg_case_folds.specs.Spreading.{arc_name}
-use Rattle.rg_decided.proofs.Deciding.{Decided, find_number}
+use Rattle.rg_theory.proofs.Deciding.{Decided, find_number}
 use Rattle.rg_split.specs.Parts.{arc_multiplier, Counts}
 use Rattle.rg_split.proofs.ArcSums.{is_arc, IsArcOf, parted, others, sum_of_others, others_have}
 use Rattle.rg_split.proofs.Signs.{some_positive, some_negative}

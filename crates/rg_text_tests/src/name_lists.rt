@@ -1,5 +1,5 @@
 //! Lists of names, also where names have one digest, and where all have one slot.
-use rg_names::NameList;
+use rg_lts::NameList;
 use std::alloc::{AllocError, Global};
 use std::process::Abort;
 

@@ -7,7 +7,7 @@ use Rattle.rg_checks.specs.declared.flaw.Flaw.{Flaw}
 use Rattle.rg_checks.specs.Flaws.{IsFlawless, IsFirstFlaw}
 use Rattle.rg_theory.specs.declared.Class.{Class}
 use Rattle.rg_theory.specs.ClassWords.{HasNumbersInRange}
-use Rattle.rg_decided.proofs.Deciding.{each_or_first}
+use Rattle.rg_theory.proofs.Deciding.{each_or_first}
 use Rattle.rg_cert_meaning.specs.Refutes.{Reason}
 use Rattle.rg_case_folds.specs.Shown.{Shown}
 use Rattle.rg_outcome.specs.Outcome.{Out, Answer, Answer.net as of_net, Answer.unsolvable as of_reason, Answer.too_wide as of_term}

@@ -6,7 +6,7 @@ use Rattle.rg_theory.specs.System.{System, IsInRange, states, labels}
 use Rattle.rg_checks.specs.declared.flaw.Flaw.{Flaw}
 use Rattle.rg_checks.specs.Flaws.{IsFlawless, IsFirstFlaw}
 use Rattle.rg_checks.proofs.FirstFlaws.{not_flawless}
-use Rattle.rg_decided.proofs.Deciding.{each_or_first}
+use Rattle.rg_theory.proofs.Deciding.{each_or_first}
 use Rattle.rg_lts.specs.WellFormed.{IsWellFormed}
 use Rattle.rg_genet.specs.Loss.{has_label, is_on_arc, IsLabelKept, IsFirstDead, IsFirstLost}
 use Rattle.rg_iso.specs.Isomorphic.{AreIsomorphic}

@@ -7,7 +7,7 @@ use Rattle.std.proofs.lemmas.List.Sums.{sum_by-cons}
 use Rattle.std.proofs.lemmas.List.Elements.{All-nil, All-cons, All-head, All-tail}
 use Rattle.rg_integers.specs.Range.{greatest}
 use Rattle.rg_theory.specs.System.{System, states, labels}
-use Rattle.rg_decided.proofs.Deciding.{Decided, not_decided, holds, find_number}
+use Rattle.rg_theory.proofs.Deciding.{Decided, not_decided, holds, find_number}
 use Rattle.rg_cert_meaning.specs.Expression.{Term, Expression, same_variable, coefficient_in}
 use Rattle.rg_cert_meaning.proofs.Sums.{same_variable_is}
 use Rattle.rg_cert_meaning.specs.declared.RowName.{RowName}

@@ -10,9 +10,9 @@ use Rattle.rg_theory.specs.declared.Problem.{Problem}
 use Rattle.rg_theory.specs.declared.Problem.TheVariants.{Event, States}
 use Rattle.rg_theory.proofs.Arcs.{find_arc}
 use Rattle.rg_theory.proofs.Closed.{stays_inside, reached_more}
-use Rattle.rg_decided.proofs.Deciding.{Decided, both_decided}
-use Rattle.rg_decided.proofs.Growing.{has_arc}
-use Rattle.rg_decided.proofs.Reaching.{reached_or_not}
+use Rattle.rg_theory.proofs.Deciding.{Decided, both_decided}
+use Rattle.rg_theory.proofs.Growing.{has_arc}
+use Rattle.rg_theory.proofs.Reaching.{reached_or_not}
 use Rattle.rg_cert_meaning.specs.Row.{FormStands, RowStands, row_expression, cases_of, Side}
 use Rattle.rg_branch_trees.specs.Trees.{Tree.leaf, Tree.split, TreeNode.leaf_node, TreeNode.split_node, preorder, low_side, high_side, placed_nodes}
 use Rattle.rg_cert_meaning.specs.Refutes.{NamedRow, Tree, TreeRefutes, IsSeparationProblem, IsRefuted, Accepts}

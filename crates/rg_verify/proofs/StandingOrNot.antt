@@ -8,8 +8,8 @@ use Rattle.rg_theory.specs.declared.Class.{Class}
 use Rattle.rg_theory.specs.declared.Problem.{Problem}
 use Rattle.rg_theory.specs.declared.Problem.TheVariants.{Event, States}
 use Rattle.rg_theory.proofs.Arcs.{find_arc}
-use Rattle.rg_decided.proofs.Deciding.{Decided, both_decided, not_decided}
-use Rattle.rg_decided.proofs.Growing.{has_arc}
+use Rattle.rg_theory.proofs.Deciding.{Decided, both_decided, not_decided}
+use Rattle.rg_theory.proofs.Growing.{has_arc}
 use Rattle.rg_cert_meaning.specs.declared.RowName.{RowName}
 use Rattle.rg_cert_meaning.specs.declared.RowName.TheVariants as row_name
 use Rattle.rg_cert_meaning.specs.declared.Form.{Form}

@@ -1,6 +1,6 @@
 //! The slots of names.
 ghost use Rattle.std.specs.Prelude.{◌≡◌, ◌↔◌, ℕ, ◌<◌, IsTrue, List, Some, None, IfSome, IfNone, OnOk, OnErr, ◌∷◌, [], ◌++◌, length, map, string_bytes, slice_get, slice_index_or};
-ghost use Rattle.rg_names.specs.Slots.{digest, slot_of, NumberMap, IsInSlot, IsIndexed};
+ghost use Rattle.rg_lts.specs.Slots.{digest, slot_of, NumberMap, IsInSlot, IsIndexed};
 
 use std::alloc::{AllocError, Global};
 use std::collections::BTreeMap;

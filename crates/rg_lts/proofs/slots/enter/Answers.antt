@@ -2,8 +2,8 @@
 use Rattle.std.proofs.Common.{◌≡◌, sym, subst, Some, cond, bytes_eq, string_bytes}
 use Rattle.std.specs.BTreeMap.{get_by_text}
 use Rattle.std.proofs.lemmas.Map.Text.{btree_map_updates_text}
-use Rattle.rg_names.proofs.Entering.{entered_in_map}
-use Rattle.rg_names.proofs.slots.enter.Goals as goal
+use Rattle.rg_lts.proofs.Entering.{entered_in_map}
+use Rattle.rg_lts.proofs.slots.enter.Goals as goal
 
 pub returns-in_ok-insert-clause-ok : goal.returns-in_ok-insert-clause-ok
 returns-in_ok-insert-clause-ok c = λ names same indexed.

@@ -1,7 +1,5 @@
 //! What is decided of each system in range: its breadth first tree, whether all states can be reached, and whether a label leads from
 //! a state to two. The functions here do nothing: each contract is a law.
-#![tactic(auto)]
-
 ghost use Rattle.std.specs.Prelude.{ℕ, ◌⊎◌, List};
 ghost use Rattle.rg_theory.specs.declared.Arc.{Arc};
 ghost use Rattle.rg_theory.specs.System.{System, IsInRange, IsAllReachable, IsLeastUnreachable, IsForkFree, IsLeastFork};

@@ -1,9 +1,9 @@
 -- What the map has.
 use Rattle.std.proofs.Common.{◌≡◌, ◌∙◌, subst, map, string_bytes, ℕ}
 use Rattle.std.specs.BTreeMap.{get_by_text}
-use Rattle.rg_names.specs.Slots.{IsInSlot}
-use Rattle.rg_names.proofs.Entering.{found_in_map, index_in_map, lacks}
-use Rattle.rg_names.proofs.name_list.NameList.number_of.Goals as goal
+use Rattle.rg_lts.specs.Slots.{IsInSlot}
+use Rattle.rg_lts.proofs.Entering.{found_in_map, index_in_map, lacks}
+use Rattle.rg_lts.proofs.name_list.NameList.number_of.Goals as goal
 
 pub returns-in-None-clause-found : goal.returns-in-None-clause-found
 returns-in-None-clause-found c =

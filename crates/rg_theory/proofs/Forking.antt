@@ -3,8 +3,8 @@ use Rattle.std.proofs.Common.{◌≡◌, ◌⊎◌, inl, inr, ℕ, ◌<◌, ◌�
 use Rattle.std.proofs.lemmas.Bool.{cases_lt}
 use Rattle.rg_theory.specs.System.{System, states, labels, HasArc, IsInRange, IsForkFree, IsLeastFork}
 use Rattle.rg_theory.proofs.Arcs.{arc_in_range}
-use Rattle.rg_decided.proofs.Deciding.{Decided, PairBefore, find_number, find_pair}
-use Rattle.rg_decided.proofs.Growing.{has_arc}
+use Rattle.rg_theory.proofs.Deciding.{Decided, PairBefore, find_number, find_pair}
+use Rattle.rg_theory.proofs.Growing.{has_arc}
 
 module _ (lts : System) (fine : IsInRange lts) where
   -- the least target of label t at s, and the least one above it

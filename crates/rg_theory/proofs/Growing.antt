@@ -8,7 +8,7 @@ use Rattle.rg_theory.specs.declared.Arc.{Arc}
 use Rattle.rg_theory.specs.System.{System, states, labels, HasArc, IsInRange, IsArcBefore}
 use Rattle.rg_theory.specs.Tree.{Joins, Grows, IsTree}
 use Rattle.rg_theory.proofs.Arcs.{arc_in_range}
-use Rattle.rg_decided.proofs.Deciding.{Decided, both_decided, not_decided, there_or_not, less_one, PairBefore, cases_pair, find_number, find_pair, all_where}
+use Rattle.rg_theory.proofs.Deciding.{Decided, both_decided, not_decided, there_or_not, less_one, PairBefore, cases_pair, find_number, find_pair, all_where}
 
 -- ---- arcs
 

@@ -19,7 +19,7 @@ pub struct NameList {
 
 impl Model for NameList {
     ghost use Rattle.std.specs.Prelude.{ℕ, List, map, string_bytes};
-    ghost use Rattle.rg_names.specs.Slots.{IsIndexed};
+    ghost use Rattle.rg_lts.specs.Slots.{IsIndexed};
 
     ghost Value = { List (List ℕ) };
 

@@ -5,8 +5,8 @@ use Rattle.rg_theory.specs.declared.Arc.{Arc}
 use Rattle.rg_theory.specs.System.{System, states, Leads, IsInRange, IsReachable, IsAllReachable, IsLeastUnreachable}
 use Rattle.rg_theory.specs.Tree.{IsTree, tree_order}
 use Rattle.rg_theory.proofs.Trees.{reachable_is_met, met_is_reachable}
-use Rattle.rg_decided.proofs.Deciding.{Decided, not_decided, holds, there_or_not, find_number}
-use Rattle.rg_decided.proofs.Growing.{some_tree}
+use Rattle.rg_theory.proofs.Deciding.{Decided, not_decided, holds, there_or_not, find_number}
+use Rattle.rg_theory.proofs.Growing.{some_tree}
 
 pub reached_or_not : (lts : System) → IsInRange lts → (s : ℕ) → Decided (IsReachable lts s)
 reached_or_not lts fine s = let (tree, is) = some_tree lts fine in by tree is (there_or_not cases_eq (tree_order lts tree) s)

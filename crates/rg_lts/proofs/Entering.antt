@@ -5,7 +5,7 @@ use Rattle.std.proofs.lemmas.List.Elements.{Contains-push_cases}
 use Rattle.std.proofs.lemmas.Option.{slice_get_within, slice_get-get_or, get_or_from_slice_get}
 use Rattle.std.proofs.lemmas.Slice.Eq.{bytes_eq-Decides}
 use Rattle.std.specs.BTreeMap.{get_by_text}
-use Rattle.rg_names.specs.Slots.{slot_of, NumberMap, IsInSlot, IsIndexed}
+use Rattle.rg_lts.specs.Slots.{slot_of, NumberMap, IsInSlot, IsIndexed}
 
 abbrev Names : Type 0
 Names = List (List ℕ)

@@ -1,4 +1,0 @@
-pub mod Deciding
-pub mod Growing
-pub mod Reaching
-pub mod Forking

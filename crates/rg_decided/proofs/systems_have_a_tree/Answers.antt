@@ -1,5 +1,0 @@
-use Rattle.rg_decided.proofs.Growing.{some_tree}
-use Rattle.rg_decided.proofs.systems_have_a_tree.Goals as goal
-
-pub returns : goal.returns
-returns c = some_tree
