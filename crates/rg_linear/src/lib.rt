@@ -2,7 +2,7 @@
 //! over them, exchanges, and the order of work on a system.
 //!
 //! A point is a value for each variable over one positive scale, so every equation is read multiplied
-//! out and no rational number is needed. Each function here has an empty body: its contract is a law.
+//! out and no rational number is needed. Each function of this file has an empty body: its contract is a law.
 //!
 //! Relations over a free set are the rows of a dictionary of linear programming (Chvátal, *Linear
 //! Programming*), and an exchange is its pivot. Here every relation is kept in whole numbers without a

@@ -14,15 +14,10 @@ use Rattle.rg_linear.specs.Norm.{row_norm}
 use Rattle.rg_linear.proofs.Members.{equal_or_not, differs, same}
 use Rattle.rg_revised.specs.Reading.{IsSmallRow, IsAdded}
 use Rattle.rg_revised.specs.Long.{IsSummable}
-use Rattle.rg_revised.proofs.Small.{abs-sum, total-times}
-
-pub total_part : (n t : ℕ) (g : ℕ → ℕ) → t ≤ n → total t g ≤ total n g
-total_part zero t g le = let e : t ≡ 0 = omega arith in subst (λ x. total x g ≤ 0) (sym e) (omega arith)
-total_part (suc n) t g le = ⊎_elim (λ e. subst (λ x. total x g ≤ total (suc n) g) (sym e) (le_refl (total (suc n) g))) (λ ne. let ih = total_part n t g (omega arith) in omega arith)
-    (equal_or_not t (suc n))
+use Rattle.rg_revised.proofs.Small.{abs-sum, total-times, total_more}
 
 pub total_one : (n t : ℕ) (g : ℕ → ℕ) → t < n → g t ≤ total n g
-total_one n t g lt = let le = total_part n (suc t) g lt in omega arith
+total_one n t g lt = let le = total_more (suc t) n g lt in omega arith
 
 pub fits_64 : (z : ℤ) → unsigned_abs z < 2 ^ 63 → FitsSigned w64 z
 fits_64 z h = fits_signed_from_abs w64 z h
@@ -34,7 +29,7 @@ part_size most coeffs x n le each = le_trans
     (subst (λ m. unsigned_abs (sum_below n (λ t. number_at coeffs t *ℤ x t)) ≤ m) (total-times n (λ t. unsigned_abs (number_at coeffs t)) most)
     (abs-sum n (λ t. number_at coeffs t *ℤ x t) (λ t. unsigned_abs (number_at coeffs t) * most)
     (λ t lt. abs-times (number_at coeffs t) (x t) (unsigned_abs (number_at coeffs t)) most (le_refl (unsigned_abs (number_at coeffs t))) (each t (omega arith)))))
-    (mul-le-mul (total_part (length coeffs) n (λ t. unsigned_abs (number_at coeffs t)) le) (le_refl most))
+    (mul-le-mul (total_more n (length coeffs) (λ t. unsigned_abs (number_at coeffs t)) le) (le_refl most))
 
 -- that over all, with a share of the constant
 whole_size : (most : ℕ) (coeffs : List ℤ) (constant : ℤ) (x : ℕ → ℤ) (d : ℤ) → ((t : ℕ) → t < length coeffs → unsigned_abs (x t) ≤ most) → unsigned_abs d ≤ most

@@ -33,7 +33,7 @@ sized n a x b each = subst (λ m. unsigned_abs (sum_below n (λ j. a j *ℤ x j)
 
 -- ---- a row's norm is over its coefficients, of which those behind the last column aren't counted, and those that are missing are 0
 
-total_more : (n m : ℕ) (f : ℕ → ℕ) → n ≤ m → total n f ≤ total m f
+pub total_more : (n m : ℕ) (f : ℕ → ℕ) → n ≤ m → total n f ≤ total m f
 total_more n zero f le = let e : n ≡ 0 = omega arith in subst (λ k. total k f ≤ 0) (sym e) (le_refl 0)
 total_more n (suc m) f le = go (total_more n m f) (cases_lt m n)
   where

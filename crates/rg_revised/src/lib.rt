@@ -1,6 +1,6 @@
 //! The revised dictionary: the relations of a system's columns over a free set, over one denominator. Those of the rows
-//! are computed from them (the revised simplex method: Chvátal, *Linear Programming*). Each function here has an empty
-//! body: its contract is a law.
+//! are computed from them (the revised simplex method: Chvátal, *Linear Programming*). Each function of this file has an
+//! empty body: its contract is a law.
 #![tactic(auto)]
 
 mod basis;

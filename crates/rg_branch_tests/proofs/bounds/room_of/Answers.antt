@@ -5,7 +5,7 @@ use Rattle.std.proofs.lemmas.Int.{to_z-of_z}
 use Rattle.rg_linear.specs.Room.{gap}
 use Rattle.rg_branch.specs.declared.bounded.Bounded.{Bounded}
 use Rattle.rg_branch.specs.View.{forms_of}
-use Rattle.rg_revised.proofs.Sizes.{total_part}
+use Rattle.rg_revised.proofs.Small.{total_more}
 use Rattle.rg_branch_tests.proofs.Bounding.{one_more_gap, room_is}
 use Rattle.rg_branch_tests.proofs.bounds.room_of.Goals as goal
 
@@ -21,7 +21,7 @@ returns-in_default-clause-none c =
     let ordered : form.low ≤ℤ form.high = subst (λ (b : Bounded). b.low ≤ℤ b.high) (sym c.form-item.is) (c.requires.ordered i form lt) in
     let over : 2 ^ 64 ≤ c.loop-form.room + c.gap.result = search rules in
     let next = one_more_gap forms i c.gap.result form lt c.form-item.is (size ordered) in
-    let most = total_part (length forms) (i + 1) (gap (forms_of forms) []) (omega arith) in
+    let most = total_more (i + 1) (length forms) (gap (forms_of forms) []) (omega arith) in
     let is = room_is forms in
     let here = c.loop-form.invariant in
     omega arith
