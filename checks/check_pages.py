@@ -8,7 +8,7 @@ Of README.md, docs/, docs/dev/ and the README.md of bench/, checks/, tools/ and 
   paths   each path in backquotes and each target of a link exists, and so does the heading after a `#`
   counts  "N cases", "N must-fail edits", "N files and M lines" of definitions and the like are what is counted
   pairs   of "`NAME` in `PATH`" and "`NAME` of `CRATE`" the file or the crate has the name
-  cases   the cases that docs/dev/contributing.md names are in the file that it names with them
+  cases   the cases and tests that checks/wrong_bodies.tsv names are in the files that it names with them
   lines   docs/messages.md has each fault of a file that a case expects, as a whole
   trusted the crates that docs/proof.md lists as trusted are those of crates.txt that have no folder in crates/
   width   no line of prose has more than 120 characters
@@ -27,8 +27,8 @@ PAGES = sorted(['README.md', 'bench/README.md', 'checks/README.md', 'tools/READM
 # what the pages say of other tools and of the outside
 ELSEWHERE = {'OpenSSL', 'GitHub', 'LibreOffice', 'write_sg', 'a_minus', 'a_plus_1', 'a_plus_2', 'a_toggle', 'gI_J', 'gI_', 'k_j'}
 AVOIDED = re.compile(r'\b(noes|is due|tells?|told|telling|stands?|standing|stood|behind|beside)\b', re.IGNORECASE)
-# whose table has names of cases without backquotes
-CASE_NAMES = 'docs/dev/contributing.md'
+# whose lines name cases and tests
+WRONG_BODIES = 'checks/wrong_bodies.tsv'
 
 
 def read(path):
@@ -132,7 +132,7 @@ def cases_in(name):
 
 def check_cases(page, text):
     for number, line in prose(text):
-        for name, said in re.findall(r'`(\w+\.cases)`: ((?:(?!`\w+\.cases`)[^|])*)', line):
+        for name, said in re.findall(r'`(\w+\.cases)`: ((?:(?!`\w+\.cases`)[^\t])*)', line):
             cases = cases_in(name)
             for part in said.strip().rstrip(';').split('; '):
                 words = re.sub(r'^(of|for) .*', '', part.strip().rstrip(',')).strip()
@@ -191,8 +191,6 @@ def check_style(page, text):
     for number, line in prose(text):
         if len(line) > 120 and not line.lstrip().startswith('|'):
             yield f'{page}:{number}: {len(line)} characters'
-        if page == CASE_NAMES and line.lstrip().startswith('|'):
-            continue
         for found in AVOIDED.finditer(re.sub(r'`[^`]*`', '', line)):
             yield f'{page}:{number}: {found.group(0)}'
 
@@ -215,7 +213,8 @@ def main():
             found += check_paths(page, text)
             found += check_shown(page, text)
             found += check_pairs(page, text)
-    found += check_cases(CASE_NAMES, read(CASE_NAMES))
+    found += check_cases(WRONG_BODIES, read(WRONG_BODIES))
+    found += check_names(WRONG_BODIES, read(WRONG_BODIES), words)
     found += check_messages(read('docs/messages.md'))
     found += check_trusted(read('docs/proof.md'))
     print('\n'.join(found) if found else f'{len(PAGES)} pages agree')
