@@ -3,10 +3,9 @@
 
     bench/pictures.py PROGRAM                  all pictures (Graphviz's `dot` draws the graphs)
 
-Systems and nets are drawn by tools/lts2dot.awk and tools/net2dot.awk from what PROGRAM writes; the layers come from crates.txt, the
-plots from the tables of docs/performance.md.
+Systems and nets are drawn by tools/lts2dot.awk and tools/net2dot.awk from what PROGRAM writes, the plots from the tables in
+bench/measured.
 """
-import itertools
 import math
 import os
 import re
@@ -87,49 +86,52 @@ def certificate():
 
 
 def chain():
-    """The way from the command line to the answer: what is proved, tested and trusted."""
-    draw('chain', '''digraph chain {
-  rankdir=LR; node [shape=box, style=filled, fontsize=11];
-  subgraph proved { node [fillcolor="#cfe8cf"]; words [label="words\\n(clap)"]; reader; solver; answer [label="net or\\ncertificate"]; text; }
-  subgraph tested { node [fillcolor="#fdf2c0"]; main; shelf [label="FolderShelf"]; sink [label="StdSink"]; }
-  subgraph trusted { node [fillcolor="#f3d0d0"]; system [label="operating system,\\nC library, LLVM"]; prover [label="Rattle: prover,\\ncompilers, libraries"]; }
-  system -> main -> words -> reader -> solver -> answer -> text -> sink -> out [arrowhead=normal];
-  out [label="standard\\noutput", fillcolor="#f3d0d0"];
-  system -> shelf -> reader;
-  legend [shape=plaintext, style="", label="green: proved   yellow: tested   red: trusted"];
-  prover -> solver [style=dotted, label="checks all green boxes"];
+    """The way from the command line to the answer, in three rows: what is proved, what is tested, what is trusted."""
+    rows = (('proved', '#cfe8cf', ('words: what they ask', 'files: what they spell', 'solver: yes or no', 'net or certificate', 'judges: check, verify', 'text that is written')),
+            ('tested', '#fdf2c0', ('main, exit status', 'FolderShelf: real files', 'StdSink: standard', 'output and error', 'threads that run', 'verdicts of selftest')),
+            ('trusted', '#f3d0d0', ('operating system', 'C library, LLVM', 'Rattle: prover', 'and compilers', 'its standard library', 'clap, serde_json, ..')))
+    body = []
+    for k, (title, color, words) in enumerate(rows):
+        top = 10 + 70 * k
+        body.append(f'<rect x="80" y="{top}" width="650" height="60" fill="{color}" stroke="#999"/>'
+                    f'<text x="10" y="{top + 34}" font-size="13" font-weight="bold">{title}</text>')
+        for i, word in enumerate(words):
+            body.append(f'<text x="{100 + 215 * (i // 2)}" y="{top + 24 + 22 * (i % 2)}" font-size="13">{word}</text>')
+    save('chain', svg_of(740, 225, body))
+
+
+def classes():
+    """The classes without numbers: an arrow leads to a class that admits more nets."""
+    words = ('pure', 'plain', 'safe')
+    sets = [tuple(w for i, w in enumerate(words) if k >> i & 1) for k in range(8)]
+    name = lambda chosen: ','.join(chosen) or 'none'
+    arrows = [f'  "{name(more)}" -> "{name(less)}";' for more in sets for less in sets if set(less) < set(more) and len(more) == len(less) + 1]
+    arrows.append('  "safe" -> "2-bounded" -> "3-bounded" -> "none";')
+    arrows.remove('  "safe" -> "none";')
+    draw('classes', 'digraph classes {\n  rankdir=BT; bgcolor=white; node [shape=box, fontname=monospace, fontsize=11];\n' + '\n'.join(arrows) + '\n}\n')
+
+
+def square():
+    """Two labels with a square at s, and two with a broken one."""
+    draw('square', '''digraph square {
+  rankdir=LR; bgcolor=white; node [shape=circle, fontsize=11];
+  s -> s1 [label="t"]; s -> s2 [label="u"]; s1 -> s3 [label="u"]; s2 -> s3 [label="t"];
+  q -> q1 [label="t"]; q -> q2 [label="u"]; q1 -> q3 [label="u"];
 }
 ''')
-
-
-def layers():
-    """The crates of the product by the sections of crates.txt, lowest first."""
-    sections, tests = [], ('# what tests share', '# tests of single calls', '# cases of whole runs', '# measure')
-    for line in open(os.path.join(TOP, 'crates.txt'), encoding='ascii'):
-        line = line.rstrip('\n')
-        if line.startswith('#'):
-            sections.append((line[2:], []))
-        elif line:
-            sections[-1][1].append(line.split(':')[0])
-    kept = [(title, crates) for title, crates in sections if crates and not ('# ' + title).startswith(tests) and not any('test' in c or 'bench' in c for c in crates)]
-    boxes = [f'  s{i} [label="{title}\\n{", ".join(c.removeprefix("rg_") for c in crates)}"];' for i, (title, crates) in enumerate(kept)]
-    arrows = [f'  s{i + 1} -> s{i} [style=invis];' for i in range(len(kept) - 1)]
-    draw('layers', 'digraph layers {\n  ranksep=0.1; node [shape=box, width=9, fontsize=11];\n' + '\n'.join(boxes + arrows) + '\n}\n')
 
 
 # ---- plots
 
 def svg_of(width, height, body):
-    return f'<svg xmlns="http://www.w3.org/2000/svg" width="{width}" height="{height}" font-family="sans-serif" font-size="11">\n' + '\n'.join(body) + '\n</svg>\n'
+    return f'<svg xmlns="http://www.w3.org/2000/svg" width="{width}" height="{height}" font-family="sans-serif" font-size="11">\n<rect width="100%" height="100%" fill="white"/>\n' + '\n'.join(body) + '\n</svg>\n'
 
 
-def table_rows(heading):
-    """The head and the rows of the first table below a heading of docs/performance.md."""
-    text = open(os.path.join(TOP, 'docs', 'performance.md'), encoding='utf-8').read()
-    lines = itertools.dropwhile(lambda line: not line.startswith('|'), text[text.index(heading):].split('\n'))
-    table = itertools.takewhile(lambda line: line.startswith('|'), lines)
-    rows = [[cell.strip() for cell in line.strip('|').split('|')] for line in table]
-    return rows[0], rows[2:]
+def table_rows(name):
+    """The head and the rows of a table of bench/measured."""
+    with open(os.path.join(TOP, 'bench', 'measured', name + '.tsv'), encoding='utf-8') as file:
+        rows = [line.rstrip('\n').split('\t') for line in file]
+    return rows[0], rows[1:]
 
 
 def panel(left, top, title, horizontal, exponents, points):
@@ -141,10 +143,11 @@ def panel(left, top, title, horizontal, exponents, points):
             f'<text x="{left + width / 2:.0f}" y="{top - 6}" text-anchor="middle">{title}</text>',
             f'<text x="{left + width / 2:.0f}" y="{top + height + 30}" text-anchor="middle">{horizontal}</text>']
     for k in range(math.ceil(low), math.floor(high) + 1):
-        body.append(f'<text x="{x(10 ** k):.0f}" y="{top + height + 14}" text-anchor="middle">{10 ** k:,}</text>')
+        body.append(f'<text x="{x(10 ** k):.0f}" y="{top + height + 14}" text-anchor="middle">10<tspan dy="-4" font-size="8">{k}</tspan></text>')
     for k in (0.01, 0.1, 1, 10):
         body.append(f'<text x="{left - 4}" y="{y(k) + 4:.0f}" text-anchor="end">{k} s</text>'
                     f'<line x1="{left}" x2="{left + width}" y1="{y(k):.0f}" y2="{y(k):.0f}" stroke="#ddd"/>')
+    body.append(f'<text x="{left - 4}" y="{y(0.005) + 4:.0f}" text-anchor="end">less</text>')
     for n, seconds, color, mark in points:
         at, up = x(n), y(seconds)
         body.append({'dot': f'<circle cx="{at:.1f}" cy="{up:.1f}" r="3" fill="{color}"/>',
@@ -158,7 +161,7 @@ def panel(left, top, title, horizontal, exponents, points):
 
 def second_method():
     """Seconds over the number of problems, of this program and of the second method, a panel for each class."""
-    head, rows = table_rows('## Measured: a second method')
+    head, rows = table_rows('second-method')
     body = [f'<text x="60" y="16" fill="{COLORS[0]}">regions (a cross: status 4)</text>'
             f'<text x="300" y="16" fill="{COLORS[1]}">second method (a cross: stopped at 20 s)</text>']
     for k, class_word in enumerate(head[3:]):
@@ -176,7 +179,7 @@ def second_method():
 
 def growth():
     """Seconds over the number of labels or states of each family, a panel for each class."""
-    head, rows = table_rows('## Measured: growth')
+    head, rows = table_rows('growth')
     families = list(dict.fromkeys(row[0] for row in rows))
     body = [f'<text x="{60 + 100 * i}" y="16" fill="{COLORS[i]}">{family}</text>' for i, family in enumerate(families)]
     for k, class_word in enumerate(head[4:8]):
@@ -197,7 +200,7 @@ def region():
 
 def speed_up():
     """How many times as fast two and four jobs are as one, for each row of the table of threads with 0.05 seconds at least."""
-    head, rows = table_rows('## Measured: threads')
+    head, rows = table_rows('threads')
     body, height = [], 30
     for row in rows:
         if len(row) != len(head):
@@ -230,11 +233,12 @@ def main():
     peterson(program)
     certificate()
     chain()
-    layers()
+    classes()
+    square()
+    draw_system(program, 'log', ['examples/orders.words', '--from', 'words'])
     region()
     second_method()
-    if '## Measured: growth' in open(os.path.join(TOP, 'docs', 'performance.md'), encoding='utf-8').read():
-        growth()
+    growth()
     speed_up()
 
 
