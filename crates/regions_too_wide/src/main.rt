@@ -1,4 +1,5 @@
-//! The program `regions` again, with another stored run: one that writes a line to standard error and ends with status 4.
+//! The program `regions` again, with another stored run: one that writes a line to standard error and ends with
+//! status 4.
 #![tactic(auto)]
 
 use rg_program::run_program;

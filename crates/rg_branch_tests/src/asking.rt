@@ -84,7 +84,8 @@ fn rows_show_the_bounds(rt: HostRuntime) -> Result<(), AllocError> {
     Ok(())
 }
 
-// The bounds of the first form allow 2^31 - 2 splits. Those of two, a column and two rows are fewer than 2^32 together. One more split is too many.
+// The bounds of the first form allow 2^31 - 2 splits. Those of two, a column and two rows are fewer than 2^32
+// together. One more split is too many.
 #[test]
 fn splits_are_few(rt: HostRuntime) -> Result<(), AllocError> {
     let wide = ToldForm {

@@ -205,9 +205,9 @@ fn room_of(forms: &[Bounded]) -> Option<u64>
     Some(room)
 }
 
-/// Whether `solve_whole` may be called, as far as single rows show: each form is one of the system, its own row
-/// bounds it from below, and its top row from above, all in numbers in range. There is one top for each form, and there
-/// are up to 1,000 forms. Columns, rows and the splits that the bounds allow are fewer than 2^32.
+/// Returns whether `solve_whole` may be called, as far as single rows show: each form is one of the system, its own
+/// row bounds it from below, and its top row from above, all in numbers in range. There is one top for each form, and
+/// there are up to 1,000 forms. Columns, rows and the splits that the bounds allow are fewer than 2^32.
 pub fn can_branch(system: &System, forms: &[Bounded], tops: &[Top]) -> bool
     ensures can { IsTrue result → CanBranch system.now 0 forms.now }
     ensures shown { IsTrue result → AreByRows system.now 0 forms.now tops.now }
@@ -216,8 +216,8 @@ pub fn can_branch(system: &System, forms: &[Bounded], tops: &[Top]) -> bool
     can_branch_after(&JoinedSystem::of(system), forms, 0, tops)
 }
 
-/// The same, for `Solver::solve_whole`, where the rows that the forms and their tops name are counted after the first
-/// `before` rows of the system.
+/// Returns the same, for `Solver::solve_whole`, where the rows that the forms and their tops name are counted after
+/// the first `before` rows of the system.
 pub fn can_branch_after(
     system: &JoinedSystem<'_>,
     forms: &[Bounded],

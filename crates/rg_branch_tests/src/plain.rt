@@ -1,5 +1,5 @@
-//! Branching written plainly: a recursion that copies its rows, and forms computed from the columns, with numbers so small
-//! that none passes.
+//! Branching written plainly: a recursion that copies its rows, and forms computed from the columns, with numbers so
+//! small that none passes.
 ghost use Rattle.std.specs.Prelude.{◌≡◌, ℕ, ◌+◌, ◌≤◌, length, IfOk};
 ghost use Rattle.rg_feasible.specs.Settling.{IsWhole, IsRefutation};
 
@@ -94,7 +94,7 @@ fn first_fraction(forms: &[Bounded], values: &[Fraction]) -> Option<(u32, i64)> 
     None
 }
 
-/// The system of these rows, which are few.
+/// Returns the system of these rows, which are few.
 pub(crate) fn system_of(alloc: Global, columns: u32, rows: &[Row]) -> Result<System, Fail>
     ensures columns { IfOk result (λ s. s.columns ≡ columns) }
     ensures rows { IfOk result (λ s. length s.rows ≡ length rows.now) }
@@ -155,7 +155,8 @@ fn join(
     Ok(nodes)
 }
 
-/// A point at which every form is whole, or a tree that leaves none, with fewer than `depth` splits above a node.
+/// Returns a point at which every form is whole, or a tree that leaves none, with fewer than `depth` splits above a
+/// node.
 pub(crate) fn branching(
     alloc: Global,
     columns: u32,

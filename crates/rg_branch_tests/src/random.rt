@@ -53,7 +53,7 @@ impl Generator {
         Ok(())
     }
 
-    /// A system of so many columns: up to 3 strips, and as many forms, each with two rows that bound it.
+    /// Returns a system of so many columns: up to 3 strips, and as many forms, each with two rows that bound it.
     pub(crate) fn asked(&mut self, alloc: Global, columns: u32) -> Result<Asked, AllocError> {
         let mut asked = Asked {
             rows: Vec::new(alloc),
@@ -82,7 +82,8 @@ impl Generator {
         Ok(sum)
     }
 
-    // Adds a form, a row of which it is a multiple and that bounds it from below, and a row that bounds it from above.
+    // Adds a form, a row of which it is a multiple and that bounds it from below, and a row that bounds it from
+    // above.
     fn add_form(
         &mut self,
         alloc: Global,

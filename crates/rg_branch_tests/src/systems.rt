@@ -53,7 +53,7 @@ fn row(alloc: Global, columns: u32, told: Told) -> Result<Row, AllocError>
     Ok(Row::new(coeffs, keep_in_range(told.constant)))
 }
 
-/// These rows, each of so many coefficients.
+/// Returns these rows, each of so many coefficients.
 pub(crate) fn rows(alloc: Global, columns: u32, told: &[Told]) -> Result<Vec<Row>, AllocError>
     requires { columns + length told.now < 2 ^ 32 }
     ensures count { IfOk result (λ v. length v.items ≡ length told.now) }
@@ -66,7 +66,7 @@ pub(crate) fn rows(alloc: Global, columns: u32, told: &[Told]) -> Result<Vec<Row
     Ok(rows)
 }
 
-/// The system of these rows.
+/// Returns the system of these rows.
 pub(crate) fn system(alloc: Global, columns: u32, told: &[Told]) -> Result<System, AllocError>
     requires { columns + length told.now < 2 ^ 32 }
     ensures columns { IfOk result (λ s. s.columns ≡ columns) }
@@ -76,7 +76,7 @@ pub(crate) fn system(alloc: Global, columns: u32, told: &[Told]) -> Result<Syste
     Ok(System::new(columns, rows))
 }
 
-/// These forms.
+/// Returns these forms.
 pub(crate) fn forms(alloc: Global, told: &[ToldForm]) -> Result<Vec<Bounded>, AllocError> {
     let mut list = Vec::new(alloc);
     for form in told {
@@ -93,7 +93,8 @@ pub(crate) fn forms(alloc: Global, told: &[ToldForm]) -> Result<Vec<Bounded>, Al
     Ok(list)
 }
 
-/// The sides of splits, each the number of its form, the number at which that is split, and whether it is the high side.
+/// Returns the sides of splits, each the number of its form, the number at which that is split, and whether it is the
+/// high side.
 pub(crate) fn sides(
     alloc: Global,
     told: &[(u32, i64, bool)],

@@ -135,8 +135,8 @@ fn branches_on(
     Ok(())
 }
 
-// Branching over the system whose rows are in two lists, the first one with so many of these rows, has this answer. The
-// forms and their tops name rows of the second list.
+// Branching over the system whose rows are in two lists, the first one with so many of these rows, has this answer.
+// The forms and their tops name rows of the second list.
 fn branches_after(
     rt: &(impl Abort + AllocGlobal),
     rows: &[Row],
@@ -393,8 +393,8 @@ const PASSES_BELOW: [Row; 5] = [
     ([0, 1], MOST),
 ];
 
-// On the low side row 1 refutes. On the high side x is 1 + r, with r the row of the split, and so row 3 is -1 + 4*y - 4*r: its exchange with
-// y has the constant of row 4 times 4.
+// On the low side row 1 refutes. On the high side x is 1 + r, with r the row of the split, and so row 3 is -1 + 4*y -
+// 4*r: its exchange with y has the constant of row 4 times 4.
 const PASSING_BELOW: PivotWide = PivotWide {
     pivot: 5,
     leaves: 1,
@@ -414,8 +414,8 @@ fn a_term_passes_below_a_split(rt: HostRuntime) -> Result<(), Fail> {
     branches(&rt, &PASSES_BELOW, &HALF_FORMS, wide)
 }
 
-// 2*x - 1, 1 - 2*x, x and 2^60 - 2^60*x: the point 1/2 is split. The last row is so long that no number of the revised dictionary may pass
-// 3. At the root none does; below it the row of the split brings 2^60.
+// 2*x - 1, 1 - 2*x, x and 2^60 - 2^60*x: the point 1/2 is split. The last row is so long that no number of the
+// revised dictionary may pass 3. At the root none does; below it the row of the split brings 2^60.
 const LONG: i128 = 1152921504606846976;
 
 const LONG_ROWS: [Row; 4] = [([2, 0], -1), ([-2, 0], 1), ([1, 0], 0), ([-LONG, 0], LONG)];
@@ -451,7 +451,8 @@ fn numbers_grow_below_the_root(rt: HostRuntime) -> Result<(), Fail> {
 #[test]
 fn one_solver_serves_one_system_after_the_other(rt: HostRuntime) -> Result<(), Fail> {
     let mut solver = Solver::new(rt.alloc(), 2)?;
-    // one stops at the root, one has a point, the numbers of one grow, one stops below a split, and one has splits below splits
+    // one stops at the root, one has a point, the numbers of one grow, one stops below a split, and one has splits
+    // below splits
     serves_rows(&rt, &mut solver, &LARGE, &LARGE_FORMS)?;
     serves_rows(&rt, &mut solver, &TWO, &TWO_FORMS)?;
     let top = Top { row: 3, times: 1 };

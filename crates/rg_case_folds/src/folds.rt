@@ -22,7 +22,7 @@ use rg_fraction::Fraction;
 use rg_integers::Wide;
 use rg_theory::{Arc, Problem};
 
-/// Each step has one result at most.
+/// Law: each step has one result at most.
 pub fn steps_are_one()
     ensures quotient { (n d : ℤ) → IsOne (quotient n d) }
     ensures term { (t : Wide) → IsOne (term t) }
@@ -31,15 +31,15 @@ pub fn steps_are_one()
     ensures multiple { (numbers : List ℤ) → IsOne (multiple_of_all numbers) }
 {}
 
-/// What a call of `Fraction` returns is the result of its step.
+/// Law: what a call of `Fraction` returns is the result of its step.
 pub fn calls_are_steps()
     ensures new { (f : Fraction) (n d : ℤ) → d ≢ pos 0 → IsValue f n d → quotient n d (Ok (ratio_of f)) }
     ensures add { (f g : Fraction) (r : Result Fraction Wide) → IsSum (numerator_of f) (denominator_of f) (numerator_of g) (denominator_of g) r → add (ratio_of f) (ratio_of g) (shown_result ratio_of r) }
     ensures mul { (f g : Fraction) (r : Result Fraction Wide) → IsProduct (numerator_of f) (denominator_of f) (numerator_of g) (denominator_of g) r → mul (ratio_of f) (ratio_of g) (shown_result ratio_of r) }
 {}
 
-/// A count of 0 and an entry of 0 make a term of value 0, which is never out of range and leaves a sum as it is. So a fold
-/// that sums may pass over such items.
+/// Law: a count of 0 and an entry of 0 make a term of value 0, which is never out of range and leaves a sum as it is.
+/// So a fold that sums may pass over such items.
 pub fn zeros_add_nothing()
     ensures count { (n d : ℤ) → d ≢ pos 0 → InRange n → InRange d → and_then (quotient n d) (mul (whole (pos 0))) (Ok (whole (pos 0))) }
     ensures entry { (d count : ℤ) → d ≢ pos 0 → InRange count → and_then (quotient (pos 0) d) (mul (whole count)) (Ok (whole (pos 0))) }
@@ -48,7 +48,7 @@ pub fn zeros_add_nothing()
         → further add (dependent_term basis counts f) (ratio_of sum) rest r → further add (dependent_term basis counts f) (ratio_of sum) (t ∷ rest) r }
 {}
 
-/// The folds of rows, of a case's system, of a place and of a leaf have one result at most each.
+/// Law: the folds of rows, of a case's system, of a place and of a leaf have one result at most each.
 pub fn folds_are_one()
     ensures substitute { (labels : ℕ) (basis : CycleBasis) (counts : ℕ → ℤ) → IsOne (substitute_fold labels basis counts) }
     ensures row { (s : Setting) (name : RowName) (e : Expression) → IsOne (row_fold s name e) }
@@ -58,7 +58,7 @@ pub fn folds_are_one()
     ensures spread { (s : CaseSetting) (case : CaseSystem) (sides : List SplitSide) (above : List Side) (weights : List Weight) → IsOne (spread_fold s case sides above weights) }
 {}
 
-/// So many more make a number a multiple, and no fewer do.
+/// Law: so many more make a number a multiple, and no fewer do.
 pub fn missing_is_least()
     ensures { (n m : ℕ) → 0 < n → IsMultiple n (m + missing n m) × ((k : ℕ) → k < missing n m → ¬ IsMultiple n (m + k)) }
 {}

@@ -63,15 +63,15 @@ pub fn start_and_free_effects_mean()
     ensures whole { (lts : System) (class : Class) (problem : Problem) (number : ℕ) (x : Variable → ℤ) → KeepsRowsOver lts class problem number (pos 1) x ↔ KeepsRows lts class problem number x }
 {}
 
-/// A label without an arc has a free effect, and no relation names it.
+/// Law: a label without an arc has a free effect, and no relation names it.
 pub fn unused_labels_are_free()
     ensures free { (lts : System) (tree : List Arc) (basis : CycleBasis) (t : ℕ) → IsInRange lts → IsAllReachable lts → IsTree lts tree → IsBasis lts tree basis → t < labels lts → IsFalse (has_label t lts.arcs) → Contains basis.members t }
     ensures unnamed { (lts : System) (tree : List Arc) (basis : CycleBasis) (t u : ℕ) → IsInRange lts → IsAllReachable lts → IsTree lts tree → IsBasis lts tree basis → u < labels lts → IsFalse (has_label u lts.arcs) → (basis.relation t).coefficient u ≡ pos 0 }
 {}
 
-/// Numbers that keep all rows of a case are given along the tree by the number of the initial state and
-/// their own effects, which follow the relations; only the effects of labels without an arc may differ.
-/// With 0 for these they keep all rows still, so they meet the case's system.
+/// Law: numbers that keep all rows of a case are given along the tree by the number of the initial state and their
+/// own effects, which follow the relations; only the effects of labels without an arc may differ. With 0 for these
+/// they keep all rows still, so they meet the case's system.
 pub fn solutions_are_given()
     ensures follow { (s : CaseSetting) (case : CaseSystem) (x : Variable → ℤ) (effect : ℕ → ℤ) (scale : ℤ) → IsCaseOver s case
         → KeepsRowsOver s.lts s.class s.problem s.number scale x → AgreeOnUsed s.lts x effect
@@ -88,8 +88,8 @@ pub fn solutions_are_given()
         → KeepsRowsOver s.lts s.class s.problem s.number scale x → MeetsCase s.setting case (x (Tokens s.lts.initial)) (used_effect s.lts x) scale }
 {}
 
-/// The columns of a case's system are Start, where it is one, and the effects of the free labels with an
-/// arc, in order. A row's value at a point is its value at them.
+/// Law: the columns of a case's system are Start, where it is one, and the effects of the free labels with an arc, in
+/// order. A row's value at a point is its value at them.
 pub fn columns_are_values()
     ensures count { (s : CaseSetting) (case : CaseSystem) (start : ℤ) (effect : ℕ → ℤ) → system_fold s (Ok case)
         → length (column_values s.lts s.basis s.class start effect) ≡ case.columns }
@@ -132,8 +132,8 @@ pub fn forms_are_exact()
         → InRange ((form_at case.forms f).scale *ℤ (form_at case.forms f).low) × InRange ((form_at case.forms f).scale *ℤ (form_at case.forms f).high) }
 {}
 
-/// In every class the system of a case has a point with whole forms exactly where whole numbers keep all
-/// its rows; so some case has one exactly where some region of the class separates the problem.
+/// Law: in every class the system of a case has a point with whole forms exactly where whole numbers keep all its
+/// rows; so some case has one exactly where some region of the class separates the problem.
 pub fn whole_points_separate()
     ensures solution { (lts : System) (class : Class) (problem : Problem) (number : ℕ) → HasWholeSolutionIn lts class problem number → HasSolution lts class problem number }
     ensures whole { (s : CaseSetting) (case : CaseSystem) → IsCaseOver s case → IsLive s.lts s.problem → HasWholePoint case ↔ HasWholeSolutionIn s.lts s.class s.problem s.number }
@@ -142,8 +142,8 @@ pub fn whole_points_separate()
         → SomeCaseHasWholePoint s.lts s.class problem case ↔ IsSeparable s.lts s.class problem }
 {}
 
-/// Numbers over a scale that keep all rows of a case, whose effects of labels with an arc are whole and
-/// whose tokens all have one fractional part, keep them as whole numbers less that part, in every class.
+/// Law: numbers over a scale that keep all rows of a case, whose effects of labels with an arc are whole and whose
+/// tokens all have one fractional part, keep them as whole numbers less that part, in every class.
 pub fn whole_parts_keep_rows()
     ensures { (lts : System) (class : Class) (problem : Problem) (number : ℕ) (scale : ℤ) (x y : Variable → ℤ) → IsInRange lts → IsSeparationProblem lts problem
         → IsLive lts problem → AreWholeParts lts scale x y → KeepsRowsOver lts class problem number scale x → KeepsRowsOver lts class problem number (pos 1) y }

@@ -14,14 +14,14 @@ ghost use Rattle.rg_case_folds.specs.Values.{NamesLabels, numbers_along, column_
 
 use rg_theory::Arc;
 
-/// An expression is worth its coefficient of Start and its counts of labels.
+/// Law: an expression is worth its coefficient of Start and its counts of labels.
 pub fn expression_is_rewritten()
     ensures { (lts : System) (tree : List Arc) (start : ℤ) (effect : ℕ → ℤ) (terms : List Term) → NamesLabels (labels lts) terms → value_in (numbers_along lts tree start effect) terms ≡ (start_of terms *ℤ start) +ℤ sum_below (labels lts) (λ t. count_of tree terms t *ℤ effect t) }
 {}
 
-/// At Start and effects that follow the relations, over one scale, a row's value times the factor's
-/// bottom is that of its named row times the factor's top; both are positive, so the row is met exactly
-/// where its named row is. The numbers of a form are worth its value times its scale.
+/// Law: at Start and effects that follow the relations, over one scale, a row's value times the factor's bottom is
+/// that of its named row times the factor's top; both are positive, so the row is met exactly where its named row is.
+/// The numbers of a form are worth its value times its scale.
 pub fn row_is_exact()
     ensures value { (s : Setting) (name : RowName) (e : Expression) (start : ℤ) (effect : ℕ → ℤ) (scale : ℤ) (out : KeptRow) → IsBasis s.lts s.tree s.basis
         → NamesLabels (labels s.lts) e.terms → (has_start s.class ≡ false → start ≡ pos 0)
@@ -39,7 +39,7 @@ pub fn row_is_exact()
         → dot scaled.numbers (column_values s.lts s.basis s.class start effect) ≡ scaled.multiple *ℤ value_in (numbers_along s.lts s.tree start effect) terms }
 {}
 
-/// The rows of a case's system are met exactly where its named rows are, but those of arcs and splits.
+/// Law: the rows of a case's system are met exactly where its named rows are, but those of arcs and splits.
 pub fn system_is_exact()
     ensures { (s : CaseSetting) (start : ℤ) (effect : ℕ → ℤ) (scale : ℤ) (case : CaseSystem) → IsBasis s.lts s.tree s.basis
         → ((name : RowName) → Contains (names_of s.lts s.class s.problem s.number) name → NamesLabels (labels s.lts) (row_expression s.lts s.class s.problem s.number [] name).terms)

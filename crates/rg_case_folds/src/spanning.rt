@@ -10,8 +10,8 @@ ghost use Rattle.rg_case_folds.specs.Chords.{KeepsChords, chord_system, IsBasis}
 
 use rg_theory::Arc;
 
-/// The tree meets every state that can be reached, by one way, which an arc of the tree makes longer by
-/// its label.
+/// Law: the tree meets every state that can be reached, by one way, which an arc of the tree makes longer by its
+/// label.
 pub fn ways_are_one()
     ensures met { (lts : System) (tree : List Arc) (s : ℕ) → IsTree lts tree → IsReachable lts s → Contains (tree_order lts tree) s }
     ensures arcs { (lts : System) (tree : List Arc) (a : Arc) → IsTree lts tree → Contains tree a → Contains lts.arcs a }
@@ -28,8 +28,8 @@ pub fn chords_are_exact()
     ensures own { (lts : System) (tree : List Arc) (number effect : ℕ → ℤ) (s : ℕ) → IsInRange lts → IsTree lts tree → KeepsArcs lts number effect → IsReachable lts s → number s ≡ potential lts tree (number lts.initial) effect s }
 {}
 
-/// The chords that are kept are one list, a system has one basis, and the effects that keep every arc are those that follow the
-/// relations of the basis.
+/// Law: the chords that are kept are one list, a system has one basis, and the effects that keep every arc are those
+/// that follow the relations of the basis.
 pub fn basis_is_exact()
     ensures kept { (lts : System) (tree : List Arc) (kept kept' : List ℕ) → KeepsChords lts tree kept → KeepsChords lts tree kept' → kept ≡ kept' }
     ensures one { (lts : System) (tree : List Arc) (basis basis' : CycleBasis) → IsBasis lts tree basis → IsBasis lts tree basis' → basis ≡ basis' }

@@ -23,7 +23,7 @@ pub struct Columns {
 }
 
 impl Columns {
-    /// The columns in this class. Returns an error if memory runs out.
+    /// Returns the columns in this class. Returns an error if memory runs out.
     pub fn new(alloc: Global, lts: &Lts, class: Class) -> Result<Columns, AllocError>
         ensures columns { IfOk result (AreColumns lts.now class) }
         ensures well_formed { IfOk result (λ _. IsWellFormed lts.now) }
@@ -35,7 +35,7 @@ impl Columns {
         })
     }
 
-    /// How many there are.
+    /// Returns how many there are.
     pub fn count(&self, basis: &Basis) -> u32
         requires labels { length self.now.used.items ≡ labels_of basis.now }
         requires few { length self.now.used.items ≤ most_labels }
@@ -50,8 +50,8 @@ impl Columns {
         count
     }
 
-    /// Returns the numbers of the columns: of Start, and of the free labels with an arc, out of those of all free labels.
-    /// `free` has one number for each free label, in order. Returns an error if memory runs out.
+    /// Returns the numbers of the columns: of Start, and of the free labels with an arc, out of those of all free
+    /// labels. `free` has one number for each free label, in order. Returns an error if memory runs out.
     pub fn pick<T: Copy>(
         &self,
         alloc: Global,
@@ -76,14 +76,15 @@ impl Columns {
     }
 }
 
-/// Whether Start is a column in this class: elsewhere it cancels in every row.
+/// Returns whether Start is a column in this class: elsewhere it cancels in every row.
 pub fn has_start(class: Class) -> bool
     ensures { result ≡ has_start class }
 {
     class.pure || class.plain || class.bound.is_some()
 }
 
-/// Of each label whether it has an arc: one entry for each label, in order. Returns an error if memory runs out.
+/// Returns of each label whether it has an arc: one entry for each label, in order. Returns an error if memory runs
+/// out.
 pub fn used_labels(alloc: Global, lts: &Lts) -> Result<Vec<bool>, AllocError>
     ensures labels { IfOk result (λ used. TellsUsedLabels lts.now used.items) }
     ensures well_formed { IfOk result (λ _. IsWellFormed lts.now) }

@@ -10,8 +10,8 @@ use rg_cert_data::Term::{self, Minus, Plus};
 use rg_cert_meaning::Variable;
 use rg_spanning::Tree;
 
-/// How often Start, the tokens of the initial state, counts in the terms: once in the tokens at each state, and
-/// not in effects (Badouel, Bernardinello and Darondeau, *Petri Net Synthesis*).
+/// Returns how often Start, the tokens of the initial state, counts in the terms: once in the tokens at each state,
+/// and not in effects (Badouel, Bernardinello and Darondeau, *Petri Net Synthesis*).
 pub fn start(expression: &Expression) -> i128
     ensures value { result ≡ start_of (expression_of expression.now).terms }
     ensures in_range { InRange result }
@@ -37,8 +37,8 @@ fn start_in(term: Term) -> i128
     }
 }
 
-/// How often label t counts in the terms: in the tokens at a state as often as the way to the state in the tree
-/// has the label, which is the state's Parikh vector there, and in an effect once where it is the label's.
+/// Returns how often label t counts in the terms: in the tokens at a state as often as the way to the state in the
+/// tree has the label, which is the state's Parikh vector there, and in an effect once where it is the label's.
 pub fn count(tree: &Tree, expression: &Expression, t: u32) -> i128
     requires label { t < tree.now.labels }
     requires within { All (TermNamesStateBelow tree.now.states) (expression_of expression.now).terms }

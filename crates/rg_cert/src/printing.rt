@@ -20,10 +20,10 @@ use rg_memory::NoMemory;
 use rg_theory::class_text;
 use std::alloc::Global;
 
-/// The text of a certificate for a system: the lines `certificate 1`, `class` with the class, the reason with the names
-/// of its states and labels, the trees of its cases, and `end`. The first line is `certificate 2` exactly where the
-/// class asks a marking or a node splits on the start. The text spells what the certificate claims. Returns `NoMemory`
-/// if the text doesn't fit into memory.
+/// Returns the text of a certificate for a system: the lines `certificate 1`, `class` with the class, the reason with
+/// the names of its states and labels, the trees of its cases, and `end`. The first line is `certificate 2` exactly
+/// where the class asks a marking or a node splits on the start. The text spells what the certificate claims. Returns
+/// `NoMemory` if the text doesn't fit into memory.
 pub fn print(alloc: Global, cert: &Certificate, lts: &Lts) -> Result<Vec<u8>, NoMemory>
     requires { IsCertificateOf lts.now cert.now }
     ensures text { IfOk result (λ text. text.items ≡ cert_text (claim_of cert.now) lts.now) }

@@ -26,7 +26,7 @@ use rg_theory::Class;
 use std::alloc::Global;
 use std::str;
 
-/// The certificate that the bytes spell for the system. The class may be named by any text that `Class::read`
+/// Returns the certificate that the bytes spell for the system. The class may be named by any text that `Class::read`
 /// takes. Errors: the first fault, as `CertFault` says, or want of memory.
 pub fn read(alloc: Global, bytes: &[u8], lts: &Lts) -> Result<Certificate, CertFault>
     requires { length bytes.now ≤ most_bytes }

@@ -17,7 +17,7 @@ pub struct ProblemCase {
 }
 
 impl ProblemCase {
-    /// The order of the case: 0 where the first of two states has fewer tokens.
+    /// Returns the order of the case: 0 where the first of two states has fewer tokens.
     pub fn order(self, lts: &Lts) -> u32
         ensures { result ≡ order_of lts.now self.class self.number }
     {
@@ -28,7 +28,7 @@ impl ProblemCase {
         }
     }
 
-    /// The label that alone may take tokens, in an output-nonbranching class: the event's, or the one of the
+    /// Returns the label that alone may take tokens, in an output-nonbranching class: the event's, or the one of the
     /// number.
     pub fn consumer(self, lts: &Lts) -> u32
         ensures { result ≡ case_consumer lts.now self.problem self.number }

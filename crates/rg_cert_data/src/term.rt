@@ -13,7 +13,7 @@ pub enum Term {
 }
 
 impl Term {
-    /// The variable.
+    /// Returns the variable.
     pub fn variable(self) -> Variable
         ensures { result ≡ (term_of self).variable }
     {
@@ -22,7 +22,7 @@ impl Term {
         }
     }
 
-    /// The number times the term's coefficient.
+    /// Returns the number times the term's coefficient.
     pub fn times(self, number: i128) -> i128
         requires { InRange number }
         ensures value { result ≡ number *ℤ (term_of self).coefficient }

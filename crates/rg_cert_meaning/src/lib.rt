@@ -20,9 +20,9 @@ pub enum Variable {
     Effect(u32),
 }
 
-/// A linear equation or inequality over the tokens `M(q)` at each state and the effect `E(t)` of each label. It holds of
-/// every region of the class that separates the problem; `Apart` and `Makes` hold in their case, and `Above` on its side
-/// of a split. `Arc` says that its expression is 0, each other row that it is at least 0.
+/// A linear equation or inequality over the tokens `M(q)` at each state and the effect `E(t)` of each label. It holds
+/// of every region of the class that separates the problem; `Apart` and `Makes` hold in their case, and `Above` on
+/// its side of a split. `Arc` says that its expression is 0, each other row that it is at least 0.
 ///
 /// Where the rows come from: the systems of regions in Badouel, Bernardinello and Darondeau, Petri Net Synthesis.
 #[derive(Clone, Copy, Debug, PartialEq, Eq)]
@@ -39,7 +39,8 @@ pub enum RowName {
     Down(u32),
     /// `E(t)`, in an output-nonbranching class, for a label other than the consumer.
     Makes(u32),
-    /// `M(q) - M(s) - 1`, for the problem of label t at state s and an arc of t at q, in a class neither pure nor plain.
+    /// `M(q) - M(s) - 1`, for the problem of label t at state s and an arc of t at q, in a class neither pure nor
+    /// plain.
     Stop(u32),
     /// `-M(s) - E(t) - 1`, for the problem of label t at state s, in a pure class.
     Block,
@@ -68,7 +69,7 @@ pub enum Form {
 pub type Side = rg_branch_trees::Side<Form>;
 
 impl Form {
-    /// The variable that the form counts, where this is the initial state.
+    /// Returns the variable that the form counts, where this is the initial state.
     pub fn variable(self, initial: u32) -> Variable
         ensures { result ≡ form_variable initial self }
     {
@@ -79,7 +80,7 @@ impl Form {
         }
     }
 
-    /// By steps of how many the form counts its variable in the class: the start by those of the marking.
+    /// Returns by steps of how many the form counts its variable in the class: the start by those of the marking.
     pub fn step(self, class: Class) -> u8
         ensures { result ≡ step_of class self }
     {
@@ -89,7 +90,8 @@ impl Form {
         }
     }
 
-    /// Whether a split may be on the form in the class: on the start where the class asks that it be a multiple.
+    /// Returns whether a split may be on the form in the class: on the start where the class asks that it be a
+    /// multiple.
     pub fn stands(self, class: Class) -> bool
         ensures { IsTrue result ↔ FormStands class self }
     {
@@ -100,13 +102,13 @@ impl Form {
     }
 }
 
-/// An accepted certificate shows that no net of its class solves the system, whatever the size of the net.
+/// Law: an accepted certificate shows that no net of its class solves the system, whatever the size of the net.
 pub fn accepted_is_no_net()
     ensures { (lts : System) (class : Class) (reason : Reason) → IsInRange lts → Accepts lts class reason → NoNet lts class }
 {}
 
-/// Some region of the class separates a problem exactly where whole numbers keep all the rows of one
-/// of its cases.
+/// Law: some region of the class separates a problem exactly where whole numbers keep all the rows of one of its
+/// cases.
 pub fn rows_are_exact()
     ensures { (lts : System) (class : Class) (problem : Problem) → IsInRange lts → IsSeparationProblem lts problem → 0 < cases_of lts class problem → IsSeparable lts class problem ↔ HasWholeSolution lts class problem }
 {}

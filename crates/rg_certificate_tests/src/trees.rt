@@ -10,7 +10,8 @@ use std::alloc::Global;
 // Two states without an arc.
 const NO_ARC: &str = ".type LTS .states s0[initial] s1 .labels a .arcs";
 
-// Two users who ask for a lock, get it and put it back, user by user. A state says what each does: i is idle, w waits, c has the lock.
+// Two users who ask for a lock, get it and put it back, user by user. A state says what each does: i is idle, w
+// waits, c has the lock.
 const LOCK_BY_USERS: &str =
     ".type LTS .states ii[initial] iw ic wi ww wc ci cw .labels ask1 get1 put1 ask2 get2 put2 .arcs ii ask1 wi iw ask1 ww ic ask1 wc wi get1 ci ww get1 cw ci put1 ii cw put1 iw ii ask2 iw wi ask2 ww ci ask2 cw iw get2 ic ww get2 wc ic put2 ii wc put2 wi";
 
@@ -77,7 +78,7 @@ fn has_arcs(tree: &Tree) -> bool {
     tree.arcs() == arcs.as_slice()
 }
 
-// Whether the arcs that are grown alone are the tree's, and each stands at the state that it enters.
+// Whether the arcs that are grown alone are the tree's, and each is at the state that it enters.
 fn has_arcs_alone(alloc: Global, lts: &Lts, tree: &Tree) -> bool {
     let parents = [
         None,

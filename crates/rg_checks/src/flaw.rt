@@ -17,8 +17,9 @@ pub enum Flaw {
     Fork(Fork),
 }
 
-/// Returns the first flaw: the least state that can't be reached, or, if all can, the first fork. Returns None exactly
-/// if all states can be reached and there is no fork, and `NoMemory` if memory runs out for a walk over the states.
+/// Returns the first flaw: the least state that can't be reached, or, if all can, the first fork. Returns None
+/// exactly if all states can be reached and there is no fork, and `NoMemory` if memory runs out for a walk over the
+/// states.
 pub fn first_flaw(alloc: Global, lts: &Lts) -> Result<Option<Flaw>, NoMemory>
     ensures first { IfOk result (λ o. IfSome o (IsFirstFlaw lts.now)) }
     ensures shown { IfOk result (λ o. IfSome o (IsShown lts.now)) }

@@ -9,8 +9,8 @@ use rg_lts::Lts;
 use rg_memory::NoMemory;
 use std::alloc::Global;
 
-/// The least state that can't be reached, which some set of states without it shows; None exactly where all states can
-/// be reached. Returns `NoMemory` if a walk over the states doesn't fit into memory.
+/// Returns the least state that can't be reached, which some set of states without it shows; None exactly where all
+/// states can be reached. Returns `NoMemory` if a walk over the states doesn't fit into memory.
 pub fn first_unreachable(alloc: Global, lts: &Lts) -> Result<Option<u32>, NoMemory>
     ensures least { IfOk result (λ o. IfSome o (IsLeastUnreachable lts.now)) }
     ensures shut_out { IfOk result (λ o. IfSome o (λ s. (inside : ℕ → Bool) × IsClosedWithout lts.now s inside)) }

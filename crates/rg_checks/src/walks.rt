@@ -14,9 +14,9 @@ pub struct Step {
     pub label: u32,
 }
 
-/// How each state is reached from the initial one, one entry per state: None for the initial state and for each state
-/// that can't be reached, else the last arc of a walk whose earlier arcs are the entries of the states before. Returns
-/// `NoMemory` if the entries, or the states whose arcs aren't followed yet, don't fit into memory.
+/// Returns how each state is reached from the initial one, one entry per state: None for the initial state and for
+/// each state that can't be reached, else the last arc of a walk whose earlier arcs are the entries of the states
+/// before. Returns `NoMemory` if the entries, or the states whose arcs aren't followed yet, don't fit into memory.
 pub fn reach(alloc: Global, lts: &Lts) -> Result<Vec<Option<Step>>, NoMemory>
     ensures { IfOk result (λ steps. AreSteps lts.now steps.items) }
 {

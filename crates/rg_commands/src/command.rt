@@ -75,8 +75,8 @@ fn with_flags<'a>(
     Ok(command)
 }
 
-// The command of this name that must have these words, in order, and may have these options, each once and with one value, and
-// these flags, each once.
+// The command of this name that must have these words, in order, and may have these options, each once and with one
+// value, and these flags, each once.
 pub(crate) fn command_of<'a>(
     alloc: Global,
     name: &'a str,

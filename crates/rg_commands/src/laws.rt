@@ -4,7 +4,7 @@ ghost use Rattle.rg_commands.specs.declared.request.Request.{Request};
 ghost use Rattle.rg_commands.specs.Requests.{HasBounds};
 ghost use Rattle.rg_commands.specs.Says.{Said, Ask, WordsSay};
 
-/// Words ask for one thing or are refused for one reason, always, and never for two. What they ask for has its
+/// Law: words ask for one thing or are refused for one reason, always, and never for two. What they ask for has its
 /// numbers in range.
 pub fn words_say_one_thing()
     ensures one { (words : List (List ℕ)) (a b : Said) → WordsSay words a → WordsSay words b → a ≡ b }

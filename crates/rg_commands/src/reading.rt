@@ -24,7 +24,7 @@ use crate::verifying::verify_words;
 use clap::ArgMatches;
 use std::alloc::Global;
 
-/// The request of the words, or why they are refused.
+/// Returns the request of the words, or why they are refused.
 ///
 /// Errors: `Refused` with the first reason in order, as `Usage` says; returns `NoMemory` if memory runs out.
 pub fn read_words<'a>(alloc: Global, words: &'a [String]) -> Result<Request<&'a str>, WordsStop>

@@ -1,7 +1,7 @@
 //! Words as the program is given them.
 use std::alloc::{AllocError, Global};
 
-/// The words as owned strings.
+/// Returns the words as owned strings.
 pub fn owned(alloc: Global, words: &[&str]) -> Result<Vec<String>, AllocError> {
     let mut all = Vec::new(alloc);
     for word in words {

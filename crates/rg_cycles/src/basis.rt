@@ -48,7 +48,7 @@ impl Basis {
         })
     }
 
-    /// The free labels, in order.
+    /// Returns the free labels, in order.
     pub fn free(&self) -> &[u32]
         ensures { result.now ≡ free_labels (labels_of self.now) (cycle_of self.now) }
     {
@@ -62,7 +62,7 @@ impl Basis {
         &self.kept
     }
 
-    /// The set with which the walk ends: free labels, and, counted on from the labels, the rows that are
+    /// Returns the set with which the walk ends: free labels, and, counted on from the labels, the rows that are
     /// used. As many as there are labels, in order.
     pub fn members(&self) -> &[u32]
         ensures { result.now ≡ (cycle_of self.now).members }
@@ -70,7 +70,7 @@ impl Basis {
         &self.members
     }
 
-    /// The relation of label `t`; None exactly where it is free.
+    /// Returns the relation of label `t`; None exactly where it is free.
     pub fn relation(&self, t: u32) -> Option<&Relation>
         requires { t < labels_of self.now }
         ensures exact { MatchOption result (Contains (cycle_of self.now).members t) (λ r. (¬ Contains (cycle_of self.now).members t) × ShowsRelation (labels_of self.now) (cycle_of self.now) t r.now) }

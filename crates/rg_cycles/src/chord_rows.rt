@@ -20,21 +20,21 @@ pub trait ChordRows {
     /// The row of a key.
     ghost row_of: { Self.Key → List ℤ };
 
-    /// The number of rows.
+    /// Returns the number of rows.
     fn count(&self) -> usize
         ensures { result ≡ length (rows self.now) };
 
-    /// The key of the row at this index.
+    /// Returns the key of the row at this index.
     fn key(&self, index: usize) -> Self::Key
         requires { index < length (rows self.now) }
         ensures { row_of result ≡ vector_at (rows self.now) index };
 
-    /// Whether each number of the row at this index is 0.
+    /// Returns whether each number of the row at this index is 0.
     fn is_zero(&self, index: usize) -> bool
         requires { index < length (rows self.now) }
         ensures { IsTrue result ↔ IsZeroVector (vector_at (rows self.now) index) };
 
-    /// The numbers of the row at this index. Returns `AllocError` if memory runs out.
+    /// Returns the numbers of the row at this index. Returns `AllocError` if memory runs out.
     fn row(&self, alloc: Global, index: usize) -> Result<Vec<i128>, AllocError>
         requires { index < length (rows self.now) }
         ensures { IfOk result (λ v. v.items ≡ vector_at (rows self.now) index) };

@@ -48,7 +48,8 @@ impl<'a> Relations<'a> {
         }
     }
 
-    // The numbers of the relation of a label outside the set: its `d`, the constant, and the coefficients of the members.
+    // The numbers of the relation of a label outside the set: its `d`, the constant, and the coefficients of the
+    // members.
     pub(crate) fn numbers(self, alloc: Global, label: u32) -> Result<Vec<i128>, AllocError>
         requires are { (system : LinearSystem) × AreRelationsOf system self }
         requires label { label < columns_of self }

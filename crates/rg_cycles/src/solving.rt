@@ -45,7 +45,7 @@ pub fn reduce<N: ChordEntry>(alloc: Global, labels: u32, chords: &[Vec<N>]) -> R
     reduce_rows(alloc, labels, &ListedChords { vectors: chords })
 }
 
-/// What `reduce` returns, for chords whose rows are listed only when they are read.
+/// Returns what `reduce` returns, for chords whose rows are listed only when they are read.
 pub fn reduce_rows<R: ChordRows>(alloc: Global, labels: u32, rows: &R) -> Result<Basis, Stop>
     requires labels { labels ≤ most_labels }
     requires chords { length (R.rows rows.now) ≤ most_arcs }

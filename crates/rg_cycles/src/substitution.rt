@@ -40,7 +40,7 @@ pub fn substitute(alloc: Global, basis: &Basis, counts: &[i128]) -> Result<FreeR
     Ok(FreeRow { coeffs })
 }
 
-/// The labels that aren't free, in order; there are so many labels.
+/// Returns the labels that aren't free, in order; there are so many labels.
 pub fn dependent(alloc: Global, basis: &Basis, labels: u32) -> Result<Vec<u32>, AllocError>
     requires { labels ≡ labels_of basis.now }
     ensures { IfOk result (λ v. v.items ≡ dependent_labels labels (cycle_of basis.now)) }
@@ -84,7 +84,8 @@ fn is_free(basis: &Basis, t: u32) -> bool
     }
 }
 
-// The coefficient of the free label at this index; the others are the labels that aren't free and whose count isn't 0.
+// The coefficient of the free label at this index; the others are the labels that aren't free and whose count isn't
+// 0.
 fn coefficient(
     basis: &Basis,
     counts: &[i128],
@@ -107,8 +108,8 @@ fn coefficient(
     Ok(sum)
 }
 
-// The sum with what a label with this relation and this count adds to the coefficient of the free label at this index. A
-// number of 0 adds nothing.
+// The sum with what a label with this relation and this count adds to the coefficient of the free label at this
+// index. A number of 0 adds nothing.
 fn with_term(
     sum: Fraction,
     relation: &Relation,

@@ -13,11 +13,11 @@ use crate::basis::Basis;
 use crate::substitution::list_counted;
 use std::alloc::{AllocError, Global};
 
-/// Returns the sum that `substitute` returns, in whole numbers: one for each free label, in order. There is one count for each
-/// label.
+/// Returns the sum that `substitute` returns, in whole numbers: one for each free label, in order. There is one count
+/// for each label.
 ///
-/// Returns `None` only if a relation that adds to the sum has a `d` other than 1, or a count, a number of a relation, a product
-/// or a sum on the way doesn't fit 64 bits. Returns an error if memory runs out.
+/// Returns `None` only if a relation that adds to the sum has a `d` other than 1, or a count, a number of a relation,
+/// a product or a sum on the way doesn't fit 64 bits. Returns an error if memory runs out.
 pub fn whole_sums(
     alloc: Global,
     basis: &Basis,
@@ -69,8 +69,8 @@ fn own_counts(alloc: Global, basis: &Basis, counts: &[i128]) -> Result<Option<Ve
     Ok(Some(own))
 }
 
-// Adds to the count of each free label what the others add to its coefficient. Returns false if a relation of theirs isn't
-// in whole numbers, or a number doesn't fit 64 bits.
+// Adds to the count of each free label what the others add to its coefficient. Returns false if a relation of theirs
+// isn't in whole numbers, or a number doesn't fit 64 bits.
 fn add_labels(sums: &mut [i64], basis: &Basis, counts: &[i128], others: &[u32]) -> bool
     requires counts { length counts.now ≡ labels_of basis.now }
     requires in_range { (t : ℕ) → t < length counts.now → InRange (number_at counts.now t) }
@@ -88,8 +88,8 @@ fn add_labels(sums: &mut [i64], basis: &Basis, counts: &[i128], others: &[u32]) 
     true
 }
 
-// Adds to the sum of each free label what label `t` adds to its coefficient. Returns false if the label's relation isn't in
-// whole numbers, or a number doesn't fit 64 bits.
+// Adds to the sum of each free label what label `t` adds to its coefficient. Returns false if the label's relation
+// isn't in whole numbers, or a number doesn't fit 64 bits.
 fn add_label(sums: &mut [i64], basis: &Basis, counts: &[i128], t: u32) -> bool
     requires counts { length counts.now ≡ labels_of basis.now }
     requires in_range { (t : ℕ) → t < length counts.now → InRange (number_at counts.now t) }

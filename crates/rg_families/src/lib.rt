@@ -29,7 +29,7 @@ pub enum Kind {
     Lock,
 }
 
-/// The greatest number of the family's systems: 63 for grids, 255 for doublings, 9 for locks.
+/// Returns the greatest number of the family's systems: 63 for grids, 255 for doublings, 9 for locks.
 pub fn greatest(kind: Kind) -> u32
     ensures { result ≡ greatest kind }
 {
@@ -40,7 +40,7 @@ pub fn greatest(kind: Kind) -> u32
     }
 }
 
-/// Whether the family has a system of this number: from 1 to its greatest number.
+/// Returns whether the family has a system of this number: from 1 to its greatest number.
 pub fn is_family_number(kind: Kind, n: u32) -> bool
     ensures { IsTrue result ↔ IsFamilyNumber kind n }
 {

@@ -124,7 +124,7 @@ impl Dictionary {
         settled
     }
 
-    /// Member number `i` of the set, in order. After `Settled::Wide` it is the set before the exchange.
+    /// Returns member number `i` of the set, in order. After `Settled::Wide` it is the set before the exchange.
     pub fn member(&self, i: u32) -> u32
         requires { i < length self.now.table.members }
         ensures { result ≡ slice_index self.now.table.members i }
@@ -132,7 +132,7 @@ impl Dictionary {
         self.table.members()[i as usize]
     }
 
-    /// The value of variable `j`, a column or a row, at the point at which every member is 0.
+    /// Returns the value of variable `j`, a column or a row, at the point at which every member is 0.
     pub fn point(&self, j: u32) -> Fraction
         requires whole { IsWhole self.now }
         requires variable { j < self.now.table.columns + self.now.table.rows }
@@ -145,8 +145,8 @@ impl Dictionary {
         Fraction::new(numbers[1], numbers[0])
     }
 
-    /// The multiplier of a row, after `Settled::Refuted`. The sum of the rows, each times its multiplier, has no
-    /// column and a negative constant.
+    /// Returns the multiplier of a row, after `Settled::Refuted`. The sum of the rows, each times its multiplier, has
+    /// no column and a negative constant.
     pub fn multiplier(&self, row: u32) -> i128
         requires refuted { (i : ℕ) × IsRefutation self.now i }
         requires row { row < self.now.table.rows }

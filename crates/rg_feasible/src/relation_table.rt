@@ -113,44 +113,44 @@ impl RelationTable {
         self.room -= 1;
     }
 
-    /// How many columns the system has.
+    /// Returns how many columns the system has.
     pub fn columns(&self) -> u32
         ensures { result ≡ self.now.columns }
     {
         self.columns
     }
 
-    /// How many rows the system has.
+    /// Returns how many rows the system has.
     pub fn rows(&self) -> u32
         ensures { result ≡ self.now.rows }
     {
         self.rows
     }
 
-    /// How many variables the system has: columns and rows.
+    /// Returns how many variables the system has: columns and rows.
     pub fn variables(&self) -> u32
         ensures { result ≡ self.now.columns + self.now.rows }
     {
         self.columns + self.rows
     }
 
-    /// The members of the set, in order.
+    /// Returns the members of the set, in order.
     pub fn members(&self) -> &[u32]
         ensures { result.now ≡ self.now.members }
     {
         &self.members
     }
 
-    /// Whether the variable is a member.
+    /// Returns whether the variable is a member.
     pub fn contains(&self, variable: u32) -> bool
         ensures { IsTrue result ↔ Contains self.now.members variable }
     {
         is_member(&self.members, variable)
     }
 
-    /// The relation of a variable outside the set: its `d`, which is positive, the constant, and the
-    /// coefficients of the members in order. They say that `d` times the variable is the constant and the
-    /// sum of the members, each times its coefficient; no number divides them all.
+    /// Returns the relation of a variable outside the set: its `d`, which is positive, the constant, and the
+    /// coefficients of the members in order. They say that `d` times the variable is the constant and the sum of the
+    /// members, each times its coefficient; no number divides them all.
     pub fn numbers(&self, variable: u32) -> &[i128]
         requires { IsOutside self.now variable }
         ensures row { result.now ≡ row_of self.now variable }

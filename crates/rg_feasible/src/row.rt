@@ -41,7 +41,7 @@ pub(crate) fn copy_signed(row: &[i128], signed: &mut [i128], p: usize)
     }
 }
 
-/// Whether each number of the row fits 64 bits.
+/// Returns whether each number of the row fits 64 bits.
 pub(crate) fn is_short(row: &[i128]) -> bool
     ensures { IsTrue result ↔ RowIsShort row.now }
 {
@@ -162,7 +162,7 @@ fn renew_between(
     renew_each(row, pivot, size, leaving, from, to)
 }
 
-/// The row gets the values of its terms, that of the new member at index `p`; else the number of the first
+/// Gives the row the values of its terms, that of the new member at index `p`. Else returns the number of the first
 /// term that passes. `short` says that the numbers of the pivot fit 64 bits.
 fn renew(row: &mut [i128], pivot: &[i128], p: usize, short: bool) -> Result<(), RowWide>
     requires same_length { length pivot.now ≡ length row.old }
@@ -306,7 +306,7 @@ fn move_number(row: &mut [i128], p: usize, q: usize)
     row[q] = number;
 }
 
-/// The row of a variable outside the set, over the new set: the member at index `p` leaves, and the pivot's
+/// Returns the row of a variable outside the set, over the new set: the member at index `p` leaves, and the pivot's
 /// number comes to index `q`. Else the number of the first term that passes. `indices` are those that the pivot's row
 /// names, and `short` says that its numbers fit 64 bits.
 pub(crate) fn exchange_row(
@@ -356,7 +356,7 @@ fn turn(row: &mut [i128], pivot: &[i128], p: usize)
     row[p] = pivot[0];
 }
 
-/// The row of the member that leaves: the pivot's relation, solved for it.
+/// Returns the row of the member that leaves: the pivot's relation, solved for it.
 pub(crate) fn write_leaving(row: &mut [i128], pivot: &[i128], p: usize, q: usize)
     requires same_length { length pivot.now ≡ length row.old }
     requires index { p < length row.old }

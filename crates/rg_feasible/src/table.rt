@@ -38,7 +38,7 @@ fn stands_at(members: &[u32], index: usize, variable: u32) -> bool
     index < members.len() && members[index] == variable
 }
 
-/// Whether the variable is a member.
+/// Returns whether the variable is a member.
 pub(crate) fn is_member(members: &[u32], variable: u32) -> bool
     requires { IsStrictlyIncreasing members.now }
     ensures { IsTrue result ↔ Contains members.now variable }
@@ -47,7 +47,7 @@ pub(crate) fn is_member(members: &[u32], variable: u32) -> bool
     stands_at(members, below, variable)
 }
 
-/// The index of the pivot among the members, where the one at this index has left.
+/// Returns the index of the pivot among the members, where the one at this index has left.
 pub(crate) fn new_index(members: &[u32], index: usize, pivot: u32) -> usize
     requires ordered { IsStrictlyIncreasing members.now }
     requires index { index < length members.now }
@@ -59,9 +59,9 @@ pub(crate) fn new_index(members: &[u32], index: usize, pivot: u32) -> usize
     if index < below { below - 1 } else { below }
 }
 
-/// The rows of all variables but the members and the pivot, over the new set: the member at index `p` of a
-/// row leaves, and the pivot's number comes to index `q`. Else the first term that passes. `indices` are those that the
-/// pivot's row names.
+/// Returns the rows of all variables but the members and the pivot, over the new set: the member at index `p` of a
+/// row leaves, and the pivot's number comes to index `q`. Else the first term that passes. `indices` are those that
+/// the pivot's row names.
 pub(crate) fn exchange_rows(
     table: &mut [i128],
     members: &[u32],
@@ -116,8 +116,9 @@ pub(crate) fn exchange_rows(
     Ok(())
 }
 
-/// The table over the set in which the pivot takes the place of the member at `index`, at index `to` of
-/// the new members; else the first term that passes. `pivot_row` and `indices`, which has room for as many, are to work in.
+/// Returns the table over the set in which the pivot takes the place of the member at `index`, at index `to` of the
+/// new members; else the first term that passes. `pivot_row` and `indices`, which has room for as many, are to work
+/// in.
 pub(crate) fn exchange_table(
     table: &mut [i128],
     members: &[u32],

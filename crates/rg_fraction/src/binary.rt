@@ -44,7 +44,7 @@ fn gcd_with_fewer_twos(a: u128, b: u128) -> u128
     gcd_with_odd(a >> k, b >> k) << k
 }
 
-/// The greatest common divisor of two numbers that aren't 0.
+/// Returns the greatest common divisor of two numbers that aren't 0.
 pub(crate) fn binary_gcd(a: u128, b: u128) -> u128
     requires first { 0 < a }
     requires second { 0 < b }

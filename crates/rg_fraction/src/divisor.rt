@@ -42,7 +42,7 @@ fn gcd_of_words(a: u64, b: u64) -> u64
     x
 }
 
-/// The greatest common divisor, which is never negative; 0 exactly for two zeros.
+/// Returns the greatest common divisor, which is never negative; 0 exactly for two zeros.
 pub fn gcd(a: i128, b: i128) -> i128
     requires a_in_range { InRange a }
     requires b_in_range { InRange b }

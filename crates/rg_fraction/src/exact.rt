@@ -37,7 +37,7 @@ pub(crate) struct Divisor {
 }
 
 impl Divisor {
-    /// The divisor of this size, which isn't 0.
+    /// Returns the divisor of this size, which isn't 0.
     pub(crate) fn new(size: u128) -> Divisor
         requires { 0 < size }
         ensures { result.size ≡ size }
@@ -59,7 +59,7 @@ impl Divisor {
         (n >> self.twos).wrapping_mul(self.inverse)
     }
 
-    /// The quotient of a number that it divides.
+    /// Returns the quotient of a number that it divides.
     pub(crate) fn part(self, z: i128) -> i128
         requires divides { self.size ∣ unsigned_abs z }
         requires in_range { InRange z }

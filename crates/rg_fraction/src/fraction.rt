@@ -59,7 +59,7 @@ fn from_reduced(top: i128, bottom: i128) -> Fraction
 impl Fraction {
     ghost use Rattle.rg_fraction.specs.Fractions.{numerator_of, denominator_of, IsValue, Shows, IsFormed, IsSum, IsProduct, ShowsProduct};
 
-    /// The fraction with the value of `n` over `d`.
+    /// Returns the fraction with the value of `n` over `d`.
     #[inline(always)]
     pub fn new(n: i128, d: i128) -> Fraction
         requires n_in_range { InRange n }
@@ -155,10 +155,10 @@ impl Fraction {
         Ok(Fraction::whole(z))
     }
 
-    /// The sum `n/d + m/e`. With the greatest common divisor `g` of `d` and `e` it forms the
-    /// numerator `n*(e/g) - (-m)*(d/g)` and the denominator `(d/g)*e`, and is refused exactly where
-    /// one of them passes. A numerator that passes is shown as `n`, `e/g`, `-m`, `d/g`, a
-    /// denominator that passes alone as `d/g`, `e`, 0, 0.
+    /// Returns the sum `n/d + m/e`. With the greatest common divisor `g` of `d` and `e` it forms the numerator
+    /// `n*(e/g) - (-m)*(d/g)` and the denominator `(d/g)*e`, and is refused exactly where one of them passes. A
+    /// numerator that passes is shown as `n`, `e/g`, `-m`, `d/g`, a denominator that passes alone as `d/g`, `e`, 0,
+    /// 0.
     #[inline(always)]
     pub fn add(self, o: Fraction) -> Result<Fraction, Wide>
         ensures { IsSum (numerator_of self) (denominator_of self) (numerator_of o) (denominator_of o) result }
@@ -192,7 +192,7 @@ impl Fraction {
         )
     }
 
-    /// The difference: `add` of the negated value.
+    /// Returns the difference: `add` of the negated value.
     pub fn sub(self, o: Fraction) -> Result<Fraction, Wide>
         ensures { IsSum (numerator_of self) (denominator_of self) (neg_ℤ (numerator_of o)) (denominator_of o) result }
     {
@@ -211,10 +211,10 @@ impl Fraction {
         }
     }
 
-    /// The product of `n/d` and `m/e`. With the greatest common divisors `g` of `n` and `e` and `h`
-    /// of `m` and `d`, its reduced numerator is `(n/g)*(m/h)` and its reduced denominator
-    /// `(d/h)*(e/g)`, and it is refused exactly where one of them is out of range. A numerator that
-    /// passes is shown as `n/g`, `m/h`, 0, 0, a denominator that passes alone as `d/h`, `e/g`, 0, 0.
+    /// Returns the product of `n/d` and `m/e`. With the greatest common divisors `g` of `n` and `e` and `h` of `m`
+    /// and `d`, its reduced numerator is `(n/g)*(m/h)` and its reduced denominator `(d/h)*(e/g)`, and it is refused
+    /// exactly where one of them is out of range. A numerator that passes is shown as `n/g`, `m/h`, 0, 0, a
+    /// denominator that passes alone as `d/h`, `e/g`, 0, 0.
     pub fn mul(self, o: Fraction) -> Result<Fraction, Wide>
         ensures product { IsProduct (numerator_of self) (denominator_of self) (numerator_of o) (denominator_of o) result }
         ensures numbers { ShowsProduct (numerator_of self) (denominator_of self) (numerator_of o) (denominator_of o) result }
@@ -241,7 +241,7 @@ impl Fraction {
         )
     }
 
-    /// The order of the values, for any two fractions: no product is formed.
+    /// Returns the order of the values, for any two fractions: no product is formed.
     pub fn cmp(&self, o: &Fraction) -> Ordering
         ensures { result ≡ int_cmp (numerator_of self.now *ℤ denominator_of o.now) (numerator_of o.now *ℤ denominator_of self.now) }
     {
@@ -271,7 +271,7 @@ impl Fraction {
         )
     }
 
-    /// The greatest whole number that is not above the value.
+    /// Returns the greatest whole number that is not above the value.
     pub fn floor(&self) -> i128
         ensures low { (result *ℤ denominator_of self.now) ≤ℤ numerator_of self.now }
         ensures high { numerator_of self.now <ℤ ((result +ℤ pos 1) *ℤ denominator_of self.now) }
@@ -283,7 +283,7 @@ impl Fraction {
         if r < 0 { q - 1 } else { q }
     }
 
-    /// Whether the value is a whole number.
+    /// Returns whether the value is a whole number.
     #[inline(always)]
     pub fn is_whole(&self) -> bool
         ensures { IsTrue result ↔ (denominator_of self.now ≡ pos 1) }
@@ -291,7 +291,7 @@ impl Fraction {
         self.denominator == 1
     }
 
-    /// The numerator of the reduced form, with the sign of the value.
+    /// Returns the numerator of the reduced form, with the sign of the value.
     pub fn numerator(&self) -> i128
         ensures value { result ≡ numerator_of self.now }
         ensures in_range { InRange result }
@@ -299,7 +299,7 @@ impl Fraction {
         self.numerator
     }
 
-    /// The denominator of the reduced form.
+    /// Returns the denominator of the reduced form.
     pub fn denominator(&self) -> i128
         ensures value { result ≡ denominator_of self.now }
         ensures in_range { InRange result }

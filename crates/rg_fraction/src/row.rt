@@ -51,8 +51,8 @@ fn cross(p: &[i128], q: &mut [i128], b: i128, d: i128, j: usize)
     }
 }
 
-/// The greatest common divisor of the numbers of a row: it is never negative, and 0 exactly where no number is
-/// other than 0.
+/// Returns the greatest common divisor of the numbers of a row: it is never negative, and 0 exactly where no number
+/// is other than 0.
 pub fn row_gcd(row: &[i128]) -> i128
     requires { (k : ℕ) → k < length row.now → InRange (number_at row.now k) }
     ensures value { IsRowGcd row.now (unsigned_abs result) }

@@ -7,8 +7,8 @@ ghost use Rattle.rg_integers.specs.Term.{FitsTerm, term_value};
 
 use rg_integers::{Wide, difference, negate, product};
 
-/// The sum of two whole numbers. Refused exactly where it is out of range, with the numbers `x`, 1, `-y` and 1 of
-/// the term `x*1 - -y*1`.
+/// Returns the sum of two whole numbers. Refused exactly where it is out of range, with the numbers `x`, 1, `-y` and
+/// 1 of the term `x*1 - -y*1`.
 #[inline(always)]
 pub fn whole_sum(x: i128, y: i128) -> Result<i128, Wide>
     requires { InRange y }
@@ -29,8 +29,8 @@ pub fn whole_sum(x: i128, y: i128) -> Result<i128, Wide>
     }
 }
 
-/// The product of two whole numbers. Refused exactly where it is out of range, with the numbers `x`, `y`, 0 and 0 of
-/// the term `x*y - 0*0`.
+/// Returns the product of two whole numbers. Refused exactly where it is out of range, with the numbers `x`, `y`, 0
+/// and 0 of the term `x*y - 0*0`.
 #[inline(always)]
 pub fn whole_product(x: i128, y: i128) -> Result<i128, Wide>
     ensures value { MatchResult result (λ z. FitsTerm (product_term x y) × (z ≡ term_value (product_term x y))) (λ w. (FitsTerm (product_term x y) → ⊥) × (w ≡ product_term x y)) }

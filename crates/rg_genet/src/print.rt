@@ -16,12 +16,12 @@ use rg_lts::{Arc, Lts};
 use rg_memory::NoMemory;
 use std::alloc::Global;
 
-/// The text of the system as a state graph, of lines that a line feed ends, each of them the last one too: `.model
-/// lts`; `.outputs` with each label after a space; `.state graph`; a line for each arc, the names of the state that it
-/// leaves, of its label and of the state that it enters, with one space between; `.marking {NAME}` with the initial
-/// state's name; `.end`. It spells a system with the same names, initial state and arcs between names; numbers may
-/// differ, since `read_graph` numbers states and labels in the order of the arcs. Returns `Label` if a label has no
-/// arc; else `State` if there are two states or more and one is on no arc; else `NoMemory`.
+/// Returns the text of the system as a state graph, of lines that a line feed ends, each of them the last one too:
+/// `.model lts`; `.outputs` with each label after a space; `.state graph`; a line for each arc, the names of the
+/// state that it leaves, of its label and of the state that it enters, with one space between; `.marking {NAME}` with
+/// the initial state's name; `.end`. It spells a system with the same names, initial state and arcs between names;
+/// numbers may differ, since `read_graph` numbers states and labels in the order of the arcs. Returns `Label` if a
+/// label has no arc; else `State` if there are two states or more and one is on no arc; else `NoMemory`.
 pub fn print_graph(alloc: Global, lts: &Lts) -> Result<Vec<u8>, GraphLoss>
     ensures text { IfOk result (λ text. text.items ≡ graph_text lts.now) }
     ensures read_again { IfOk result (λ text. (read : System) × Spells text.items read × IsSameByNames lts.now read) }

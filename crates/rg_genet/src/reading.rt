@@ -42,8 +42,8 @@ struct Marking {
     name: String,
 }
 
-/// The system that a state graph of at most 16,777,216 bytes spells, or the text's first fault. By `one_answer` no other answer
-/// meets these clauses.
+/// Returns the system that a state graph of at most 16,777,216 bytes spells, or the text's first fault. By
+/// `one_answer` no other answer meets these clauses.
 pub fn read_graph(alloc: Global, bytes: &[u8]) -> Result<Lts, GraphFault>
     requires { length bytes.now ≤ most_bytes }
     ensures ok { IfOk result (λ lts. Spells bytes.now lts) }

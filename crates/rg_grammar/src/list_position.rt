@@ -41,7 +41,7 @@ pub enum FoundSetting {
     Valued(Token, Token),
 }
 
-/// What is wanted at a position of an option list.
+/// Returns what is wanted at a position of an option list.
 pub fn list_wanted(position: ListPosition) -> Want
     ensures { (bytes : List ℕ) → result ≡ list_wanted (list_position_in bytes position) }
 {
@@ -150,7 +150,7 @@ fn setting_of_value(key: Token, token: Token) -> Option<FoundSetting>
     }
 }
 
-/// The option that a token completes at a position of an option list, if it completes one.
+/// Returns the option that a token completes at a position of an option list, if it completes one.
 pub fn setting_of(position: ListPosition, token: Token) -> Option<FoundSetting>
     ensures setting { (bytes : List ℕ) → option_map (setting_in bytes) result ≡ completed (list_position_in bytes position) (lexeme bytes token) }
     ensures holds { (bytes : List ℕ) → IsTokenOf bytes token → HoldsKey bytes position → IfSome result (HoldsSetting bytes) }

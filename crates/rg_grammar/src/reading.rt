@@ -38,7 +38,7 @@ pub trait Reader {
     /// The tokens of what is found are of the text.
     ghost holds_names: { List ℕ → Self → Type 0 };
 
-    /// Nothing is found.
+    /// Returns a reading that has found nothing.
     fn new(alloc: Global) -> Self
         ensures found { (bytes : List ℕ) → content_in bytes result ≡ grammar.nothing }
         ensures names { (bytes : List ℕ) → holds_names bytes result };
@@ -69,7 +69,7 @@ pub trait Reader {
         ensures names { OnOk result (holds_names bytes.now self.old → holds_names bytes.now self.new) }
         ensures err { IfErr result (λ e. e ≡ NoMemory) };
 
-    /// Whether the text may end at a position.
+    /// Returns whether the text may end at a position.
     fn may_end(position: Self::Position) -> bool
         ensures { (bytes : List ℕ) → result ≡ grammar.may_end (grammar_position_in bytes position) };
 
@@ -77,7 +77,7 @@ pub trait Reader {
     fn refusal(position: Self::Position, token: Token) -> ItemFault
         ensures { (bytes : List ℕ) → result ≡ grammar.refuses (grammar_position_in bytes position) (lexeme bytes token) };
 
-    /// The fault of an end at a position where the text may not end.
+    /// Returns the fault of an end at a position where the text may not end.
     fn end_refusal(position: Self::Position, end: u32) -> ItemFault
         ensures { (bytes : List ℕ) → result ≡ grammar.ends (grammar_position_in bytes position) end };
 }
@@ -108,7 +108,7 @@ fn found_of<R: Reader + Drop>(alloc: Global, bytes: &[u8], tokens: &[Token]) -> 
     }
 }
 
-/// What a text of at most 16,777,216 bytes declares by a grammar, or its first fault in tokens or grammar.
+/// Returns what a text of at most 16,777,216 bytes declares by a grammar, or its first fault in tokens or grammar.
 ///
 /// Errors: `BadByte`, `OpenString`, `OpenComment` or `LongName`, the first in the text; else `Expected`
 /// or `WrongType` at the first token that can't continue the grammar; `NoMemory` where memory runs out.

@@ -8,7 +8,7 @@ ghost use Rattle.rg_grammar.specs.Entry.{IsNameOf, value_text};
 use rg_lexer::{Kind, Token};
 use std::str;
 
-/// The bytes of a token of the text.
+/// Returns the bytes of a token of the text.
 pub fn text_of<'a>(bytes: &'a [u8], token: Token) -> &'a [u8]
     requires { IsTokenOf bytes.now token }
     ensures { result.now ≡ slice_range bytes.entry.now token.from token.to }
@@ -16,7 +16,7 @@ pub fn text_of<'a>(bytes: &'a [u8], token: Token) -> &'a [u8]
     &bytes[token.from as usize..token.to as usize]
 }
 
-/// The name that a token of the text is.
+/// Returns the name that a token of the text is.
 pub fn name_of<'a>(bytes: &'a [u8], token: Token) -> &'a str
     requires { IsNameOf bytes.now token }
     ensures value { result.now ≡ slice_range bytes.entry.now token.from token.to }
@@ -25,7 +25,7 @@ pub fn name_of<'a>(bytes: &'a [u8], token: Token) -> &'a str
     str::from_utf8(text_of(bytes, token)).unwrap()
 }
 
-/// The value that a token of the text gives: a text without its quotes, and any other token as it is.
+/// Returns the value that a token of the text gives: a text without its quotes, and any other token as it is.
 pub fn value_of<'a>(bytes: &'a [u8], token: Token) -> &'a [u8]
     requires { IsTokenOf bytes.now token }
     ensures { result.now ≡ value_text (lexeme bytes.entry.now token) }

@@ -25,29 +25,29 @@ pub fn gcd_is_greatest()
     ensures not_negative { (a b : ℤ) → pos 0 ≤ℤ int_gcd a b }
 {}
 
-/// Every finite row of numbers has a greatest common divisor, and one only.
+/// Law: every finite row of numbers has a greatest common divisor, and one only.
 pub fn rows_have_a_divisor()
     ensures some { (n : ℕ) (f : ℕ → ℕ) → (g : ℕ) × IsGcdBelow n f g }
     ensures one { (n : ℕ) (f : ℕ → ℕ) (g h : ℕ) → IsGcdBelow n f g → IsGcdBelow n f h → g ≡ h }
 {}
 
-/// Euclid's lemma: a number that has no common factor with `n`, and divides `n * e`, divides `e`.
+/// Law: Euclid's lemma: a number that has no common factor with `n`, and divides `n * e`, divides `e`.
 pub fn coprime_divides()
     ensures { (d n e : ℕ) → IsGcd d n 1 → d ∣ n * e → d ∣ e }
 {}
 
-/// A rational value has one reduced form.
+/// Law: a rational value has one reduced form.
 pub fn reduced_form_is_one()
     ensures { (p q r s n d : ℤ) → d ≢ pos 0 → IsReducedForm p q n d → IsReducedForm r s n d → (p ≡ r) × (q ≡ s) }
 {}
 
-/// To have the same value is transitive, past a denominator that is not 0.
+/// Law: to have the same value is transitive, past a denominator that is not 0.
 pub fn same_value_is_transitive()
     ensures { (n d m e k f : ℤ) → e ≢ pos 0 → SameValue n d m e → SameValue m e k f → SameValue n d k f }
 {}
 
-/// A sum of products of two lists is the sum over the indices of the first one, with 0 for a number
-/// that is not there.
+/// Law: a sum of products of two lists is the sum over the indices of the first one, with 0 for a number that is not
+/// there.
 pub fn dot_is_a_sum()
     ensures { (xs ys : List ℤ) → dot xs ys ≡ sum_below (length xs) (λ j. number_at xs j *ℤ number_at ys j) }
 {}

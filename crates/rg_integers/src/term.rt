@@ -16,8 +16,8 @@ pub struct Wide {
 }
 
 impl Wide {
-    /// The term `a*b - c*d`. Refused, with its four numbers, exactly where `a*b`, `c*d` or the
-    /// difference is out of range.
+    /// Returns the term `a*b - c*d`. Refused, with its four numbers, exactly where `a*b`, `c*d` or the difference is
+    /// out of range.
     #[inline(always)]
     pub fn evaluate(self) -> Result<i128, Wide>
         ensures { MatchResult result (λ z. FitsTerm self × (z ≡ term_value self)) (λ w. (FitsTerm self → ⊥) × (w ≡ self)) }
@@ -43,7 +43,7 @@ fn short_product(a: i64, b: i64) -> i128
     i128::from(a) * i128::from(b)
 }
 
-/// The negative, which is in range too.
+/// Returns the negative, which is in range too.
 #[inline(always)]
 pub fn negate(z: i128) -> i128
     requires { InRange z }
@@ -53,7 +53,7 @@ pub fn negate(z: i128) -> i128
     -z
 }
 
-/// The product; None exactly where it is out of range.
+/// Returns the product; None exactly where it is out of range.
 pub fn product(a: i128, b: i128) -> Option<i128>
     ensures { SomeIff result (InRange (a *ℤ b)) (a *ℤ b) }
 {
@@ -68,7 +68,7 @@ pub fn product(a: i128, b: i128) -> Option<i128>
     }
 }
 
-/// The difference `a - b`; None exactly where it is out of range.
+/// Returns the difference `a - b`; None exactly where it is out of range.
 pub fn difference(a: i128, b: i128) -> Option<i128>
     ensures { SomeIff result (InRange (a -ℤ b)) (a -ℤ b) }
 {
@@ -78,7 +78,7 @@ pub fn difference(a: i128, b: i128) -> Option<i128>
     }
 }
 
-/// The number that a term is, where both products and the difference are in range.
+/// Returns the number that a term is, where both products and the difference are in range.
 pub fn value(t: Wide) -> i128
     requires { FitsTerm t }
     ensures value { result ≡ term_value t }

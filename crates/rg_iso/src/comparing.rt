@@ -13,11 +13,11 @@ use rg_lts::Lts;
 use rg_memory::NoMemory;
 use std::alloc::Global;
 
-/// Whether two systems are isomorphic, of which all states can be reached and no label leads from a state to two. The
-/// map where they are; else the first label that one alone has, those of the first system first; else the first
-/// difference that a breadth first walk over pairs of states meets, which begins with the initial states and takes the
-/// labels of a pair in the first system's order. Each difference shows that no map exists. Returns `NoMemory` if the
-/// pairs that are met don't fit into memory.
+/// Returns whether two systems are isomorphic, of which all states can be reached and no label leads from a state to
+/// two. The map where they are; else the first label that one alone has, those of the first system first; else the
+/// first difference that a breadth first walk over pairs of states meets, which begins with the initial states and
+/// takes the labels of a pair in the first system's order. Each difference shows that no map exists. Returns
+/// `NoMemory` if the pairs that are met don't fit into memory.
 pub fn compare(alloc: Global, a: &Lts, b: &Lts) -> Result<Same, NoMemory>
     requires first { IsFlawless a.now }
     requires second { IsFlawless b.now }
@@ -79,7 +79,8 @@ fn follow(
     Ok(None)
 }
 
-// What is different at a pair by a label, which has number `t` in the first system and `u` in the second; or it leads on to a pair.
+// What is different at a pair by a label, which has number `t` in the first system and `u` in the second; or it leads
+// on to a pair.
 fn lead_on(
     a: &Lts,
     b: &Lts,

@@ -1,4 +1,5 @@
-//! Tests of single calls: whether two systems are isomorphic, the flaws of a system, the counterexamples of properties, and the report on it.
+//! Tests of single calls: whether two systems are isomorphic, the flaws of a system, the counterexamples of
+//! properties, and the report on it.
 #![tactic(auto)]
 
 #[cfg(test)]

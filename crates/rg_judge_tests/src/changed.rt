@@ -98,7 +98,8 @@ fn judge(alloc: Global, lts: &Lts, net: &Net, class: Class) -> Option<Told> {
     }
 }
 
-// What both judges say of the net with these places, if it is the same; None where it isn't, or there is no memory left.
+// What both judges say of the net with these places, if it is the same; None where it isn't, or there is no memory
+// left.
 fn common_verdict(alloc: Global, lts: &Lts, places: &[Numbers], class: Class) -> Option<Told> {
     let net = net_of(alloc, lts, places)?;
     let first = judge(alloc, lts, &net, class)?;

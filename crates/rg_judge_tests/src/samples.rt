@@ -7,7 +7,7 @@ use std::alloc::Global;
 pub(crate) const CYCLE_NET: &str =
     ".type PN .places p q .transitions a b .flows a: {q} -> {p} b: {2*p} -> {2*q} .initial_marking {2*q}";
 
-/// The net that a text spells for the system of another.
+/// Returns the net that a text spells for the system of another.
 pub(crate) fn net_for(alloc: Global, lts: &str, text: &str) -> Option<Net> {
     let lts = system(alloc, lts)?;
     net(alloc, &lts, text)

@@ -53,7 +53,7 @@ struct Met {
     marking: Vec<u128>,
 }
 
-/// The verdict on the net, by single firings; None if memory runs out.
+/// Returns the verdict on the net, by single firings; None if memory runs out.
 pub(crate) fn second_verdict(alloc: Global, lts: &Lts, net: &Net, class: Class) -> Option<Told> {
     match judge(alloc, lts, net, class) {
         Ok(()) => Some(Told::Verdict(NetVerdict::Yes)),

@@ -19,9 +19,9 @@ fn push_token(tokens: &mut Vec<Token>, sort: Sort, from: u32, to: u32) -> Result
     Ok(())
 }
 
-/// The tokens of a text of at most 16,777,216 bytes, in the order of the text, or its first fault. Blank
-/// bytes and comments are left out. By `one_answer` no other answer meets these clauses, and by `spans`
-/// the tokens are spans of the text, in order.
+/// Returns the tokens of a text of at most 16,777,216 bytes, in the order of the text, or its first fault. Blank
+/// bytes and comments are left out. By `one_answer` no other answer meets these clauses, and by `spans` the tokens
+/// are spans of the text, in order.
 ///
 /// Errors: `BadByte`, `OpenString`, `OpenComment` or `LongName`, the first in the text, with its position;
 /// `NoMemory` where the list of tokens can't grow.

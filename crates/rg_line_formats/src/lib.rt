@@ -1,4 +1,5 @@
-//! What state graphs and word lists share: lines and their words, names in the order of first appearance, and the system with given parts.
+//! What state graphs and word lists share: lines and their words, names in the order of first appearance, and the
+//! system with given parts.
 #![tactic(auto)]
 
 mod building;

@@ -9,7 +9,7 @@ ghost use Rattle.rg_line_formats.specs.Words.{words};
 use rg_text::{is_blank_byte, len_before};
 use std::alloc::{AllocError, Global};
 
-/// The first line of a text, and what follows its line feed; None where the text ends without one.
+/// Returns the first line of a text, and what follows its line feed; None where the text ends without one.
 pub fn cut_line(text: &[u8]) -> (&[u8], Option<&[u8]>)
     ensures lines { lines text.entry.now ≡ result.0.now ∷ lines_left (option_map (λ s. s.now) result.1) }
     ensures shorter { IfSome result.1 (λ rest. length rest.now < length text.entry.now) }
@@ -32,7 +32,7 @@ pub fn words<'a>(alloc: Global, line: &'a [u8]) -> Result<Vec<&'a [u8]>, AllocEr
         .collect(alloc)
 }
 
-/// The first word of a line, and what follows it; None where the line has no word.
+/// Returns the first word of a line, and what follows it; None where the line has no word.
 pub fn cut_word(line: &[u8]) -> Option<(&[u8], &[u8])>
     ensures none { IfNone result (words line.entry.now ≡ []) }
     ensures words { IfSome result (λ cut. words line.entry.now ≡ cut.0.now ∷ words cut.1.now) }

@@ -10,7 +10,7 @@ ghost use Rattle.rg_lts.specs.declared.fault.BuildFault.TheVariants as fault;
 use rg_lts::{BuildFault, LtsBuilder};
 use std::str;
 
-/// The bytes of a name as a text.
+/// Returns the bytes of a name as a text.
 pub fn as_name(name: &[u8]) -> &str
     requires { IsName name.now }
     ensures { result.now ≡ name.entry.now }

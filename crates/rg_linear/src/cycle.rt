@@ -14,12 +14,12 @@ pub fn cycle_is_exact()
     ensures exact { (system : LinearSystem) (members : List ℕ) → IsHomogeneous system → CycleWalk system (CycleOutcome.free_set members) → (scale : ℤ) (v : ℕ → ℤ) → IsPoint system scale v → RowsAreZero system v ↔ FollowsRelations system members v }
 {}
 
-/// The indices of the vectors that are kept are one list.
+/// Law: the indices of the vectors that are kept are one list.
 pub fn kept_is_one()
     ensures { (vectors : List (List ℤ)) (kept kept' : List ℕ) → KeepsVectors vectors kept → KeepsVectors vectors kept' → kept ≡ kept' }
 {}
 
-/// Vectors have one basis over so many labels.
+/// Law: vectors have one basis over so many labels.
 pub fn cycle_basis_is_one()
     ensures { (labels : ℕ) (vectors : List (List ℤ)) (basis basis' : CycleBasis) → IsCycleBasis labels vectors basis → IsCycleBasis labels vectors basis' → basis ≡ basis' }
 {}

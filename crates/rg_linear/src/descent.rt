@@ -7,18 +7,18 @@ ghost use Rattle.rg_linear.specs.Dictionary.{Relation, DictionaryRow};
 ghost use Rattle.rg_linear.specs.Descent.{Outcome, DescentFrom, DescentFromStart, IsAtZero, multiplier_of, IsNotWide};
 ghost use Rattle.rg_linear.specs.Width.{IsNarrow};
 
-/// A descent has one outcome, and from the start it has one for every system.
+/// Law: a descent has one outcome, and from the start it has one for every system.
 pub fn descent_is_one()
     ensures one { (system : LinearSystem) (members fixed : List ℕ) (r i : ℕ) (o o' : Outcome) → DescentFrom system members fixed r i o → DescentFrom system members fixed r i o' → o ≡ o' }
     ensures some { (system : LinearSystem) → (o : Outcome) × DescentFromStart system o }
 {}
 
-/// The point of a descent meets every row.
+/// Law: the point of a descent meets every row.
 pub fn point_is_sound()
     ensures { (system : LinearSystem) (members : List ℕ) → DescentFromStart system (Outcome.point members) → (scale : ℤ) (v : ℕ → ℤ) → IsPoint system scale v → IsAtZero members v → MeetsRows system v }
 {}
 
-/// The multipliers of a refuted descent refute: that of the failing row and those of the fixed rows are
+/// Law: the multipliers of a refuted descent refute: that of the failing row and those of the fixed rows are
 /// positive, the others 0. Then no point meets all rows.
 pub fn refuted_is_sound()
     ensures refutes { (system : LinearSystem) (members fixed : List ℕ) (i : ℕ) (k : Relation) → DescentFromStart system (Outcome.refuted members i fixed) → DictionaryRow system members (row_variable system i) k → AreFarkasMultipliers system (multiplier_of system k i) }
@@ -29,7 +29,7 @@ pub fn refuted_is_sound()
     ensures no_point { (system : LinearSystem) (multiplier : ℕ → ℤ) → AreFarkasMultipliers system multiplier → (scale : ℤ) (v : ℕ → ℤ) → IsPoint system scale v → ¬ MeetsRows system v }
 {}
 
-/// On few columns with small numbers no term of a descent is out of range.
+/// Law: on few columns with small numbers no term of a descent is out of range.
 pub fn narrow_is_not_wide()
     ensures { (system : LinearSystem) (o : Outcome) → IsNarrow system → DescentFromStart system o → IsNotWide o }
 {}

@@ -18,7 +18,7 @@ pub struct RowList {
 }
 
 impl RowList {
-    /// The list of these rows.
+    /// Returns the list of these rows.
     pub fn new(rows: Vec<Row>) -> RowList
         ensures { result.rows ≡ rows }
     {
@@ -27,8 +27,8 @@ impl RowList {
     }
 }
 
-/// A system whose rows are those of one list, and after them those of another, which it borrows: many systems can have
-/// the second list in common.
+/// A system whose rows are those of one list, and after them those of another, which it borrows: many systems can
+/// have the second list in common.
 #[derive(Drop)]
 pub struct JoinedSystem<'a> {
     columns: u32,
@@ -50,7 +50,7 @@ impl<'a> Model for JoinedSystem<'a> {
 }
 
 impl<'a> JoinedSystem<'a> {
-    /// The system of so many columns with the rows of both lists, those of `own` first.
+    /// Returns the system of so many columns with the rows of both lists, those of `own` first.
     pub fn new(columns: u32, own: &'a [Row], shared: &'a RowList) -> JoinedSystem<'a>
         requires { IsWellFormed (linear_system columns (own.now ++ shared.now.rows.items)) }
         ensures { result ≡ linear_system columns (own.now ++ shared.now.rows.items) }
@@ -64,7 +64,7 @@ impl<'a> JoinedSystem<'a> {
         }
     }
 
-    /// The system of so many columns with these rows alone.
+    /// Returns the system of so many columns with these rows alone.
     pub fn alone(columns: u32, own: &'a [Row]) -> JoinedSystem<'a>
         requires { IsWellFormed (linear_system columns own.now) }
         ensures { result ≡ linear_system columns own.now }
@@ -78,7 +78,7 @@ impl<'a> JoinedSystem<'a> {
         }
     }
 
-    /// The same system, with no row in the first list.
+    /// Returns the same system, with no row in the first list.
     pub fn of(system: &'a System) -> JoinedSystem<'a>
         ensures { result ≡ system.now }
     {
@@ -90,7 +90,7 @@ impl<'a> JoinedSystem<'a> {
         }
     }
 
-    /// How many columns there are.
+    /// Returns how many columns there are.
     pub fn columns(&self) -> u32
         ensures value { result ≡ self.now.columns }
         ensures well_formed { IsWellFormed self.now }
@@ -98,7 +98,7 @@ impl<'a> JoinedSystem<'a> {
         self.columns
     }
 
-    /// How many rows there are.
+    /// Returns how many rows there are.
     pub fn count(&self) -> u32
         ensures value { result ≡ length self.now.rows }
         ensures well_formed { IsWellFormed self.now }
@@ -106,7 +106,7 @@ impl<'a> JoinedSystem<'a> {
         (self.own.len() + self.shared.len()) as u32
     }
 
-    /// Row number `i`, counted from 0.
+    /// Returns row number `i`, counted from 0.
     pub fn row(&self, i: u32) -> &'a Row
         requires { i < length self.now.rows }
         ensures value { linear_row result.now ≡ row_at self.now i }
@@ -120,7 +120,7 @@ impl<'a> JoinedSystem<'a> {
         }
     }
 
-    /// The two lists of rows, in order.
+    /// Returns the two lists of rows, in order.
     pub fn lists(&self) -> (&'a [Row], &'a [Row])
         ensures value { map linear_row result.0.now ++ map linear_row result.1.now ≡ self.now.rows }
         ensures well_formed { IsWellFormed self.now }
@@ -128,7 +128,7 @@ impl<'a> JoinedSystem<'a> {
         (self.own, self.shared)
     }
 
-    /// The greatest norm of a row, `u64::MAX` where that passes, 0 where there is no row.
+    /// Returns the greatest norm of a row, `u64::MAX` where that passes, 0 where there is no row.
     pub fn norm(&self) -> u64
         ensures value { result ≡ kept_norm (greatest_norm self.now.rows) }
         ensures well_formed { IsWellFormed self.now }

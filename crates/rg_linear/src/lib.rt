@@ -31,19 +31,19 @@ pub use joined::{JoinedSystem, RowList};
 pub use row::{Row, norm};
 pub use system::{System, largest_norm};
 
-/// A variable has one relation over a free set.
+/// Law: a variable has one relation over a free set.
 pub fn relation_is_one()
     ensures { (system : LinearSystem) (members : List ℕ) (w : ℕ) (k l : Relation) → DictionaryRow system members w k → DictionaryRow system members w l → k ≡ l }
 {}
 
-/// The columns are free, and the relation of a row over them is the row itself.
+/// Law: the columns are free, and the relation of a row over them is the row itself.
 pub fn columns_are_free()
     ensures free { (system : LinearSystem) → IsFree system (column_set system) }
     ensures rows { (system : LinearSystem) (i : ℕ) → i < length system.rows → DictionaryRow system (column_set system) (row_variable system i) (row_relation system i) }
     ensures all { (system : LinearSystem) → HasDictionary system (column_set system) }
 {}
 
-/// Where every member is 0, a variable is its constant over its d, and there is such a point.
+/// Law: where every member is 0, a variable is its constant over its d, and there is such a point.
 pub fn zero_is_a_point()
     ensures some { (system : LinearSystem) (members : List ℕ) → IsFree system members → (scale : ℤ) × (v : ℕ → ℤ) × IsPoint system scale v × IsAtZero members v }
     ensures value { (system : LinearSystem) (members : List ℕ) (w : ℕ) (k : Relation) → DictionaryRow system members w k → (scale : ℤ) (v : ℕ → ℤ) → IsPoint system scale v → IsAtZero members v → k.d *ℤ v w ≡ k.constant *ℤ scale }
@@ -64,7 +64,7 @@ pub fn exchange_is_exact()
     ensures fit { (system : LinearSystem) (members : List ℕ) (i j : ℕ) (k : Relation) → HasDictionary system members → DictionaryRow system members i k → Contains members j → k.coefficient j ≢ pos 0 → AllFit system members i j → SetFits system members → SetFits system (exchanged members i j) }
 {}
 
-/// Of the terms of an exchange at most one is the first out of range.
+/// Law: of the terms of an exchange at most one is the first out of range.
 pub fn wide_is_one()
     ensures { (system : LinearSystem) (members : List ℕ) (i j w n w' n' : ℕ) (t t' : Wide) → FirstWide system members i j w n t → FirstWide system members i j w' n' t' → (w ≡ w') × (n ≡ n') × (t ≡ t') }
 {}

@@ -13,8 +13,8 @@ pub struct Row {
     pub ghost norm_is: { norm ≡ kept_norm (row_norm coeffs.items constant) },
 }
 
-/// The norm of a row with these coefficients and this constant: the sum of the sizes of all numbers, `u64::MAX` where
-/// that passes.
+/// Returns the norm of a row with these coefficients and this constant: the sum of the sizes of all numbers,
+/// `u64::MAX` where that passes.
 pub fn norm(coeffs: &[i128], constant: i128) -> u64
     ensures { result ≡ kept_norm (row_norm coeffs.now constant) }
 {

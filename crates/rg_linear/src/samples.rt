@@ -9,7 +9,7 @@ pub fn passing_is_wide()
     ensures { DescentFromStart passing (Outcome.wide (record { members = 1 ∷ []; pivot = 2; leaves = 1; target = 0; entry = 0; term = passing_term })) }
 {}
 
-/// With no column the row -1 refutes alone.
+/// Law: with no column the row -1 refutes alone.
 pub fn empty_is_refuted()
     ensures { DescentFromStart empty (Outcome.refuted [] 0 []) }
 {}

@@ -21,7 +21,7 @@ impl Row {
     }
 }
 
-/// The greatest norm of a row, `u64::MAX` where that passes, 0 where there is no row.
+/// Returns the greatest norm of a row, `u64::MAX` where that passes, 0 where there is no row.
 pub fn largest_norm(rows: &[Row]) -> u64
     ensures { result ≡ kept_norm (greatest_norm (map linear_row rows.now)) }
 {
@@ -55,7 +55,7 @@ impl Model for System {
 }
 
 impl System {
-    /// The system of so many columns and these rows.
+    /// Returns the system of so many columns and these rows.
     pub fn new(columns: u32, rows: Vec<Row>) -> System
         requires { IsWellFormed (linear_system columns rows.items) }
         ensures { result ≡ linear_system columns rows.items }
@@ -68,7 +68,7 @@ impl System {
         }
     }
 
-    /// How many columns there are.
+    /// Returns how many columns there are.
     pub fn columns(&self) -> u32
         ensures value { result ≡ self.now.columns }
         ensures well_formed { IsWellFormed self.now }
@@ -76,7 +76,7 @@ impl System {
         self.columns
     }
 
-    /// The rows, in order.
+    /// Returns the rows, in order.
     pub fn rows(&self) -> &[Row]
         ensures value { map linear_row result.now ≡ self.now.rows }
         ensures well_formed { IsWellFormed self.now }
@@ -84,7 +84,7 @@ impl System {
         &self.rows
     }
 
-    /// The greatest norm of a row, `u64::MAX` where that passes, 0 where there is no row.
+    /// Returns the greatest norm of a row, `u64::MAX` where that passes, 0 where there is no row.
     pub fn norm(&self) -> u64
         ensures value { result ≡ kept_norm (greatest_norm self.now.rows) }
         ensures well_formed { IsWellFormed self.now }

@@ -10,7 +10,7 @@ use rg_test_bases::is_in_range;
 use std::alloc::{AllocError, Global};
 use std::process::Abort;
 
-/// Whether the system of so many columns and these rows is well formed.
+/// Returns whether the system of so many columns and these rows is well formed.
 pub(crate) fn is_well_formed(columns: u32, rows: &[Row]) -> bool
     ensures { IsTrue result → IsWellFormed (linear_system columns rows.now) }
 {
@@ -31,8 +31,8 @@ pub(crate) fn is_well_formed(columns: u32, rows: &[Row]) -> bool
 /// The coefficients of a row, and its constant.
 pub(crate) type Told = (&'static [i128], i128);
 
-/// A system, and what its descent comes to: its answer, the set at its end, the value of each column and row as a fraction, and the
-/// multiplier of each row.
+/// A system, and what its descent comes to: its answer, the set at its end, the value of each column and row as a
+/// fraction, and the multiplier of each row.
 #[derive(Clone, Copy)]
 pub(crate) struct Case {
     pub columns: u32,
@@ -43,7 +43,7 @@ pub(crate) struct Case {
     pub multipliers: &'static [i128],
 }
 
-/// The rows of a case.
+/// Returns the rows of a case.
 pub(crate) fn rows_of(alloc: Global, told: &[Told]) -> Result<Vec<Row>, AllocError> {
     let mut rows = Vec::new(alloc);
     for (coeffs, constant) in told {
@@ -123,7 +123,7 @@ fn show(alloc: Global, system: &System) -> Option<Shown> {
     })
 }
 
-/// What the dictionary of these rows shows once it is settled.
+/// Returns what the dictionary of these rows shows once it is settled.
 pub(crate) fn shown_of(alloc: Global, columns: u32, rows: Vec<Row>) -> Option<Shown> {
     if !is_well_formed(columns, &rows) {
         return None;
@@ -131,7 +131,7 @@ pub(crate) fn shown_of(alloc: Global, columns: u32, rows: Vec<Row>) -> Option<Sh
     show(alloc, &System::new(columns, rows))
 }
 
-/// What the descent over the rows of a case shows.
+/// Returns what the descent over the rows of a case shows.
 pub(crate) fn outcome(alloc: Global, columns: u32, told: &[Told]) -> Option<Shown> {
     let rows = rows_of(alloc, told).ok()?;
     shown_of(alloc, columns, rows)
@@ -150,7 +150,7 @@ fn is_settled(alloc: Global, case: &Case) -> bool {
     }
 }
 
-/// The descent of each case has the result that the case names.
+/// Checks that the descent of each case has the result that the case names.
 pub(crate) fn are_settled(rt: &(impl Abort + AllocGlobal), cases: &[Case]) {
     for case in cases {
         assert!(rt;

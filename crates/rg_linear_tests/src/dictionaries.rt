@@ -77,8 +77,8 @@ fn table_by_hand(alloc: Global) -> Result<RelationTable, AllocError> {
     Ok(dictionary)
 }
 
-// Variables and their numbers, after the first exchange and after the second. In the second one the coefficient of x1 is negative, and
-// the new numbers of x0 have the factor 2.
+// Variables and their numbers, after the first exchange and after the second. In the second one the coefficient of x1
+// is negative, and the new numbers of x0 have the factor 2.
 const AFTER_ONE: [(u32, [i128; 5]); 3] = [
     (0, [2, -8, -4, 6, 1]),
     (4, [2, -14, -10, 18, 3]),

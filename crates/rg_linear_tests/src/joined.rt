@@ -24,8 +24,8 @@ fn has_rows(system: &JoinedSystem<'_>, rows: &[Row], first: usize) -> bool {
         && rows.get(first..) == Some(shared)
 }
 
-// How the descent ends on the system, if it has two columns, this norm and these rows, the first `first` of them in the first list, and all
-// rows in one list come to the same.
+// How the descent ends on the system, if it has two columns, this norm and these rows, the first `first` of them in
+// the first list, and all rows in one list come to the same.
 fn end_of(
     alloc: Global,
     system: &JoinedSystem<'_>,

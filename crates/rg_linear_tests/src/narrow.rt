@@ -1,5 +1,5 @@
-//! Systems of no column to five, with numbers as great as such a system may have for `settle` never to be refused; and one with
-//! greater numbers, which is refused.
+//! Systems of no column to five, with numbers as great as such a system may have for `settle` never to be refused;
+//! and one with greater numbers, which is refused.
 use crate::descents::{Case, are_settled};
 use rg_feasible::{PivotWide, Settled};
 use rg_integers::Wide;

@@ -32,7 +32,7 @@ fn coefficient(relation: &Relation, variable: usize) -> i128 {
     relation.coefficients.get(variable).copied().unwrap_or(0)
 }
 
-/// The descent over these rows.
+/// Returns the descent over these rows.
 pub(crate) fn descent(alloc: Global, columns: u32, rows: &[Row]) -> Result<Plain, AllocError> {
     let variables = (columns as usize).wrapping_add(rows.len());
     let mut relations = Vec::new(alloc);

@@ -44,7 +44,7 @@ fn multipliers(alloc: Global, revised: &Revised, rows: u32) -> Result<Vec<i128>,
     Ok(multipliers)
 }
 
-/// What the revised dictionary of the system with these rows after its own shows.
+/// Returns what the revised dictionary of the system with these rows after its own shows.
 pub(crate) fn show(
     alloc: Global,
     system: &JoinedSystem<'_>,
@@ -69,7 +69,7 @@ pub(crate) fn show(
     Ok(small)
 }
 
-/// What the revised dictionary shows where a system without a row gets these rows.
+/// Returns what the revised dictionary shows where a system without a row gets these rows.
 pub(crate) fn settle_small(alloc: Global, columns: u32, rows: &[Row]) -> Option<Small> {
     if !is_well_formed(columns, rows) {
         return None;
@@ -197,8 +197,8 @@ fn is_large(alloc: Global, columns: u32, told: &[Told]) -> bool {
 // x - (2^63 - 1): the row's norm passes 2^63 - 1
 const LONG: [Told; 1] = [(&[1], 1 - 9223372036854775808)];
 
-// The row 100*b - 99*a - 1 for each two neighbours of ten columns: the denominator is multiplied by 99 at each exchange. The
-// last one needs sums of 128 bits.
+// The row 100*b - 99*a - 1 for each two neighbours of ten columns: the denominator is multiplied by 99 at each
+// exchange. The last one needs sums of 128 bits.
 const GROWING: [Told; 9] = [
     (&[-99, 100, 0, 0, 0, 0, 0, 0, 0, 0], -1),
     (&[0, -99, 100, 0, 0, 0, 0, 0, 0, 0], -1),

@@ -7,7 +7,7 @@ use crate::lts::{Lts, first_index};
 use rg_theory::Arc;
 
 impl Lts {
-    /// The arcs that leave state `s`, each once, ordered by label and the state that they enter.
+    /// Returns the arcs that leave state `s`, each once, ordered by label and the state that they enter.
     pub fn arcs_from(&self, s: u32) -> &[Arc]
         requires { s < states self.now }
         ensures members { (a : Arc) → Contains result.now a ↔ (Contains self.now.arcs a × (a.from ≡ s)) }

@@ -45,7 +45,7 @@ impl Model for LtsBuilder {
 }
 
 impl LtsBuilder {
-    /// A builder of a system without states.
+    /// Returns a builder of a system without states.
     pub fn new(alloc: Global) -> LtsBuilder
         ensures { result ≡ blank }
     {
@@ -137,8 +137,9 @@ impl LtsBuilder {
         Ok(())
     }
 
-    /// Adds the arc between two states that are there, by their numbers. An arc that is there already changes nothing.
-    /// Returns `TooManyArcs` if the arc is new and there are 262,144 arcs, and `NoMemory` if memory runs out.
+    /// Adds the arc between two states that are there, by their numbers. An arc that is there already changes
+    /// nothing. Returns `TooManyArcs` if the arc is new and there are 262,144 arcs, and `NoMemory` if memory runs
+    /// out.
     pub fn arc_between(&mut self, arc: Arc) -> Result<(), BuildFault>
         requires { IsArcWithin self.old arc }
         ensures ok { OnOk result (AddsArc self.old self.new arc) }

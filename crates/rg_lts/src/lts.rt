@@ -57,7 +57,7 @@ impl Lts {
         let _initial = self.initial;
     }
 
-    /// How many states there are, 1 to 4,096.
+    /// Returns how many states there are, 1 to 4,096.
     pub fn states(&self) -> u32
         ensures value { result ≡ states self.now }
         ensures well_formed { IsWellFormed self.now }
@@ -65,7 +65,7 @@ impl Lts {
         self.state_names.len() as u32
     }
 
-    /// How many labels there are, at most 256.
+    /// Returns how many labels there are, at most 256.
     pub fn labels(&self) -> u32
         ensures value { result ≡ labels self.now }
         ensures well_formed { IsWellFormed self.now }
@@ -73,7 +73,7 @@ impl Lts {
         self.label_names.len() as u32
     }
 
-    /// The initial state.
+    /// Returns the initial state.
     pub fn initial(&self) -> u32
         ensures value { result ≡ self.now.initial }
         ensures in_range { result < states self.now }
@@ -81,7 +81,7 @@ impl Lts {
         self.initial
     }
 
-    /// All arcs, each once, ordered by the state that they leave, label, and the state that they enter.
+    /// Returns all arcs, each once, ordered by the state that they leave, label, and the state that they enter.
     pub fn arcs(&self) -> &[Arc]
         ensures value { result.now ≡ self.now.arcs }
         ensures well_formed { IsWellFormed self.now }
@@ -89,8 +89,8 @@ impl Lts {
         &self.arcs
     }
 
-    /// Where the first arc of label `t` at state `s` leads, which is the least such state; None where
-    /// `t` has no arc there.
+    /// Returns where the first arc of label `t` at state `s` leads, which is the least such state; None where `t` has
+    /// no arc there.
     pub fn arc_at(&self, s: u32, t: u32) -> Option<u32>
         requires state { s < states self.now }
         requires label { t < labels self.now }
@@ -101,7 +101,7 @@ impl Lts {
         first_target(&self.arcs, s, t)
     }
 
-    /// The name of state `s`.
+    /// Returns the name of state `s`.
     pub fn state_name(&self, s: u32) -> &str
         requires { s < states self.now }
         ensures { slice_get self.now.state_names s ≡ Some result.now }
@@ -109,7 +109,7 @@ impl Lts {
         self.state_names.name(s as usize)
     }
 
-    /// The name of label `t`.
+    /// Returns the name of label `t`.
     pub fn label_name(&self, t: u32) -> &str
         requires { t < labels self.now }
         ensures { slice_get self.now.label_names t ≡ Some result.now }

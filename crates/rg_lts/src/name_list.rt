@@ -6,9 +6,9 @@ use std::alloc::{AllocError, Global};
 use std::collections::BTreeMap;
 use std::marker::Model;
 
-/// Names in the order in which they were added. Each name has a slot by its digest. The slot has the number of the name
-/// or of another one with the same slot; then a map in the order of the names has the number. So each name is found in
-/// few steps, also where all names have one digest.
+/// Names in the order in which they were added. Each name has a slot by its digest. The slot has the number of the
+/// name or of another one with the same slot; then a map in the order of the names has the number. So each name is
+/// found in few steps, also where all names have one digest.
 #[derive(Drop)]
 pub struct NameList {
     names: Vec<String>,
@@ -29,8 +29,8 @@ impl Model for NameList {
 }
 
 impl NameList {
-    /// Returns a list of no names. When the first name is added, the list takes memory for four slots for each name that is
-    /// expected. There may be more names, or fewer.
+    /// Returns a list of no names. When the first name is added, the list takes memory for four slots for each name
+    /// that is expected. There may be more names, or fewer.
     pub fn new(alloc: Global, expected: usize) -> NameList
         ensures { result ≡ [] }
     {

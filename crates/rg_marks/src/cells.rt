@@ -26,8 +26,8 @@ pub(crate) fn finer(
     Ok(Some(refined))
 }
 
-// Whether each state has as many tokens as the state by which its cell is numbered. The answer may be no where a number isn't that of a state
-// of the cell.
+// Whether each state has as many tokens as the state by which its cell is numbered. The answer may be no where a
+// number isn't that of a state of the cell.
 fn are_same_within(cells: &[u32], tokens: &[u128]) -> bool
     requires { length cells.now ≡ length tokens.now }
     ensures { IsTrue result → AreRefined cells.now tokens.now cells.now }

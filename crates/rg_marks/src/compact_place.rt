@@ -16,8 +16,8 @@ struct LabelWeights {
     post: u128,
 }
 
-/// A place that keeps weights only of the labels that take tokens from it or put tokens on it. A net has one transition
-/// for each label, and most places of nets have weights of two or three labels.
+/// A place that keeps weights only of the labels that take tokens from it or put tokens on it. A net has one
+/// transition for each label, and most places of nets have weights of two or three labels.
 #[derive(Drop)]
 pub struct CompactPlace {
     start: u128,
@@ -68,7 +68,8 @@ impl CompactPlace {
     }
 }
 
-// The weights of so many labels, of which those that aren't 0 are listed: how much each label takes, and how much it puts.
+// The weights of so many labels, of which those that aren't 0 are listed: how much each label takes, and how much it
+// puts.
 fn all_weights(
     alloc: Global,
     labels: u32,

@@ -17,7 +17,8 @@ use rg_net::Place;
 use rg_theory::Problem;
 use std::alloc::{AllocError, Global};
 
-/// What some places of a system separate. The order of the places doesn't matter, and the places themselves aren't kept.
+/// What some places of a system separate. The order of the places doesn't matter, and the places themselves aren't
+/// kept.
 #[derive(Drop)]
 pub struct Separated {
     /// A row for each label, with a mark for each state: whether one of the places stops the label there.
@@ -28,7 +29,7 @@ pub struct Separated {
 }
 
 impl Separated {
-    /// What no place separates: nothing. Returns `AllocError` if memory runs out.
+    /// Returns what no place separates: nothing. Returns `AllocError` if memory runs out.
     pub fn nothing(alloc: Global, lts: &Lts) -> Result<Separated, AllocError>
         ensures { IfOk result (SeparateSoMuch lts.now []) }
     {
@@ -68,7 +69,7 @@ impl Separated {
         Ok(Firsts { events, cells })
     }
 
-    /// Whether one of the places separates the problem of the system.
+    /// Returns whether one of the places separates the problem of the system.
     pub fn separates(&self, lts: &Lts, problem: Problem) -> bool
         requires problem { IsProblem lts.now problem }
         requires some { AreSome lts.now self.now }
@@ -79,8 +80,8 @@ impl Separated {
             Problem::States(s, other) => self.cells[s as usize] != self.cells[other as usize],
         }
     }
-    /// Whether the places separate all state problems of the system: every two states are distinguished by one of
-    /// them.
+    /// Returns whether the places separate all state problems of the system: every two states are distinguished by
+    /// one of them.
     pub fn are_all_apart(&self) -> bool
         ensures { (lts : System) (places : List PlaceOfTheory) → SeparateSoMuch lts places self.now → (IsTrue result ↔ AreAllApart lts places) }
     {

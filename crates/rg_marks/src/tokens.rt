@@ -11,7 +11,8 @@ use rg_net::Place;
 use rg_theory::Arc;
 use std::alloc::{AllocError, Global};
 
-/// Returns a number for each state of the system, for `fill_tokens` to write. Returns `AllocError` if memory runs out.
+/// Returns a number for each state of the system, for `fill_tokens` to write. Returns `AllocError` if memory runs
+/// out.
 pub fn no_tokens(alloc: Global, lts: &Lts) -> Result<Vec<u128>, AllocError>
     ensures one_each { IfOk result (λ v. length v.items ≡ states lts.now) }
     ensures well_formed { IfOk result (λ _. IsWellFormed lts.now) }

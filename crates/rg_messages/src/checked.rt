@@ -12,7 +12,7 @@ use rg_net::ClassBreak;
 use rg_net_verdict::NetNo;
 use std::alloc::{AllocError, Global};
 
-/// The line that says that the net solves the system and is of the class.
+/// Returns the line that says that the net solves the system and is of the class.
 pub fn yes_text(alloc: Global) -> Result<Vec<u8>, AllocError>
     ensures { IfOk result (λ text. text.items ≡ yes_line) }
 {

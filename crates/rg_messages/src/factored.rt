@@ -110,7 +110,7 @@ fn push_tuple(
     Ok(())
 }
 
-/// The line before the certificate of a factor that no net of the class solves.
+/// Returns the line before the certificate of a factor that no net of the class solves.
 pub fn unsolvable_factor_text(alloc: Global, i: u32) -> Result<Vec<u8>, AllocError>
     ensures { IfOk result (λ text. text.items ≡ unsolvable_factor_line i) }
 {

@@ -38,7 +38,7 @@ pub enum Fault {
     Net(NetFault),
 }
 
-/// The line that says which of the files has which fault.
+/// Returns the line that says which of the files has which fault.
 pub fn file_text(alloc: Global, fault: FileFault) -> Result<Vec<u8>, AllocError>
     ensures { IfOk result (λ text. text.items ≡ file_line fault) }
 {

@@ -4,7 +4,7 @@ ghost use Rattle.rg_messages.specs.SplitTexts.{full_line};
 
 use std::alloc::{AllocError, Global};
 
-/// The line that says that there is no room for a label more.
+/// Returns the line that says that there is no room for a label more.
 pub fn full_text(alloc: Global) -> Result<Vec<u8>, AllocError>
     ensures { IfOk result (λ text. text.items ≡ full_line) }
 {

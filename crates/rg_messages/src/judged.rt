@@ -9,7 +9,7 @@ use rg_theory::{Class, class_text};
 use rg_verify::{Defect, Variable};
 use std::alloc::{AllocError, Global};
 
-/// The line that accepts a certificate of this class.
+/// Returns the line that accepts a certificate of this class.
 pub fn accepted_text(alloc: Global, class: Class) -> Result<Vec<u8>, AllocError>
     ensures { IfOk result (λ text. text.items ≡ accepted_line class) }
 {
@@ -22,7 +22,7 @@ pub fn accepted_text(alloc: Global, class: Class) -> Result<Vec<u8>, AllocError>
     Ok(text)
 }
 
-/// The line that refuses a text that is that of no certificate.
+/// Returns the line that refuses a text that is that of no certificate.
 pub fn fault_text(alloc: Global, fault: CertFault) -> Result<Vec<u8>, AllocError>
     ensures { IfOk result (λ text. text.items ≡ refused_line (cert_fault_text fault)) }
 {

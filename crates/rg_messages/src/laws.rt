@@ -9,12 +9,14 @@ ghost use Rattle.rg_net_verdict.specs.declared.verdict.NetVerdict.TheVariants as
 ghost use Rattle.rg_net_verdict.specs.Verdict.{IsVerdict};
 ghost use Rattle.rg_messages.specs.CheckedTexts.{HasNames};
 
-/// The states and labels of a difference between a net and a system are the system's, so `check_text` may be called.
+/// Law: the states and labels of a difference between a net and a system are the system's, so `check_text` may be
+/// called.
 pub fn verdict_has_names()
     ensures { (lts : System) (net : Net) (class : Class) (n : NetNo) → IsInRange lts → net.labels ≡ labels lts → IsVerdict lts net class (Ok (verdict.No n)) → HasNames lts n }
 {}
 
-/// What a state graph can't hold of a system is the system's, so `label_loss_text` and `state_loss_text` may be called.
+/// Law: what a state graph can't hold of a system is the system's, so `label_loss_text` and `state_loss_text` may be
+/// called.
 pub fn loss_has_name()
     ensures label { (lts : System) (t : ℕ) → IsFirstDead lts t → t < labels lts }
     ensures state { (lts : System) (s : ℕ) → IsFirstLost lts s → s < states lts }

@@ -7,7 +7,7 @@ use crate::pieces::{push_label, push_state};
 use rg_lts::Lts;
 use std::alloc::{AllocError, Global};
 
-/// The line that says that a state graph can't hold label `t`.
+/// Returns the line that says that a state graph can't hold label `t`.
 pub fn label_loss_text(alloc: Global, lts: &Lts, t: u32) -> Result<Vec<u8>, AllocError>
     requires { t < labels lts.now }
     ensures { IfOk result (λ text. text.items ≡ lost_label_line lts.now t) }
@@ -18,7 +18,7 @@ pub fn label_loss_text(alloc: Global, lts: &Lts, t: u32) -> Result<Vec<u8>, Allo
     Ok(text)
 }
 
-/// The line that says that a state graph can't hold state `s`.
+/// Returns the line that says that a state graph can't hold state `s`.
 pub fn state_loss_text(alloc: Global, lts: &Lts, s: u32) -> Result<Vec<u8>, AllocError>
     requires { s < states lts.now }
     ensures { IfOk result (λ text. text.items ≡ lost_state_line lts.now s) }

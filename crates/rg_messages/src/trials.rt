@@ -9,7 +9,8 @@ use rg_families::Kind;
 use rg_lts::Lts;
 use std::alloc::{AllocError, Global};
 
-/// The line that says of the system of a family that a net of so many places solves it, with the line of the verdict on that net.
+/// Returns the line that says of the system of a family that a net of so many places solves it, with the line of the
+/// verdict on that net.
 pub fn solved_text(
     alloc: Global,
     kind: Kind,
@@ -27,7 +28,8 @@ pub fn solved_text(
     Ok(text)
 }
 
-/// The line that says of the system of a family why no net solves it, where the certificate with that reason is accepted.
+/// Returns the line that says of the system of a family why no net solves it, where the certificate with that reason
+/// is accepted.
 pub fn unsolvable_text(
     alloc: Global,
     kind: Kind,

@@ -7,7 +7,7 @@ use rg_commands::Usage;
 use rg_theory::ClassFault;
 use std::alloc::{AllocError, Global};
 
-/// The line that says why the words are refused.
+/// Returns the line that says why the words are refused.
 pub fn usage_text(alloc: Global, usage: Usage) -> Result<Vec<u8>, AllocError>
     ensures { IfOk result (λ text. text.items ≡ usage_line usage) }
 {

@@ -26,10 +26,10 @@ pub enum ClassBreak {
     NotMultiple(u32),
 }
 
-/// Whether the net is of the class as far as these markings show, each with one number for each place: every place
-/// meets the conditions on weights, and has in none of the markings more tokens than the bound. If not, the first
-/// break: by place, then pure, plain, the bound, nonbranching and the marking in this order, then by the other numbers. It
-/// takes no memory.
+/// Returns whether the net is of the class as far as these markings show, each with one number for each place: every
+/// place meets the conditions on weights, and has in none of the markings more tokens than the bound. If not, the
+/// first break: by place, then pure, plain, the bound, nonbranching and the marking in this order, then by the other
+/// numbers. It takes no memory.
 pub fn in_class(net: &Net, markings: &[Vec<u128>], class: Class) -> Result<(), ClassBreak>
     requires places { All (λ m. length m ≡ length net.now.places) (shown_markings markings.now) }
     requires few { length markings.now < 4294967296 }
@@ -46,8 +46,8 @@ pub fn in_class(net: &Net, markings: &[Vec<u128>], class: Class) -> Result<(), C
     Ok(())
 }
 
-// The first break at the place with this number. Of the markings it is given the first place with more tokens than the bound,
-// which doesn't come before, and the first marking that shows it.
+// The first break at the place with this number. Of the markings it is given the first place with more tokens than
+// the bound, which doesn't come before, and the first marking that shows it.
 fn first_at(
     net: &Net,
     class: Class,

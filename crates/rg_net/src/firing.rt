@@ -28,8 +28,8 @@ impl From<AllocError> for FireStop {
     }
 }
 
-/// Whether label `t` is enabled at the marking, which has one number for each place: every place has the tokens that
-/// the label takes from it. It takes no memory.
+/// Returns whether label `t` is enabled at the marking, which has one number for each place: every place has the
+/// tokens that the label takes from it. It takes no memory.
 pub fn enabled(net: &Net, marking: &[u128], t: u32) -> bool
     requires places { length marking.now ≡ length net.now.places }
     requires label { t < net.now.labels }
@@ -44,8 +44,8 @@ pub fn enabled(net: &Net, marking: &[u128], t: u32) -> bool
     true
 }
 
-/// The marking after the firing of label `t`, which is enabled at the marking. The marking has one number for each
-/// place, none over `2^127 - 1`. Returns `Passes` if a place would get more than `2^127 - 1` tokens.
+/// Returns the marking after the firing of label `t`, which is enabled at the marking. The marking has one number for
+/// each place, none over `2^127 - 1`. Returns `Passes` if a place would get more than `2^127 - 1` tokens.
 pub fn fire(alloc: Global, net: &Net, marking: &[u128], t: u32) -> Result<Vec<u128>, FireStop>
     requires enabled { IsEnabled net.now marking.now t }
     requires places { length marking.now ≡ length net.now.places }

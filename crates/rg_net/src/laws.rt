@@ -13,7 +13,7 @@ pub fn net_is_told()
     ensures { (lts : System) (a b : Net) → a.labels ≡ labels lts → b.labels ≡ labels lts → IsNetInRange a → IsNetInRange b → net_text a lts ≡ net_text b lts → a ≡ b }
 {}
 
-/// Where there are at most 256 labels, none is the prefix of the places followed by digits alone, so none is the
+/// Law: where there are at most 256 labels, none is the prefix of the places followed by digits alone, so none is the
 /// name of a place.
 pub fn prefix_is_free()
     ensures { (names : List (List ℕ)) → length names ≤ most_labels → list_any (blocks (place_prefix names)) names ≡ false }

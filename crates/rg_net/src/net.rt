@@ -34,7 +34,7 @@ impl Model for Net {
 }
 
 impl Net {
-    /// The net of these places for so many labels. Each place has one weight of each kind for each label, no
+    /// Returns the net of these places for so many labels. Each place has one weight of each kind for each label, no
     /// start and no weight is over `2^127 - 1`, and there are fewer than `2^32` places.
     pub fn new(labels: u32, places: Vec<Place>) -> Net
         requires { IsNetInRange (record { labels = labels; places = map shown_place places.items }) }
@@ -43,14 +43,14 @@ impl Net {
         Net { labels, places }
     }
 
-    /// How many labels there are.
+    /// Returns how many labels there are.
     pub fn labels(&self) -> u32
         ensures { result ≡ self.now.labels }
     {
         self.labels
     }
 
-    /// The places, in the order in which they were given.
+    /// Returns the places, in the order in which they were given.
     pub fn places(&self) -> &[Place]
         ensures value { map shown_place result.now ≡ self.now.places }
         ensures in_range { IsNetInRange self.now }

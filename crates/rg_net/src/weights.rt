@@ -40,8 +40,8 @@ pub(crate) fn first_heavy(labels: u32, place: &Place) -> Option<u32>
     None
 }
 
-// Of so many places the first that has more tokens than the bound in one of the markings, and the first such marking. It
-// goes over the markings once.
+// Of so many places the first that has more tokens than the bound in one of the markings, and the first such marking.
+// It goes over the markings once.
 pub(crate) fn first_over(
     markings: &[Vec<u128>],
     places: u32,

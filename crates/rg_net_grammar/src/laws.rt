@@ -9,7 +9,7 @@ ghost use Rattle.rg_net_grammar.specs.Reading.{net_grammar};
 ghost use Rattle.rg_net_grammar.specs.Contents.{declared};
 ghost use Rattle.rg_net_grammar.specs.Text.{AreItemsOf, FirstItemFault};
 
-/// A text is items or has a first fault, never both. What its items declare is one, and so is its fault.
+/// Law: a text is items or has a first fault, never both. What its items declare is one, and so is its fault.
 pub fn one_answer()
     ensures some { (bytes : List ℕ) → ((items : List Item) × AreItemsOf bytes items) ⊎ ((f : ItemFault) × FirstItemFault bytes f) }
     ensures one_meaning { (bytes : List ℕ) (a b : List Item) → AreItemsOf bytes a → AreItemsOf bytes b → declared a ≡ declared b }

@@ -35,7 +35,7 @@ pub enum Position {
     AfterPre,
 }
 
-/// What is wanted at a position.
+/// Returns what is wanted at a position.
 pub fn want_at(position: Position) -> Want
     ensures { (bytes : List ℕ) → result ≡ wanted (position_in bytes position) }
 {
@@ -73,7 +73,7 @@ fn after_word(text: &[u8]) -> Position
     }
 }
 
-/// Where a token leads at the start, after a passed-over text and after the marking's set.
+/// Returns where a token leads at the start, after a passed-over text and after the marking's set.
 pub fn from_start(token: Token, text: &[u8]) -> Option<Position>
     ensures leads { (bytes : List ℕ) → slice_range bytes token.from token.to ≡ text.now
         → option_map (position_in bytes) result ≡ leads table.section (lexeme bytes token) }
@@ -91,7 +91,7 @@ fn is_type_name(text: &[u8]) -> bool
     text == b"PN".as_slice() || text == b"LPN".as_slice()
 }
 
-/// Where a token leads after `.type`.
+/// Returns where a token leads after `.type`.
 pub fn from_type(token: Token, text: &[u8]) -> Option<Position>
     ensures leads { (bytes : List ℕ) → slice_range bytes token.from token.to ≡ text.now
         → option_map (position_in bytes) result ≡ leads table.type_name (lexeme bytes token) }
@@ -109,7 +109,7 @@ pub fn from_type(token: Token, text: &[u8]) -> Option<Position>
     }
 }
 
-/// Where a token leads after a word that isn't a section's.
+/// Returns where a token leads after a word that isn't a section's.
 pub fn from_word(token: Token) -> Option<Position>
     ensures leads { (bytes : List ℕ) → option_map (position_in bytes) result ≡ leads table.passed_text (lexeme bytes token) }
     ensures holds { (bytes : List ℕ) → IfSome result (HoldsTokens bytes) }
@@ -120,7 +120,7 @@ pub fn from_word(token: Token) -> Option<Position>
     }
 }
 
-/// Where a token leads from a position where an entry may begin.
+/// Returns where a token leads from a position where an entry may begin.
 pub fn from_section(section: Section, token: Token, text: &[u8]) -> Option<Position>
     ensures leads { (bytes : List ℕ) → slice_range bytes token.from token.to ≡ text.now
         → option_map (position_in bytes) result ≡ leads (table.in_section (section_in section)) (lexeme bytes token) }
@@ -133,7 +133,7 @@ pub fn from_section(section: Section, token: Token, text: &[u8]) -> Option<Posit
     }
 }
 
-/// Where a token leads directly after an entry.
+/// Returns where a token leads directly after an entry.
 pub fn from_entry(section: Section, token: Token, text: &[u8]) -> Option<Position>
     ensures leads { (bytes : List ℕ) → slice_range bytes token.from token.to ≡ text.now
         → option_map (position_in bytes) result ≡ leads (table.after_entry (section_in section)) (lexeme bytes token) }
@@ -147,7 +147,7 @@ pub fn from_entry(section: Section, token: Token, text: &[u8]) -> Option<Positio
     }
 }
 
-/// Where a token leads in an option list.
+/// Returns where a token leads in an option list.
 pub fn from_list(section: Section, position: ListPosition, token: Token) -> Option<Position>
     ensures leads { (bytes : List ℕ) → option_map (position_in bytes) result
         ≡ leads (table.in_list (section_in section) (list_position_in bytes position)) (lexeme bytes token) }
@@ -160,7 +160,7 @@ pub fn from_list(section: Section, position: ListPosition, token: Token) -> Opti
     }
 }
 
-/// Where a token leads from a position where a flow may begin.
+/// Returns where a token leads from a position where a flow may begin.
 pub fn from_flows(token: Token, text: &[u8]) -> Option<Position>
     ensures leads { (bytes : List ℕ) → slice_range bytes token.from token.to ≡ text.now
         → option_map (position_in bytes) result ≡ leads table.in_flows (lexeme bytes token) }
@@ -173,7 +173,7 @@ pub fn from_flows(token: Token, text: &[u8]) -> Option<Position>
     }
 }
 
-/// Where a token leads after a flow's name.
+/// Returns where a token leads after a flow's name.
 pub fn from_flow_name(token: Token) -> Option<Position>
     ensures leads { (bytes : List ℕ) → option_map (position_in bytes) result ≡ leads table.after_flow_name (lexeme bytes token) }
     ensures holds { (bytes : List ℕ) → IfSome result (HoldsTokens bytes) }
@@ -184,7 +184,7 @@ pub fn from_flow_name(token: Token) -> Option<Position>
     }
 }
 
-/// Where a token leads after the first set of a flow.
+/// Returns where a token leads after the first set of a flow.
 pub fn from_pre(token: Token) -> Option<Position>
     ensures leads { (bytes : List ℕ) → option_map (position_in bytes) result ≡ leads table.after_pre (lexeme bytes token) }
     ensures holds { (bytes : List ℕ) → IfSome result (HoldsTokens bytes) }

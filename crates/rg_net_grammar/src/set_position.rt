@@ -31,7 +31,7 @@ pub enum SetPosition {
     AfterMember,
 }
 
-/// What is wanted at a position of a set.
+/// Returns what is wanted at a position of a set.
 pub fn set_wanted(position: SetPosition) -> Want
     ensures { (bytes : List ℕ) → result ≡ set_wanted (set_position_in bytes position) }
 {
@@ -138,7 +138,7 @@ fn from_member(side: Side, token: Token) -> Option<Position>
     }
 }
 
-/// Where a token leads in a set.
+/// Returns where a token leads in a set.
 pub fn from_set(bytes: &[u8], side: Side, position: SetPosition, token: Token) -> Option<Position>
     requires token { IsTokenOf bytes.now token }
     requires held { HoldsMember bytes.now position }

@@ -11,7 +11,7 @@ use crate::found::Found;
 use rg_grammar::{ItemFault, read};
 use std::alloc::Global;
 
-/// What a net file of at most 16,777,216 bytes declares, or its first fault in tokens or grammar. By
+/// Returns what a net file of at most 16,777,216 bytes declares, or its first fault in tokens or grammar. By
 /// `one_answer` no other answer meets these clauses: what a text declares is one, and so is its first fault.
 ///
 /// A file is a list of items: `.type` with `PN` or `LPN`; `.places` and `.transitions` with entries, which are

@@ -13,7 +13,8 @@ pub(crate) struct Flow {
     pub post: u128,
 }
 
-// For each label the places from which it takes or on which it puts tokens, in their order. It goes over the places once.
+// For each label the places from which it takes or on which it puts tokens, in their order. It goes over the places
+// once.
 pub(crate) fn flows_of(alloc: Global, net: &Net) -> Result<Vec<Vec<Flow>>, AllocError>
     ensures { IfOk result (λ flows. AreFlows net.now flows.items) }
 {

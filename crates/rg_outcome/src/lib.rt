@@ -1,9 +1,10 @@
-//! The one answer for a system and a class, as a definition, and the laws about it. The functions here do nothing: each contract is
-//! a law.
+//! The one answer for a system and a class, as a definition, and the laws about it. The functions here do nothing:
+//! each contract is a law.
 //!
-//! Regions that separate all problems make a net that solves the system, and a problem that no region of the class separates leaves
-//! none (Badouel, Bernardinello and Darondeau, *Petri Net Synthesis*). Whether a region separates a problem is asked of linear
-//! systems, by branching where numbers have to be whole (Schrijver, *Theory of Linear and Integer Programming*).
+//! Regions that separate all problems make a net that solves the system, and a problem that no region of the class
+//! separates leaves none (Badouel, Bernardinello and Darondeau, *Petri Net Synthesis*). Whether a region separates a
+//! problem is asked of linear systems, by branching where numbers have to be whole (Schrijver, *Theory of Linear and
+//! Integer Programming*).
 #![tactic(auto)]
 
 ghost use Rattle.std.specs.Prelude.{◌≡◌, ◌↔◌, ℕ, List, Option, None, All};
@@ -47,16 +48,17 @@ pub fn blocks_come_to_the_same()
     ensures { (s : Setting) (last : Option Problem) (kept : List Place) (o : Separation) → ComesByBlocks s.lts (ProblemComes s) last kept o → ComesFrom s.lts (ProblemComes s) last kept o }
 {}
 
-/// A refuted problem that ends the work is the first of all refuted problems, whatever places are kept. Else no problem is
-/// refuted, each place that is kept is that of a problem, and the places separate all problems, or the term is that of the
-/// first problem that none of them separates.
+/// Law: a refuted problem that ends the work is the first of all refuted problems, whatever places are kept. Else no
+/// problem is refuted, each place that is kept is that of a problem, and the places separate all problems, or the
+/// term is that of the first problem that none of them separates.
 pub fn separation_says()
     ensures { (s : Setting) (o : Separation) → IsInRange s.lts → HasNumbersInRange s.class → IsAllReachable s.lts → IsTree s.lts s.tree → IsBasis s.lts s.tree s.basis
         → AllComeTo s.lts (ProblemComes s) o → Says s.lts (ProblemComes s) o }
 {}
 
-/// Law: the refuted problem that ends the work is the same one, with the same trees, if the work begins with regions of the class that
-/// are kept already: no region separates it (`refuted_is_inseparable`), and no earlier problem is refuted.
+/// Law: the refuted problem that ends the work is the same one, with the same trees, if the work begins with regions
+/// of the class that are kept already: no region separates it (`refuted_is_inseparable`), and no earlier problem is
+/// refuted.
 pub fn refusal_is_one()
     ensures { (s : Setting) (kept : List Place) (problem : Problem) (trees : List Tree) → IsInRange s.lts → HasNumbersInRange s.class → IsAllReachable s.lts
         → IsTree s.lts s.tree → IsBasis s.lts s.tree s.basis → All (IsRegionIn s.lts s.class) kept
@@ -86,9 +88,10 @@ pub fn outcome_is_one()
     pruned_is_one();
 }
 
-/// The places of a search are regions of the class that separate all problems, and no region of the class separates the
-/// problem that it refutes. So the net of an answer is of the class and solves the system, a reason leaves no net of the
-/// class (Badouel, Bernardinello and Darondeau, *Petri Net Synthesis*), and system and class fix the term.
+/// Law: the places of a search are regions of the class that separate all problems, and no region of the class
+/// separates the problem that it refutes. So the net of an answer is of the class and solves the system, a reason
+/// leaves no net of the class (Badouel, Bernardinello and Darondeau, *Petri Net Synthesis*), and system and class fix
+/// the term.
 pub fn outcome_is_right()
     ensures search { (lts : System) (class : Class) (o : Separation) → IsInRange lts → HasNumbersInRange class → IsAllReachable lts → Searched lts class o → IsSearchRight lts class o }
     ensures answer { (lts : System) (class : Class) (a : Answer) → IsInRange lts → HasNumbersInRange class → Out lts class a → IsRight lts class a }

@@ -17,8 +17,8 @@ use rg_integers::Wide;
 use rg_lts::Lts;
 use std::alloc::{AllocError, Global};
 
-// The effects of the labels, in order. A label without an arc has the effect 0. The list has room for one number more, that of the
-// initial state.
+// The effects of the labels, in order. A label without an arc has the effect 0. The list has room for one number
+// more, that of the initial state.
 pub(crate) fn effects(
     alloc: Global,
     lts: &Lts,
@@ -40,8 +40,8 @@ pub(crate) fn effects(
     Ok(effects)
 }
 
-// The values of the labels, in order: those of the columns, and 0 of the other labels. The list has room for one number
-// more.
+// The values of the labels, in order: those of the columns, and 0 of the other labels. The list has room for one
+// number more.
 fn values_by_label(
     alloc: Global,
     lts: &Lts,

@@ -15,9 +15,9 @@ ghost use Rattle.rg_case_folds.specs.Places.{AreFormsWhole, AreValuesOf, AreAtPo
 
 use rg_theory::Problem;
 
-/// The place that is made from values that meet the case's system, and at which its forms are whole, is a
-/// region of the class with the numbers made on the way to it, which are one list. It separates, and all
-/// its numbers are at most 2^127 - 1.
+/// Law: the place that is made from values that meet the case's system, and at which its forms are whole, is a region
+/// of the class with the numbers made on the way to it, which are one list. It separates, and all its numbers are at
+/// most 2^127 - 1.
 pub fn place_is_region()
     ensures numbers { (s : Setting) (problem : Problem) (start : Ratio) (value : ℕ → Ratio) → IsOne (numbers_fold s problem start value) }
     ensures made { (s : CaseSetting) (case : CaseSystem) (start : Ratio) (value : ℕ → Ratio) (first : ℤ) (effect : ℕ → ℤ) (scale : ℤ) (place : Place)
@@ -26,8 +26,8 @@ pub fn place_is_region()
         → place_fold s.setting s.problem start value (Ok place) → PlaceIsMade s.setting s.problem start value place }
 {}
 
-/// So is the place of each point over the columns that meets every row of the case's system and has whole
-/// forms, and that of the point that a branching finds.
+/// Law: so is the place of each point over the columns that meets every row of the case's system and has whole forms,
+/// and that of the point that a branching finds.
 pub fn points_make_places()
     ensures point { (s : CaseSetting) (case : CaseSystem) (scale : ℤ) (v : ℕ → ℤ) (start : Ratio) (value : ℕ → Ratio) (place : Place) → IsCaseOver s case
         → IsLive s.lts s.problem → IsPoint (rows_of case) scale v → MeetsRows (rows_of case) v → FormsWhole (rows_of case) case.forms scale v

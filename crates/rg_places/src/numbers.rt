@@ -51,8 +51,8 @@ fn after_effect(number: Fraction, effect: Fraction) -> Result<Fraction, Wide>
     number.add(effect)
 }
 
-// The numbers, moved so that the least is 0 where the class asks that, and then moved back where the start has to be a
-// multiple.
+// The numbers, moved so that the least is 0 where the class asks that, and then moved back where the start has to be
+// a multiple.
 pub(crate) fn shift_and_lift(
     lts: &Lts,
     class: Class,

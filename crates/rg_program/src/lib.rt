@@ -1,4 +1,5 @@
-//! What the program does: words, files and streams of the process are handed to `run`, and its status is the exit status.
+//! What the program does: words, files and streams of the process are handed to `run`, and its status is the exit
+//! status.
 #![tactic(auto)]
 
 ghost use Rattle.std.specs.Prelude.{◌≡◌};

@@ -22,9 +22,9 @@ use rg_spanning::TreeArcs;
 use rg_theory::Arc;
 use std::alloc::{AllocError, Global};
 
-/// What is left of places that separate all separation problems of the system, each of whose states is reachable: from the last
-/// place to the first, a place is dropped where the others that are left still separate all. They stay in order, and
-/// none of those left can be left out. Returns `NoMemory` if memory runs out.
+/// Returns what is left of places that separate all separation problems of the system, each of whose states is
+/// reachable: from the last place to the first, a place is dropped where the others that are left still separate all.
+/// They stay in order, and none of those left can be left out. Returns `NoMemory` if memory runs out.
 pub fn prune(alloc: Global, lts: &Lts, places: Vec<Place>) -> Result<Vec<Place>, NoMemory>
     requires reachable { IsAllReachable lts.now }
     requires narrow { All (λ p. IsNarrow lts.now (shown_place p)) places.items }
@@ -37,8 +37,8 @@ pub fn prune(alloc: Global, lts: &Lts, places: Vec<Place>) -> Result<Vec<Place>,
     Ok(drop_unneeded(alloc, lts, &tree.arcs, compact, firsts)?)
 }
 
-/// What `prune` leaves of the places, where the caller has the problems that each place is the first to separate, as a search for
-/// places finds them. Returns `NoMemory` if memory runs out.
+/// Returns what `prune` leaves of the places, where the caller has the problems that each place is the first to
+/// separate, as a search for places finds them. Returns `NoMemory` if memory runs out.
 pub fn prune_with_firsts(
     alloc: Global,
     lts: &Lts,
@@ -106,7 +106,8 @@ pub fn compact_all(
     Ok(all)
 }
 
-// Whether the place, which is the first to separate these problems, is needed besides those after it that separate so much.
+// Whether the place, which is the first to separate these problems, is needed besides those after it that separate so
+// much.
 fn is_needed(
     alloc: Global,
     lts: &Lts,

@@ -128,7 +128,8 @@ fn tokens_of(alloc: Global, lts: &Lts, place: &Place) -> Option<Vec<u128>> {
     Some(tokens)
 }
 
-// For each place the problems that it is the first to separate; an error where one isn't a region, or there is no memory left.
+// For each place the problems that it is the first to separate; an error where one isn't a region, or there is no
+// memory left.
 fn all_firsts(alloc: Global, lts: &Lts, places: &[Place]) -> Result<Vec<Firsts>, AllocError>
     requires { IsAllReachable lts.now }
     ensures { IfOk result (λ all. AreAllFirsts lts.now (map shown_place places.now) all.items) }

@@ -98,7 +98,8 @@ const ROWS: [(&[Given], [bool; 11]); 9] = [
 // Which two of four states are in one block: 0 and 1, 0 and 2, 0 and 3, 1 and 2, 1 and 3, 2 and 3.
 type Together = [bool; 6];
 
-// Places one after the other, the states and labels that each is the first to stop, and the cells before it, where it splits one.
+// Places one after the other, the states and labels that each is the first to stop, and the cells before it, where it
+// splits one.
 const FIRSTS: [(Given, &[(u32, u32)], Option<Together>); 5] = [
     (EMPTY, &[], None),
     (COUNTS, &[(0, 1)], Some([Y, Y, Y, Y, Y, Y])),

@@ -3,7 +3,7 @@
 ghost use Rattle.std.specs.Prelude.{◌≡◌, ◌≢◌, ◌↔◌, ◌⊎◌, ℕ, ◌+◌, ◌<◌, ◌≤◌, ◌^◌, length, slice_index, Contains, IsTrue, IfSome, IfNone};
 ghost use Rattle.rg_revised.specs.Reading.{IsVacant};
 
-/// The slot of the least variable that isn't fixed and that the numbers name.
+/// Returns the slot of the least variable that isn't fixed and that the numbers name.
 pub(crate) fn least_vacant(
     columns: u32,
     slots: &[u32],

@@ -15,7 +15,7 @@ pub(crate) struct LongPivot<'a> {
     pub(crate) negative: bool,
 }
 
-/// The product.
+/// Returns the product.
 pub(crate) fn product(a: i64, b: i64) -> i128
     ensures value { result ≡ a *ℤ b }
     ensures in_range { InRange result }

@@ -38,8 +38,8 @@ fn take(tableau: &mut Tableau, columns: u32, rows: Rows<'_>, stack: &[u32], i: u
     take_row(tableau, &row.coeffs, row.constant, stack, i)
 }
 
-/// Takes the rows from number `from` on. A row that is exchanged is fixed while the rows before it are taken again. The
-/// stack has the fixed rows, the last one at its end.
+/// Takes the rows from number `from` on. A row that is exchanged is fixed while the rows before it are taken again.
+/// The stack has the fixed rows, the last one at its end.
 pub(crate) fn descend(
     tableau: &mut Tableau,
     columns: u32,

@@ -28,7 +28,7 @@ pub(crate) struct Divisor {
 }
 
 impl Divisor {
-    /// The divisor of this value.
+    /// Returns the divisor of this value.
     pub(crate) fn new(value: i64) -> Divisor
         ensures { result.value ≡ value }
     {
@@ -41,7 +41,7 @@ impl Divisor {
         }
     }
 
-    /// The quotient where there is no rest, and else some number.
+    /// Returns the quotient where there is no rest, and else some number.
     pub(crate) fn candidate(self, n: i64) -> i64 {
         n.wrapping_shr(self.twos).wrapping_mul(self.inverse)
     }
@@ -57,7 +57,7 @@ impl Divisor {
         }
     }
 
-    /// The quotient, where there is no rest.
+    /// Returns the quotient, where there is no rest.
     pub(crate) fn whole_quotient(self, n: i64) -> Option<i64>
         requires positive { pos 0 <ℤ self.value }
         requires above_least { unsigned_abs n < 2 ^ 63 }
@@ -73,7 +73,7 @@ impl Divisor {
         }
     }
 
-    /// The same for any number in range.
+    /// Returns the same for any number in range.
     pub(crate) fn exact_quotient(self, n: i128) -> Option<i128>
         requires n_in_range { InRange n }
         requires positive { pos 0 <ℤ self.value }

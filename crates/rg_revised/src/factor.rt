@@ -7,7 +7,7 @@ ghost use Rattle.rg_revised.specs.Settling.{IsCommonFactor};
 
 use rg_fraction::gcd;
 
-/// The greatest number that divides `d` and all numbers.
+/// Returns the greatest number that divides `d` and all numbers.
 pub(crate) fn common_factor(d: i64, numbers: &[i64]) -> i128
     requires positive { pos 0 <ℤ d }
     ensures factor { IsCommonFactor d numbers.now result }
@@ -31,7 +31,7 @@ fn joint_factor(number: i64, factor: i128) -> i128
     gcd(i128::from(number), factor)
 }
 
-/// The quotient of a number by a factor that divides it.
+/// Returns the quotient of a number by a factor that divides it.
 pub(crate) fn divide_by_factor(number: i64, factor: i128) -> i128
     requires positive { pos 0 <ℤ factor }
     requires divides { unsigned_abs factor ∣ unsigned_abs number }

@@ -13,7 +13,7 @@ pub(crate) struct Few {
 }
 
 impl Few {
-    /// A list of none.
+    /// Returns a list of none.
     pub(crate) fn none() -> Few
         ensures { result.count ≡ 0 }
     {

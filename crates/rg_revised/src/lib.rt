@@ -1,6 +1,6 @@
-//! The revised dictionary: the relations of a system's columns over a free set, over one denominator. Those of the rows
-//! are computed from them (the revised simplex method: Chvátal, *Linear Programming*). Each function of this file has an
-//! empty body: its contract is a law.
+//! The revised dictionary: the relations of a system's columns over a free set, over one denominator. Those of the
+//! rows are computed from them (the revised simplex method: Chvátal, *Linear Programming*). Each function of this
+//! file has an empty body: its contract is a law.
 #![tactic(auto)]
 
 mod basis;
@@ -46,13 +46,13 @@ pub use revised::Revised;
 pub use saved::Saved;
 pub use walk::{RevisedWalk, Taken};
 
-/// A relation of a variable outside the set is a multiple of its primitive one, by a positive number.
+/// Law: a relation of a variable outside the set is a multiple of its primitive one, by a positive number.
 pub fn multiples_are_reduced()
     ensures some { (system : LinearSystem) (members : List ℕ) (w : ℕ) (k : Relation) → IsFree system members → w < variables system → ¬ Contains members w → IsRelationOf system members w k → (l : Relation) × DictionaryRow system members w l × IsReduced k l }
     ensures any { (system : LinearSystem) (members : List ℕ) (w : ℕ) (k l : Relation) → IsRelationOf system members w k → DictionaryRow system members w l → IsReduced k l }
 {}
 
-/// At the start each column is itself, over 1.
+/// Law: at the start each column is itself, over 1.
 pub fn columns_are_a_basis()
     ensures { (system : LinearSystem) → IsBasis system (column_set system) (pos 1) (itself (pos 1)) }
 {}
@@ -76,14 +76,15 @@ pub fn rows_are_judged()
         → ((m : ℕ) → Contains members m → ¬ Contains fixed m → m < j → k.coefficient m ≡ pos 0) → Chooses system members fixed i j }
 {}
 
-/// An exchange renews the relations of the columns; the new denominator is the size of the coefficient of the member that leaves.
+/// Law: an exchange renews the relations of the columns; the new denominator is the size of the coefficient of the
+/// member that leaves.
 pub fn basis_is_exchanged()
     ensures { (system : LinearSystem) (members : List ℕ) (d : ℤ) (relation : ℕ → Relation) (i j : ℕ) (k : Relation) → IsBasis system members d relation
         → i < variables system → ¬ Contains members i → IsRelationOf system members i k → k.d ≡ d → Contains members j → k.coefficient j ≢ pos 0
         → (relation' : ℕ → Relation) → AreRenewed system d k i j relation relation' → IsBasis system (exchanged members i j) (size (k.coefficient j)) relation' }
 {}
 
-/// Where the numbers of the columns' relations are small, no term of an exchange is out of range.
+/// Law: where the numbers of the columns' relations are small, no term of an exchange is out of range.
 pub fn small_is_not_wide()
     ensures { (system : LinearSystem) (members : List ℕ) (d : ℤ) (relation : ℕ → Relation) (i j : ℕ) → IsBasis system members d relation → IsSmall system members d relation → AllFit system members i j }
 {}

@@ -10,7 +10,7 @@ ghost use Rattle.rg_revised.specs.Long.{IsSummable};
 
 use crate::crossing::product;
 
-/// The number with a multiple of another.
+/// Returns the number with a multiple of another.
 pub(crate) fn add_long_product(a: i128, by: i64, x: i64) -> i128
     requires { InRange (a +ℤ (by *ℤ x)) }
     ensures value { result ≡ a +ℤ (by *ℤ x) }
@@ -40,7 +40,7 @@ fn add_long_row(sums: &mut [i128], row: &[i64], by: i64)
     }
 }
 
-/// The numbers of a row's relation, in sums of 128 bits.
+/// Returns the numbers of a row's relation, in sums of 128 bits.
 pub(crate) fn sum_row(coeffs: &[i128], constant: i128, table: &[i64], d: i64, sums: &mut [i128])
     requires width { 0 < length sums.old }
     requires size { length table.now ≡ length coeffs.now * length sums.old }

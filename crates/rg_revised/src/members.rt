@@ -43,7 +43,7 @@ impl Members {
     }
 }
 
-/// The slot of the variable, which is looked for at this one first.
+/// Returns the slot of the variable, which is looked for at this one first.
 pub(crate) fn slot_from(slots: &[u32], first: u32, variable: u32) -> Option<usize>
     ensures found { IfSome result (λ s. (s < length slots.now) × (slice_index slots.now s ≡ variable)) }
     ensures none { IfNone result (Contains slots.now variable → ⊥) }
@@ -55,7 +55,7 @@ pub(crate) fn slot_from(slots: &[u32], first: u32, variable: u32) -> Option<usiz
     slot_of(slots, variable)
 }
 
-/// The slot of the variable.
+/// Returns the slot of the variable.
 pub(crate) fn slot_of(slots: &[u32], variable: u32) -> Option<usize>
     ensures found { IfSome result (λ s. (s < length slots.now) × (slice_index slots.now s ≡ variable)) }
     ensures none { IfNone result (Contains slots.now variable → ⊥) }

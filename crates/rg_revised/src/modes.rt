@@ -1,4 +1,5 @@
-//! What a step does with the tableau: it reads a row, and makes an exchange. A short descent and a long one differ here alone.
+//! What a step does with the tableau: it reads a row, and makes an exchange. A short descent and a long one differ
+//! here alone.
 
 ghost use Rattle.std.specs.Prelude.{◌≡◌, ℕ, List, length, false, true, IsTrue};
 ghost use Rattle.rg_linear.specs.System.{LinearSystem};
@@ -43,7 +44,8 @@ impl Tableau {
         }
     }
 
-    /// Makes the numbers those of a relation of the row with these coefficients and this constant. False where one is too large.
+    /// Makes the numbers those of a relation of the row with these coefficients and this constant. False where one is
+    /// too large.
     pub(crate) fn read(&mut self, coeffs: &[i128], constant: i128) -> bool
         requires whole { (system : LinearSystem) × (members : List ℕ) × (i : ℕ) × IsTableauOf system members self.old × IsRow system i coeffs.now constant }
         ensures read { IsTrue result → (system : LinearSystem) (members : List ℕ) (i : ℕ) → IsTableauOf system members self.old → IsRow system i coeffs.now constant → IsRowRead system members i coeffs.now constant self.old self.new }
@@ -109,8 +111,8 @@ impl Tableau {
         }
     }
 
-    /// Exchanges the variable whose relation has the numbers with that of slot `p`. False where a number is too large; then
-    /// nothing is said of the tableau.
+    /// Exchanges the variable whose relation has the numbers with that of slot `p`. False where a number is too
+    /// large; then nothing is said of the tableau.
     pub(crate) fn exchange(&mut self, p: usize, variable: u32) -> bool
         requires relation { CanExchange self.old p variable }
         ensures exchanged { IsTrue result → IsTableauExchange self.old p variable self.new }

@@ -36,7 +36,7 @@ fn larger_size(number: i64, largest: i64) -> i64
     if size > largest { size } else { largest }
 }
 
-/// The largest size of `d` and the numbers, and at least 1.
+/// Returns the largest size of `d` and the numbers, and at least 1.
 pub(crate) fn largest_size(d: i64, numbers: &[i64]) -> i64
     requires d { unsigned_abs d ≤ 2 ^ 63 - 1 }
     requires small { RowWithin (2 ^ 63 - 1) numbers.now }

@@ -13,7 +13,8 @@ use crate::factor::{common_factor, divide_by_factor};
 use crate::members::slot_from;
 use std::alloc::{AllocError, Global};
 
-// The number of a variable that has a slot, divided by the common factor. The slot is looked for at the first one first.
+// The number of a variable that has a slot, divided by the common factor. The slot is looked for at the first one
+// first.
 fn primitive_number(
     variable: u32,
     first: u32,
@@ -35,8 +36,9 @@ fn primitive_number(
     divide_by_factor(row[slot], factor)
 }
 
-/// The numbers of the primitive relation: `d`, the constant, and those of the members in order, where the row has a number for
-/// the variable of each slot, and after them the constant. The slot of each member is looked for first at that of `firsts`.
+/// Returns the numbers of the primitive relation: `d`, the constant, and those of the members in order, where the row
+/// has a number for the variable of each slot, and after them the constant. The slot of each member is looked for
+/// first at that of `firsts`.
 pub(crate) fn primitive_numbers(
     alloc: Global,
     members: &[u32],

@@ -117,7 +117,7 @@ fn descend_twice(
 }
 
 impl Revised {
-    /// A revised dictionary for systems of so many columns. It takes all memory that a descent needs. Returns
+    /// Returns a revised dictionary for systems of so many columns. It takes all memory that a descent needs. Returns
     /// `AllocError` if there is none.
     pub fn new(alloc: Global, columns: u32) -> Result<Revised, AllocError>
         ensures { IfOk result (λ r. r.columns ≡ columns) }
@@ -132,13 +132,13 @@ impl Revised {
         })
     }
 
-    /// Makes the descent of the system with these rows after its own, from the start. Rows are taken in order. One that
-    /// fails is exchanged with the least variable of the set that its relation names and that isn't fixed; it is fixed, and
-    /// the rows before it are taken again from the first one, before the rows after it are taken. It takes no memory, and
-    /// it may be called again.
+    /// Makes the descent of the system with these rows after its own, from the start. Rows are taken in order. One
+    /// that fails is exchanged with the least variable of the set that its relation names and that isn't fixed; it is
+    /// fixed, and the rows before it are taken again from the first one, before the rows after it are taken. It takes
+    /// no memory, and it may be called again.
     ///
-    /// `Descent::Point` and `Descent::Refuted` are the outcome of the order of work. `Descent::Large` says nothing of the
-    /// system.
+    /// `Descent::Point` and `Descent::Refuted` are the outcome of the order of work. `Descent::Large` says nothing of
+    /// the system.
     pub fn settle(&mut self, system: &JoinedSystem<'_>, further: &[Row]) -> Descent
         requires columns { self.old.columns ≡ system.now.columns }
         requires well_formed { IsWellFormed (with_rows system.now (map linear_row further.now)) }
@@ -165,9 +165,9 @@ impl Revised {
         ended
     }
 
-    /// As `settle`, where the descent of the system without its last row ended with a point, and the dictionary is at it. The
-    /// descent goes on from there with the last row. Where that row's norm or a number is too large for it, the descent is made
-    /// from the start.
+    /// Goes on as `settle` does, where the descent of the system without its last row ended with a point, and the
+    /// dictionary is at it. The descent goes on from there with the last row. Where that row's norm or a number is
+    /// too large for it, the descent is made from the start.
     pub fn go_on(&mut self, system: &JoinedSystem<'_>, further: &[Row]) -> Descent
         requires columns { self.old.columns ≡ system.now.columns }
         requires well_formed { IsWellFormed (with_rows system.now (map linear_row further.now)) }
@@ -226,7 +226,7 @@ impl Revised {
         self.tableau.restore(saved);
     }
 
-    /// The value of a row of the system at the point at which every member is 0.
+    /// Returns the value of a row of the system at the point at which every member is 0.
     pub fn value(&self, row: &Row) -> Fraction
         requires held { (system : LinearSystem) × (members : List ℕ) × (i : ℕ) × IsHeldOf system members self.now × (i < length system.rows) × (row_at system i ≡ linear_row row.now) }
         requires coeffs { length row.now.coeffs.items ≡ length self.now.tableau.basis.slots }
@@ -235,7 +235,7 @@ impl Revised {
         row_value(&self.tableau, &row.coeffs, row.constant)
     }
 
-    /// The value of column `t` at the point at which every member is 0.
+    /// Returns the value of column `t` at the point at which every member is 0.
     pub fn column(&self, t: u32) -> Fraction
         requires held { (system : LinearSystem) × (members : List ℕ) × IsHeldOf system members self.now }
         requires column { t < length self.now.tableau.basis.slots }
@@ -244,8 +244,8 @@ impl Revised {
         column_value(&self.tableau, t)
     }
 
-    /// The multiplier of a row, counted among the rows from 0, after `Descent::Refuted`. The sum of the rows, each times its
-    /// multiplier, has no column and a negative constant.
+    /// Returns the multiplier of a row, counted among the rows from 0, after `Descent::Refuted`. The sum of the rows,
+    /// each times its multiplier, has no column and a negative constant.
     pub fn multiplier(&self, row: u32) -> i128
         requires refuted { (system : LinearSystem) × (members : List ℕ) × (i : ℕ) × IsRefutedAt system members i self.now }
         requires row { length self.now.tableau.basis.slots + row < 2 ^ 32 }

@@ -4,8 +4,9 @@ ghost use Rattle.std.specs.Prelude.{◌≡◌, ◌+◌, ◌*◌, ◌^◌, ◌<�
 
 /// A bound on the rows' norms, one on the numbers of the table, and whether the descent is a long one.
 ///
-/// In a short descent the second bound stays: sums of a row with numbers up to it fit 64 bits. In a long one it is the largest
-/// size that the table has: the common factor of all numbers is taken out after each exchange, and sums have 128 bits.
+/// In a short descent the second bound stays: sums of a row with numbers up to it fit 64 bits. In a long one it is
+/// the largest size that the table has: the common factor of all numbers is taken out after each exchange, and sums
+/// have 128 bits.
 #[derive(Clone, Copy)]
 pub(crate) struct Room {
     pub(crate) norm: u64,
@@ -25,7 +26,8 @@ impl Room {
         (u128::from(self.norm) + 1) * u128::from(self.most.unsigned_abs())
     }
 
-    /// Whether no term of an exchange is out of range where no number of the pivot's relation is larger than `largest`.
+    /// Returns whether no term of an exchange is out of range where no number of the pivot's relation is larger than
+    /// `largest`.
     pub(crate) fn fits_exchange(self, largest: i64) -> bool
         requires norm { self.norm < 2 ^ 63 }
         requires positive { pos 0 <ℤ largest }

@@ -84,7 +84,8 @@ fn long_divided_term(a: i64, b: i64, c: i64, d: i64, by: Divisor, most: i64) -> 
     }
 }
 
-// (a*b - c*d) / by, where there is no rest and the size is at most `most`. Numbers that are short are multiplied in 64 bits.
+// (a*b - c*d) / by, where there is no rest and the size is at most `most`. Numbers that are short are multiplied in
+// 64 bits.
 fn divide_term(a: i64, b: i64, c: i64, d: i64, by: Divisor, most: i64) -> Option<i64>
     requires positive { pos 0 <ℤ by.value }
     requires not_negative { pos 0 ≤ℤ most }
@@ -98,7 +99,7 @@ fn divide_term(a: i64, b: i64, c: i64, d: i64, by: Divisor, most: i64) -> Option
     }
 }
 
-/// The same, where the size of `a` is at most `most` already: nothing is computed where it stays.
+/// Returns the same, where the size of `a` is at most `most` already: nothing is computed where it stays.
 #[inline(never)]
 pub(crate) fn renew_number(a: i64, b: i64, c: i64, d: i64, by: Divisor, most: i64) -> Option<i64>
     requires positive { pos 0 <ℤ by.value }
@@ -113,7 +114,7 @@ pub(crate) fn renew_number(a: i64, b: i64, c: i64, d: i64, by: Divisor, most: i6
     divide_term(a, b, c, d, by, most)
 }
 
-/// The number, or its negative.
+/// Returns the number, or its negative.
 pub(crate) fn with_sign(z: i64, negative: bool, most: i64) -> i64
     requires small { unsigned_abs z ≤ unsigned_abs most }
     requires not_negative { pos 0 ≤ℤ most }
@@ -151,8 +152,9 @@ fn renew_each(
     true
 }
 
-/// Makes the row that after the exchange of the pivot with the member at its index. Its support is forgotten, unless the row stays.
-/// False where a number is larger than `most` or isn't a multiple of `d`; then nothing is said of the row.
+/// Makes the row that after the exchange of the pivot with the member at its index. Its support is forgotten, unless
+/// the row stays. False where a number is larger than `most` or isn't a multiple of `d`; then nothing is said of the
+/// row.
 pub(crate) fn renew_row(
     row: &mut [i64],
     support: &mut Support,
@@ -198,8 +200,8 @@ fn renew_few(row: &mut [i64], few: &Few, pivot: &[i64], leaving: i64, d: Divisor
     true
 }
 
-/// As `renew_row`, where the pivot's number at its index is the denominator and few of its numbers aren't 0: the others of the
-/// row stay.
+/// Renews a row as `renew_row` does, where the pivot's number at its index is the denominator and few of its numbers
+/// aren't 0: the others of the row stay.
 pub(crate) fn renew_row_at(
     row: &mut [i64],
     support: &mut Support,

@@ -8,14 +8,14 @@ use crate::row::renew_number;
 // A number is short where its size is below this one: 2^31. The product of two short ones fits 64 bits.
 const SHORT: i64 = 2_147_483_648;
 
-/// Whether the number is short.
+/// Returns whether the number is short.
 pub(crate) fn is_short(z: i64) -> bool
     ensures { IsTrue result ↔ (unsigned_abs z < 2 ^ 31) }
 {
     z < SHORT && z > -SHORT
 }
 
-/// a*b - c*d in 64 bits.
+/// Returns `a*b - c*d` in 64 bits.
 pub(crate) fn difference(a: i64, b: i64, c: i64, d: i64) -> i64
     requires a { unsigned_abs a < 2 ^ 31 }
     requires b { unsigned_abs b < 2 ^ 31 }
@@ -27,8 +27,8 @@ pub(crate) fn difference(a: i64, b: i64, c: i64, d: i64) -> i64
     a * b - c * d
 }
 
-/// The factors of a row: a number `a` of the row and the number `c` of the pivot in its column become `(a*size - c*leaving) / by`,
-/// of a size of at most `most`.
+/// The factors of a row: a number `a` of the row and the number `c` of the pivot in its column become `(a*size -
+/// c*leaving) / by`, of a size of at most `most`.
 #[derive(Clone, Copy)]
 pub(crate) struct Factors {
     size: i64,
@@ -42,7 +42,8 @@ pub(crate) struct Factors {
 }
 
 impl Factors {
-    /// These factors. They are short where all of them are, and the numbers may have the size of any short one.
+    /// Returns these factors. They are short where all of them are, and the numbers may have the size of any short
+    /// one.
     pub(crate) fn new(size: i64, leaving: i64, by: Divisor, most: i64) -> Factors
         requires positive { pos 0 <ℤ by.value }
         requires not_negative { pos 0 ≤ℤ most }
@@ -58,7 +59,7 @@ impl Factors {
         }
     }
 
-    /// What these numbers become. None where there is a rest, or the size is larger than `most`.
+    /// Returns what these numbers become. None where there is a rest, or the size is larger than `most`.
     #[inline(always)]
     pub(crate) fn renewed(self, a: i64, c: i64) -> Option<i64>
         requires small { unsigned_abs a ≤ unsigned_abs self.most }

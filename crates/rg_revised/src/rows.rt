@@ -16,7 +16,7 @@ pub(crate) struct Rows<'a> {
 }
 
 impl<'a> Rows<'a> {
-    /// The rows of the system, and after them these.
+    /// Returns the rows of the system, and after them these.
     pub(crate) fn of(system: &JoinedSystem<'a>, further: &'a [Row]) -> Rows<'a>
         ensures { linear_system system.now.columns (rows_of result) ≡ with_rows system.now (map linear_row further.now) }
     {
@@ -28,7 +28,7 @@ impl<'a> Rows<'a> {
         }
     }
 
-    /// Row number `i`, counted from 0.
+    /// Returns row number `i`, counted from 0.
     #[inline(always)]
     pub(crate) fn row(self, i: usize) -> &'a Row
         requires { i < length (rows_of self) }
@@ -44,7 +44,7 @@ impl<'a> Rows<'a> {
         &self.further[i - self.shared.len()]
     }
 
-    /// How many rows there are.
+    /// Returns how many rows there are.
     pub(crate) fn count(self) -> u32
         requires { length (rows_of self) < 2 ^ 32 }
         ensures { result ≡ length (rows_of self.entry) }

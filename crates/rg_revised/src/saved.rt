@@ -6,7 +6,8 @@ use crate::basis::Basis;
 use crate::room::Room;
 use std::marker::Model;
 
-/// A copy of the relations of a dictionary. The dictionary can be given them again later, and a descent goes on from there.
+/// A copy of the relations of a dictionary. The dictionary can be given them again later, and a descent goes on from
+/// there.
 ///
 /// The contracts speak of the systems whose relations it has, by `IsSavedAt system s`.
 #[derive(Drop)]

@@ -20,7 +20,8 @@ pub(crate) enum Look {
     Listed,
 }
 
-/// What is known of the indices at which a row's numbers aren't 0. If they are listed, they are the first `count` of the indices.
+/// What is known of the indices at which a row's numbers aren't 0. If they are listed, they are the first `count` of
+/// the indices.
 #[derive(Clone, Copy)]
 pub(crate) struct Support {
     pub(crate) look: Look,
@@ -67,7 +68,8 @@ impl Support {
         true
     }
 
-    /// Returns whether the indices of a row that is read now are listed. They are looked for when it is read for the second time.
+    /// Returns whether the indices of a row that is read now are listed. They are looked for when it is read for the
+    /// second time.
     pub(crate) fn is_listed(&mut self, row: &[i64]) -> bool
         requires { IsSupport row.now self.old }
         ensures right { IsSupport row.now self.new }

@@ -12,8 +12,9 @@ use crate::pivot::Pivot;
 use crate::row::{renew_row, renew_row_at};
 use crate::support::Support;
 
-/// Makes the rows of all columns those after an exchange; see `renew_row`. False where a number is larger than `most` or isn't
-/// a multiple of `d`; then nothing is said of the table, but that the rows that weren't changed are still unit rows.
+/// Makes the rows of all columns those after an exchange; see `renew_row`. False where a number is larger than `most`
+/// or isn't a multiple of `d`; then nothing is said of the table, but that the rows that weren't changed are still
+/// unit rows.
 ///
 /// Mostly the denominator stays and few of the pivot's numbers aren't 0. Then each row is renewed at these alone.
 pub(crate) fn renew_table(
@@ -46,8 +47,8 @@ pub(crate) fn renew_table(
     renew_rows(table, changed, supports, pivot, d, most)
 }
 
-// Says of the rows that an exchange may change that they were changed: that of the pivot's index, and all where the denominator
-// changes.
+// Says of the rows that an exchange may change that they were changed: that of the pivot's index, and all where the
+// denominator changes.
 fn change_rows(changed: &mut [bool], pivot: &Pivot, d: Divisor)
     requires index { pivot.now.p < length changed.old }
     requires inside { pivot.now.p < length pivot.now.numbers.now }
@@ -63,7 +64,7 @@ fn change_rows(changed: &mut [bool], pivot: &Pivot, d: Divisor)
     }
 }
 
-/// Says of each row that it was changed.
+/// Marks each row as changed.
 pub(crate) fn change_all(changed: &mut [bool])
     ensures same_length { length changed.new ≡ length changed.old }
     ensures all { (t : ℕ) → t < length changed.old → get_or changed.new t true ≡ true }
@@ -73,8 +74,8 @@ pub(crate) fn change_all(changed: &mut [bool])
     }
 }
 
-// Renews the rows that were changed, each at all its numbers. The row of the pivot's index is among them. Any other row is the
-// unit row of its column, which stays, since it has 0 at that index and the denominator stays.
+// Renews the rows that were changed, each at all its numbers. The row of the pivot's index is among them. Any other
+// row is the unit row of its column, which stays, since it has 0 at that index and the denominator stays.
 fn renew_rows(
     table: &mut [i64],
     changed: &[bool],

@@ -20,8 +20,9 @@ use crate::saved::Saved;
 use std::alloc::{AllocError, Global};
 use std::marker::Model;
 
-/// The relations of the columns, their constants, the columns where these aren't 0, and the numbers of one row's relation over
-/// `over`. No number of the table is larger than the room allows. A long descent has sums and products of 128 bits.
+/// The relations of the columns, their constants, the columns where these aren't 0, and the numbers of one row's
+/// relation over `over`. No number of the table is larger than the room allows. A long descent has sums and products
+/// of 128 bits.
 #[derive(Drop)]
 pub(crate) struct Tableau {
     pub(crate) basis: Basis,
@@ -47,7 +48,7 @@ impl Model for Tableau {
 }
 
 impl Tableau {
-    /// One for so many columns, with all memory that a descent needs.
+    /// Returns a tableau for so many columns, with all memory that a descent needs.
     pub(crate) fn new(alloc: Global, columns: u32) -> Result<Tableau, AllocError>
         ensures { IfOk result (λ t. length t.basis.slots ≡ columns) }
     {
@@ -108,7 +109,7 @@ impl Tableau {
         gather(&self.basis, &mut self.constants, &mut self.named);
     }
 
-    /// The constant of the relation of the row with these coefficients and this constant.
+    /// Returns the constant of the relation of the row with these coefficients and this constant.
     pub(crate) fn constant(&self, coeffs: &[i128], constant: i128) -> i128
         requires { (system : LinearSystem) × (members : List ℕ) × (i : ℕ) × IsTableauOf system members self.now × IsRow system i coeffs.now constant }
         ensures value { result ≡ constant_over coeffs.now self.now.constants constant self.now.basis.d }
@@ -121,7 +122,7 @@ impl Tableau {
         constant_of(coeffs, constant, &self.named, &self.constants, d)
     }
 
-    /// Whether the row with these coefficients and this constant fails.
+    /// Returns whether the row with these coefficients and this constant fails.
     pub(crate) fn fails_at(&self, coeffs: &[i128], constant: i128) -> bool
         requires { (system : LinearSystem) × (members : List ℕ) × (i : ℕ) × IsTableauOf system members self.now × IsRow system i coeffs.now constant }
         ensures { IsTrue result ↔ (constant_over coeffs.now self.now.constants constant self.now.basis.d <ℤ pos 0) }
@@ -129,28 +130,28 @@ impl Tableau {
         self.constant(coeffs, constant) < 0
     }
 
-    /// How many columns there are.
+    /// Returns how many columns there are.
     pub(crate) fn columns(&self) -> u32
         ensures { result ≡ length self.now.basis.slots }
     {
         self.basis.columns()
     }
 
-    /// The bound on the norms of rows.
+    /// Returns the bound on the norms of rows.
     pub(crate) fn norm(&self) -> u64
         ensures { result ≡ self.now.norm }
     {
         self.room.norm
     }
 
-    /// The denominator of the relations.
+    /// Returns the denominator of the relations.
     pub(crate) fn d(&self) -> i64
         ensures { result ≡ self.now.basis.d }
     {
         self.basis.d()
     }
 
-    /// The slot of the variable that leaves for the one whose relation has the numbers.
+    /// Returns the slot of the variable that leaves for the one whose relation has the numbers.
     pub(crate) fn leaving(&self, stack: &[u32]) -> Option<usize>
         ensures is { IfSome result (IsVacant (length self.now.basis.slots) self.now.basis.slots stack.now self.now.numbers) }
         ensures least { IfSome result (λ p. (q : ℕ) → IsVacant (length self.now.basis.slots) self.now.basis.slots stack.now self.now.numbers q → slice_index self.now.basis.slots p ≤ slice_index self.now.basis.slots q) }
@@ -159,14 +160,14 @@ impl Tableau {
         self.basis.leaving(stack, &self.numbers)
     }
 
-    /// The denominator of the numbers.
+    /// Returns the denominator of the numbers.
     pub(crate) fn over(&self) -> i64
         ensures { result ≡ self.now.over }
     {
         self.over
     }
 
-    /// The greatest number that divides the denominator of the numbers and these.
+    /// Returns the greatest number that divides the denominator of the numbers and these.
     pub(crate) fn common_factor(&self) -> i128
         requires { pos 0 <ℤ self.now.over }
         ensures factor { IsCommonFactor self.now.over self.now.numbers result }
@@ -175,7 +176,7 @@ impl Tableau {
         common_factor(self.over, &self.numbers)
     }
 
-    /// The number of the variable, if it has a slot.
+    /// Returns the number of the variable, if it has a slot.
     pub(crate) fn number_of(&self, variable: u32) -> Option<i64>
         ensures found { IfSome result (λ z. (s : ℕ) × (s < length self.now.basis.slots) × (slice_index self.now.basis.slots s ≡ variable) × (z ≡ number_at self.now.numbers s)) }
         ensures none { IfNone result (¬ Contains self.now.basis.slots variable) }

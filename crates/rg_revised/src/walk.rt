@@ -30,8 +30,8 @@ pub enum Taken {
     Large,
 }
 
-/// The relations of the columns of a system whose rows have no constant, over a free set, on a walk on which rows are taken
-/// in order, each once. One whose relation names a column is exchanged with the least such column.
+/// The relations of the columns of a system whose rows have no constant, over a free set, on a walk on which rows are
+/// taken in order, each once. One whose relation names a column is exchanged with the least such column.
 ///
 /// The contracts speak of the systems whose relations it has, by `IsWalkOf system w`.
 #[derive(Drop)]
@@ -88,7 +88,8 @@ fn least_column(columns: u32, slots: &[u32], numbers: &[i64]) -> Option<usize>
 }
 
 impl RevisedWalk {
-    /// One for systems of so many columns. It takes all memory that a walk needs. Returns `AllocError` if memory runs out.
+    /// Returns a walk for systems of so many columns. It takes all memory that a walk needs. Returns `AllocError` if
+    /// memory runs out.
     pub fn new(alloc: Global, columns: u32) -> Result<RevisedWalk, AllocError>
         ensures { IfOk result (λ w. w.columns ≡ columns) }
     {
@@ -106,8 +107,8 @@ impl RevisedWalk {
         })
     }
 
-    /// Makes the columns the set, for systems of which no row's norm passes `norm`. False where it is too large for numbers of
-    /// 64 bits. It may be called again.
+    /// Makes the columns the set, for systems of which no row's norm passes `norm`. False where it is too large for
+    /// numbers of 64 bits. It may be called again.
     pub fn start(&mut self, norm: u64) -> bool
         ensures small { IsTrue result → norm < 2 ^ 63 }
         ensures held { IsTrue result → (system : LinearSystem) → system.columns ≡ self.new.columns → HasNorms system norm → IsWalkOf system self.new }
@@ -152,22 +153,22 @@ impl RevisedWalk {
         Taken::Exchanged
     }
 
-    /// How many columns the systems have.
+    /// Returns how many columns the systems have.
     pub fn columns(&self) -> u32
         ensures { result ≡ self.now.columns }
     {
         self.basis.columns()
     }
 
-    /// The members of the set, in order.
+    /// Returns the members of the set, in order.
     pub fn members(&self) -> &[u32]
         ensures { result.now ≡ self.now.members }
     {
         &self.members.variables
     }
 
-    /// The relation of column `t`, which is outside the set: its `d`, which is positive, the constant, and the coefficients of
-    /// the members in order. No number divides them all.
+    /// Returns the relation of column `t`, which is outside the set: its `d`, which is positive, the constant, and
+    /// the coefficients of the members in order. No number divides them all.
     pub fn numbers(&self, alloc: Global, t: u32) -> Result<Vec<i128>, AllocError>
         requires held { (system : LinearSystem) × IsWalkOf system self.now }
         requires column { t < self.now.columns }

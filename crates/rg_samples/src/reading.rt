@@ -6,12 +6,12 @@ use rg_netfile::read_net;
 use rg_text::MOST_BYTES;
 use std::alloc::Global;
 
-/// The system that the text spells; None where it spells none.
+/// Returns the system that the text spells; None where it spells none.
 pub fn system(alloc: Global, text: &str) -> Option<Lts> {
     system_of(alloc, text.as_bytes())
 }
 
-/// The system that the bytes spell; None where they spell none.
+/// Returns the system that the bytes spell; None where they spell none.
 pub fn system_of(alloc: Global, bytes: &[u8]) -> Option<Lts> {
     if bytes.len() > MOST_BYTES {
         return None;
@@ -19,7 +19,7 @@ pub fn system_of(alloc: Global, bytes: &[u8]) -> Option<Lts> {
     read_lts(alloc, bytes).ok()
 }
 
-/// The net that the text spells for the system; None where it spells none.
+/// Returns the net that the text spells for the system; None where it spells none.
 pub fn net(alloc: Global, lts: &Lts, text: &str) -> Option<Net> {
     if text.len() > MOST_BYTES {
         return None;

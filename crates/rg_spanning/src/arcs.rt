@@ -8,9 +8,9 @@ use rg_memory::NoMemory;
 use rg_theory::Arc;
 use std::alloc::Global;
 
-/// The arcs of the tree of the breadth first walk from the initial state, in the order in which they join, and for each
-/// state the one that enters it; None for the initial state and for those that can't be reached. It is the tree that
-/// `Tree::grow` grows, without Parikh vectors and chords.
+/// The arcs of the tree of the breadth first walk from the initial state, in the order in which they join, and for
+/// each state the one that enters it; None for the initial state and for those that can't be reached. It is the tree
+/// that `Tree::grow` grows, without Parikh vectors and chords.
 #[derive(Drop)]
 pub struct TreeArcs {
     pub arcs: Vec<Arc>,

@@ -94,21 +94,21 @@ impl Tree {
         })
     }
 
-    /// The tree's arcs, in the order in which they join.
+    /// Returns the tree's arcs, in the order in which they join.
     pub fn arcs(&self) -> &[Arc]
         ensures { result.now ≡ self.now.arcs }
     {
         &self.arcs
     }
 
-    /// The states, in the order in which they are met.
+    /// Returns the states, in the order in which they are met.
     pub fn order(&self) -> &[u32]
         ensures { result.now ≡ order_of self.now }
     {
         &self.order
     }
 
-    /// The arc of the tree that enters state `s`; None for the initial state alone.
+    /// Returns the arc of the tree that enters state `s`; None for the initial state alone.
     pub fn parent(&self, s: u32) -> Option<Arc>
         requires { s < self.now.states }
         ensures found { IfSome result (λ a. Contains self.now.arcs a × (a.to ≡ s)) }
@@ -126,15 +126,15 @@ impl Tree {
         self.rows.row(s)
     }
 
-    /// The arcs that are not in the tree, in the order of the system's arcs.
+    /// Returns the arcs that are not in the tree, in the order of the system's arcs.
     pub fn chords(&self) -> &[Arc]
         ensures { result.now ≡ self.now.chords }
     {
         &self.chords
     }
 
-    /// Returns the entry of label `t` in the vector of chord `i`: how often the label occurs on the tree's path to the
-    /// chord's source and on the chord, minus how often it occurs on the tree's path to the chord's target.
+    /// Returns the entry of label `t` in the vector of chord `i`: how often the label occurs on the tree's path to
+    /// the chord's source and on the chord, minus how often it occurs on the tree's path to the chord's target.
     pub fn chord_entry(&self, i: usize, t: u32) -> i128
         requires chord { i < length self.now.chords }
         requires label { t < self.now.labels }

@@ -11,8 +11,8 @@ use rg_memory::NoMemory;
 use rg_theory::Arc;
 use std::alloc::Global;
 
-// The system with the states of this one, with labels of these names, and with its arcs, each with the label of this number in the place of
-// its own.
+// The system with the states of this one, with labels of these names, and with its arcs, each with the label of this
+// number in the place of its own.
 pub(crate) fn with_labels(
     alloc: Global,
     of: &Lts,

@@ -29,7 +29,8 @@ use rg_theory::{ALL_NETS, Arc};
 use std::alloc::Global;
 use std::thread::Threads;
 
-// A system, for each of its labels the label of the file's system that it comes from, and regions of the system that are known.
+// A system, for each of its labels the label of the file's system that it comes from, and regions of the system that
+// are known.
 #[derive(Drop)]
 pub(crate) struct Labelling {
     pub(crate) system: Lts,

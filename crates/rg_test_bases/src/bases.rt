@@ -8,7 +8,7 @@ ghost use Rattle.rg_cycles.specs.View.{labels_of, cycle_of};
 use rg_cycles::{Basis, ChordEntry, Stop, reduce};
 use std::alloc::Global;
 
-/// Whether the numbers lie in range.
+/// Returns whether the numbers lie in range.
 pub fn is_in_range(numbers: &[i128]) -> bool
     ensures { IsTrue result ↔ All InRange numbers.now }
 {

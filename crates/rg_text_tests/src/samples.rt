@@ -10,7 +10,7 @@ pub fn push_name(text: &mut Vec<u8>, number: u32) -> Result<(), AllocError> {
     Ok(())
 }
 
-/// A text, then so many names, then another text.
+/// Returns a text, then so many names, then another text.
 pub fn with_names(
     alloc: Global,
     head: &str,
@@ -25,7 +25,7 @@ pub fn with_names(
     Ok(text)
 }
 
-/// A text, then so many bytes `x`, then another text.
+/// Returns a text, then so many bytes `x`, then another text.
 pub fn with_bytes(
     alloc: Global,
     head: &str,

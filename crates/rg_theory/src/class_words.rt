@@ -40,9 +40,9 @@ pub enum Condition {
 }
 
 impl Class {
-    /// The class that a text names: `none`, or words separated by commas, in any order, each once: `pure`,
-    /// `plain`, `safe` or `N-bounded`, `N-marking`, each with N from 1 to 255, `output-nonbranching`. The words are this
-    /// project's own; the conditions are those of Best and Devillers, Petri Net Primer.
+    /// Returns the class that a text names: `none`, or words separated by commas, in any order, each once: `pure`,
+    /// `plain`, `safe` or `N-bounded`, `N-marking`, each with N from 1 to 255, `output-nonbranching`. The words are
+    /// this project's own; the conditions are those of Best and Devillers, Petri Net Primer.
     ///
     /// Errors: the first word that is refused, as `ClassFault` says.
     pub fn read(text: &str) -> Result<Class, ClassFault>
@@ -180,8 +180,9 @@ fn small_number(digits: &str) -> Option<u8>
     }
 }
 
-/// Each text names one class or has one first refused word, never both, the text with which a class is written
-/// names that class, and a class that a text names has a bound from 1 to 255 or none, and a marking from 1 to 255 or none.
+/// Law: each text names one class or has one first refused word, never both, the text with which a class is written
+/// names that class, and a class that a text names has a bound from 1 to 255 or none, and a marking from 1 to 255 or
+/// none.
 pub fn class_is_told()
     ensures told { (text : List ℕ) → IsClassTold text }
     ensures one_class { (text : List ℕ) (a b : Class) → NamesClass text a → NamesClass text b → a ≡ b }

@@ -8,9 +8,9 @@ use itoa::Buffer;
 use rg_memory::NoMemory;
 use std::alloc::Global;
 
-/// The one text with which a class is written: `none`, or the words of its conditions with commas between, in the order
-/// `pure`, `plain`, `safe` or `N-bounded`, `N-marking`, `output-nonbranching`. Returns `NoMemory` if it doesn't fit
-/// into memory.
+/// Returns the one text with which a class is written: `none`, or the words of its conditions with commas between, in
+/// the order `pure`, `plain`, `safe` or `N-bounded`, `N-marking`, `output-nonbranching`. Returns `NoMemory` if it
+/// doesn't fit into memory.
 pub fn class_text(alloc: Global, class: Class) -> Result<Vec<u8>, NoMemory>
     ensures { IfOk result (λ text. text.items ≡ class_text class) }
 {

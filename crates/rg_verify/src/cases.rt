@@ -25,7 +25,7 @@ pub(crate) struct Found {
 }
 
 impl Found {
-    /// The verdict where the case has the number.
+    /// Returns the verdict where the case has the number.
     pub(crate) fn refusal_of(self, case: u32) -> Verdict
         ensures { result ≡ verdict.Refused case self.node self.defect }
     {
@@ -37,8 +37,8 @@ impl Found {
     }
 }
 
-/// The first leaf that doesn't refute, or split that may not be on its form, with its defect; None where all leaves refute and all
-/// splits may be on their forms.
+/// Returns the first leaf that doesn't refute, or split that may not be on its form, with its defect; None where all
+/// leaves refute and all splits may be on their forms.
 pub(crate) fn case_defect(
     alloc: Global,
     sums: &mut Sums,

@@ -20,9 +20,9 @@ use rg_memory::NoMemory;
 use rg_theory::{Arc, Class, Problem};
 use std::alloc::Global;
 
-/// The verdict on a certificate for a system: accepted exactly where its reason holds, and then no net of its class
-/// solves the system, else refused with the first defect. Returns `NoMemory` if the sums of the rows, the splits above
-/// a leaf or the states that can be reached don't fit into memory.
+/// Returns the verdict on a certificate for a system: accepted exactly where its reason holds, and then no net of its
+/// class solves the system, else refused with the first defect. Returns `NoMemory` if the sums of the rows, the
+/// splits above a leaf or the states that can be reached don't fit into memory.
 pub fn verify(alloc: Global, lts: &Lts, cert: &Certificate) -> Result<Verdict, NoMemory>
     requires { IsCertificateOf lts.now cert.now }
     ensures judged { IfOk result (λ v. Judges lts.now (claim_of cert.now) v) }

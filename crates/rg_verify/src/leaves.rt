@@ -16,7 +16,8 @@ use rg_cert_meaning::{RowName, Side};
 use rg_lts::Lts;
 use rg_memory::NoMemory;
 
-/// What is wrong with the rows of a leaf; None where they refute. The sums are the table for the leaf, and are 0 before and after.
+/// Returns what is wrong with the rows of a leaf; None where they refute. The sums are the table for the leaf, and
+/// are 0 before and after.
 pub(crate) fn leaf_defect(
     sums: &mut Sums,
     lts: &Lts,

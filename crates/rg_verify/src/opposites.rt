@@ -11,8 +11,8 @@ use rg_cert_data::{Expression, ProblemCase, Term, expression};
 use rg_cert_meaning::{RowName, Side};
 use rg_lts::Lts;
 
-/// What a row says in a case of a problem and below the sides above it, where the coefficients of one variable are
-/// added up.
+/// Returns what a row says in a case of a problem and below the sides above it, where the coefficients of one
+/// variable are added up.
 pub(crate) fn row_expression(
     lts: &Lts,
     problem_case: ProblemCase,

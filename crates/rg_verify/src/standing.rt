@@ -11,7 +11,7 @@ use rg_cert_meaning::{RowName, Side};
 use rg_lts::Lts;
 use rg_theory::{Arc, Class, Problem};
 
-/// Whether the row applies in a case of a problem, below the sides above it.
+/// Returns whether the row applies in a case of a problem, below the sides above it.
 pub(crate) fn stands(lts: &Lts, problem_case: ProblemCase, above: &[Side], name: RowName) -> bool
     requires asked { IsSeparationProblem lts.now problem_case.problem }
     requires name { IsRowNameOf lts.now name }
@@ -66,7 +66,7 @@ fn shared_stands(lts: &Lts, class: Class, consumer: u32, above: &[Side], name: R
     }
 }
 
-/// Whether some arc of the label begins at the state.
+/// Returns whether some arc of the label begins at the state.
 pub(crate) fn has_arc_at(lts: &Lts, q: u32, t: u32) -> bool
     requires state { q < states lts.now }
     requires label { t < labels lts.now }
@@ -75,7 +75,7 @@ pub(crate) fn has_arc_at(lts: &Lts, q: u32, t: u32) -> bool
     lts.arc_at(q, t).is_some()
 }
 
-/// Whether the arc is among arcs in order.
+/// Returns whether the arc is among arcs in order.
 pub(crate) fn has_arc(arcs: &[Arc], arc: &Arc) -> bool
     requires { AllPairs IsArcBefore arcs.now }
     ensures { IsTrue result ↔ Contains arcs.now arc.now }

@@ -84,8 +84,8 @@ impl<T: Drop> From<AllocFailed<T>> for Stop {
     }
 }
 
-/// The sums of multiplied rows: for each state, for each label, and for the constants. It lists the variables whose sums
-/// may be other than 0, so that rows cost no more than what they touch.
+/// The sums of multiplied rows: for each state, for each label, and for the constants. It lists the variables whose
+/// sums may be other than 0, so that rows cost no more than what they touch.
 #[derive(Debug, Drop)]
 pub(crate) struct Sums {
     tokens: Vec<Sum>,
@@ -102,7 +102,7 @@ impl Sums {
     ghost use Rattle.rg_verify.specs.Sums.{entry_of, signed_at, HasEntry, IsTidy, HasSameVariables, HasSameEntries, IsTableOf, IsZero, IsClear, AreSumsOf, AddsTerms, AddsRow, PassesByTerms, PassesByRow, IsLeftFirst, HasNoDefect, IsSumDefect};
     ghost use Rattle.rg_verify.specs.declared.sums.Stop.TheVariants as stop;
 
-    /// The table with every sum 0.
+    /// Returns the table with every sum 0.
     pub(crate) fn new(alloc: Global, lts: &Lts) -> Result<Sums, NoMemory>
         ensures { IfOk result (IsClear lts.now) }
     {
@@ -251,7 +251,7 @@ impl Sums {
         first
     }
 
-    /// What is wrong with the sums of rows, none of which passes.
+    /// Returns what is wrong with the sums of rows, none of which passes.
     pub(crate) fn defect(&self) -> Option<Defect>
         requires { IsTidy self.now }
         ensures { MatchOption result (HasNoDefect self.now) (IsSumDefect self.now) }

@@ -30,15 +30,15 @@ pub enum Defect {
     LeftOver(Variable),
     /// The multiplied constants add up to 0 or more.
     NoContradiction,
-    /// The absolute values of a variable's multiplied coefficients, or of the multiplied constants, add up to more than
-    /// 2^127 - 1.
+    /// The absolute values of a variable's multiplied coefficients, or of the multiplied constants, add up to more
+    /// than 2^127 - 1.
     SumPasses,
     /// A split is on the start, and the class asks no marking.
     WrongForm,
     /// The number of cases isn't that of the problem, or is 0.
     CaseMissing,
-    /// The reason doesn't hold of the system: the state can be reached, the two arcs aren't a fork, the label has an arc
-    /// at the state, or the two states are one.
+    /// The reason doesn't hold of the system: the state can be reached, the two arcs aren't a fork, the label has an
+    /// arc at the state, or the two states are one.
     NotSo,
 }
 
@@ -47,7 +47,8 @@ pub enum Defect {
 pub enum Verdict {
     /// The reason holds, so no net of the class solves the system.
     Accepted,
-    /// The first defect, with the case and the node of its tree, in preorder and from 0; both are 0 for `NotSo` and `CaseMissing`.
+    /// The first defect, with the case and the node of its tree, in preorder and from 0; both are 0 for `NotSo` and
+    /// `CaseMissing`.
     Refused {
         case: u32,
         node: u64,

@@ -195,8 +195,8 @@ fn finish(builder: LtsBuilder) -> Result<Lts, WordFault>
     }
 }
 
-/// The tree of the prefixes of the words of a list of at most 16,777,216 bytes, or the text's first fault. By `one_answer` no
-/// other answer meets these clauses.
+/// Returns the tree of the prefixes of the words of a list of at most 16,777,216 bytes, or the text's first fault. By
+/// `one_answer` no other answer meets these clauses.
 pub fn read_words(alloc: Global, bytes: &[u8]) -> Result<Lts, WordFault>
     requires { length bytes.now ≤ most_bytes }
     ensures ok { IfOk result (λ lts. Spells bytes.now lts) }
