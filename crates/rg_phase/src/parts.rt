@@ -1,5 +1,5 @@
 //! The numbers of a range, by parts.
-ghost use Rattle.std.specs.Prelude.{◌≡◌, ◌+◌, ◌-◌, ◌*◌, ◌/◌, ◌≤◌, ◌++◌, IfOk};
+ghost use Rattle.std.specs.Prelude.{◌≡◌, ◌-◌, ◌≤◌, ◌++◌, IfOk};
 ghost use Rattle.std.specs.Thread.{IsSync};
 ghost use Rattle.rg_phase.specs.Answers.{HoldsFrom, AreAnswers};
 
@@ -43,23 +43,10 @@ where
     Ok(all)
 }
 
-// The number at which the share of the first `few` of all jobs ends.
-fn end_of_share(from: u32, to: u32, few: u8, jobs: u8) -> u32
-    requires ordered { from ≤ to }
-    requires some { 1 ≤ jobs }
-    requires few { few ≤ jobs }
-    ensures end { result ≡ from + ((to - from) * few) / jobs }
-    ensures within { result ≤ to }
-{
-    let share = u64::from(to - from) * u64::from(few) / u64::from(jobs);
-    from + share as u32
-}
-
 /// Returns the results of the task for the numbers from `from` on below `to`, in order, by at most `jobs` parts that
-/// run in parallel: the jobs are halved until each has a part, and each side gets a share of the range in proportion
-/// to its jobs. A part with a number begins anew, and keeps what it likes from one of its numbers to the next. The
-/// gate is entered before the work for a number and left after it, whatever its result, and can't change a result.
-/// Returns `NoMemory` if memory runs out.
+/// run in parallel: the range and the jobs are halved until a part has one job. A part with a number begins anew, and
+/// keeps what it likes from one of its numbers to the next. The gate is entered before the work for a number and left
+/// after it, whatever its result, and can't change a result. Returns `NoMemory` if memory runs out.
 pub fn block_of_parts<R: Threads + Sync, T: PartTask + Sync, G: Gate + Sync>(
     rt: &R,
     alloc: Global,
@@ -82,7 +69,7 @@ where
     }
     let few = jobs / 2;
     let rest = jobs - few;
-    let middle = end_of_share(from, to, few, jobs);
+    let middle = from + (to - from) / 2;
     let (left, right) = join(
         rt,
         move || -> Result<Vec<T::Out>, NoMemory>
