@@ -1,5 +1,3 @@
-pub mod DealLemmas
-pub mod GatherLemmas
 pub mod LeftLemmas
 pub mod RankLemmas
 pub mod NotingLemmas

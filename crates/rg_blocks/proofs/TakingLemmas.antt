@@ -1,16 +1,17 @@
 -- Taking over, problem by problem.
-use Rattle.std.proofs.Common.{◌≡◌, ◌⊎◌, inl, inr, ℕ, suc, ◌+◌, ◌<◌, List, [], ◌∷◌, ◌++◌, length, get_or, take, drop, Option, None, Some, Result, Ok, Err, IfOk, refl, sym, ap, subst, ◌∙◌}
-use Rattle.std.proofs.Math.Seq.{split_at}
-use Rattle.std.proofs.lemmas.List.{append_assoc, map-append, take_more, take-append-drop}
+use Rattle.std.proofs.Common.{◌≡◌, ◌⊎◌, inl, inr, ℕ, ◌+◌, ◌<◌, List, [], ◌∷◌, ◌++◌, length, get_or, take, All, Option, None, Some, Result, Ok, Err, IfOk, refl, sym, ap, subst, ◌∙◌, arith}
+use Rattle.std.proofs.lemmas.List.{append_assoc, map-append, take_more}
 use Rattle.rg_theory.specs.System.{System}
 use Rattle.rg_theory.specs.Net.{Place}
 use Rattle.rg_theory.specs.declared.Problem.{Problem}
 use Rattle.rg_cert_meaning.specs.Refutes.{Tree}
 use Rattle.rg_outcome.specs.Solving.{Solved, Solved.placed, Solved.refuted, Solved.passed}
-use Rattle.rg_outcome.specs.Coming.{IsSeparated}
+use Rattle.rg_outcome.specs.Coming.{IsSeparated, IsLeft}
 use Rattle.rg_outcome.specs.Blocks.{AfterBlock, AfterBlock.kept_places, AfterBlock.refuted_one, GoesOn, TakenOver}
 use Rattle.rg_blocks.specs.declared.solving.SolvedProblem.{SolvedProblem}
-use Rattle.rg_blocks.specs.Taking.{problems_of, IsTakenOver}
+use Rattle.rg_outcome.proofs.Existing.{separated_by_last}
+use Rattle.rg_blocks.specs.Taking.{problems_of, with_place, KeepsItsPlace, IsTakenOver}
+use Rattle.rg_blocks.specs.Separating.{EachPlaceSeparates}
 
 module _ (lts : System) (comes : Problem → Solved → Type 0) where
   -- some problems are taken over, and then the rest
@@ -62,39 +63,44 @@ module _ (lts : System) (comes : Problem → Solved → Type 0) where
   pub one_dropped : (kept : List Place) (p : Problem) → IsSeparated lts kept p → TakenOver lts comes kept (p ∷ []) (kept_places kept)
   one_dropped kept p sep = inl (sep, refl)
 
-  -- ---- after others
+  -- ---- several problems
 
-  pub one_more : (before now after : List Place) (done : List Problem) (p : Problem) (end : Option Problem) → end ≡ None
-      → TakenOver lts comes before done (kept_places now) → IsTakenOver lts comes now (p ∷ []) after end → TakenOver lts comes before (done ++ p ∷ []) (kept_places after)
-  one_more before now after done p end none taken one = more_taken before now done (p ∷ []) (kept_places after) taken (subst (IsTakenOver lts comes now (p ∷ []) after) none one)
+  -- some problems are taken over, and then others
+  pub then_taken : (before now after : List Place) (done rest : List Problem) (end : Option Problem) → IsTakenOver lts comes before done now None
+      → IsTakenOver lts comes now rest after end → IsTakenOver lts comes before (done ++ rest) after end
+  then_taken before now after done rest None first t = more_taken before now done rest (kept_places after) first t
+  then_taken before now after done rest (Some q) first (trees, t) = (trees, more_taken before now done rest (refuted_one q trees) first t)
 
-  pub one_ends : (before now after : List Place) (done rest : List Problem) (p q : Problem) (end : Option Problem) → end ≡ Some q
-      → TakenOver lts comes before done (kept_places now) → IsTakenOver lts comes now (p ∷ []) after end
-      → IsTakenOver lts comes before (done ++ p ∷ rest) after (Some q)
-  one_ends before now after done rest p q end some taken one =
-      let (trees, t) = subst (IsTakenOver lts comes now (p ∷ []) after) some one in (
-        trees,
-        subst (λ xs. TakenOver lts comes before xs (refuted_one q trees)) (append_assoc done (p ∷ []) rest)
-            (ended_taken before (done ++ p ∷ []) rest q trees (more_taken before now done (p ∷ []) (refuted_one q trees) taken t)),
-      )
+  -- others after a refuted one change nothing
+  pub then_nothing : (before now after : List Place) (done rest : List Problem) (q : Problem) → IsTakenOver lts comes before done now (Some q)
+      → IsTakenOver lts comes before (done ++ rest) after (Some q)
+  then_nothing before now after done rest q (trees, t) = (trees, ended_taken before done rest q trees t)
 
-  -- ---- the first ones, and then the others
-
-  pub first_and_others : (before now after : List Place) (problems : List Problem) (k : ℕ) (end : Option Problem)
-      → IsTakenOver lts comes before (take k problems) now None → IsTakenOver lts comes now (drop k problems) after end
-      → IsTakenOver lts comes before problems after end
-  first_and_others before now after problems k end first others = subst (λ xs. IsTakenOver lts comes before xs after end) (take-append-drop k problems) (by end others)
+  -- all are taken over after the place of the first one was kept, which is as if it wasn't
+  pub first_known : EachPlaceSeparates lts comes → (before now : List Place) (p : Problem) (rest : List Problem) (a : AfterBlock) → IsLeft lts before p
+      → KeepsItsPlace comes before p now → TakenOver lts comes now (p ∷ rest) a → TakenOver lts comes before (p ∷ rest) a
+  first_known separating before now p rest a left kept taken = by kept.result kept.comes_to (subst (λ ks. TakenOver lts comes ks (p ∷ rest) a) kept.places taken)
     where
-      by : (end : Option Problem) → IsTakenOver lts comes now (drop k problems) after end → IsTakenOver lts comes before (take k problems ++ drop k problems) after end
-      by None t = more_taken before now (take k problems) (drop k problems) (kept_places after) first t
-      by (Some q) (trees, t) = (trees, more_taken before now (take k problems) (drop k problems) (refuted_one q trees) first t)
+      by : (r : Solved) → comes p r → TakenOver lts comes (with_place before r) (p ∷ rest) a → TakenOver lts comes before (p ∷ rest) a
+      by (placed q) has (inl (sep, d)) = inr (left.1, (placed q, has, d))
+      by (placed q) has (inr (lacks, d)) = absurd (lacks (separated_by_last lts before q p (separating.separate p q left.0 has)))
+      by (refuted trees) has t = t
+      by (passed w) has t = t
 
-  -- the others, as a call answers
-  pub then_others : {E : Type 0} (before now after : List Place) (problems others : List Problem) (k : ℕ) (r : Result (Option Problem) E)
-      → others ≡ drop k problems → IsTakenOver lts comes before (take k problems) now None
-      → IfOk r (IsTakenOver lts comes now others after) → IfOk r (IsTakenOver lts comes before problems after)
-  then_others before now after problems others k (Ok end) are first taken = first_and_others before now after problems k end first (subst (λ xs. IsTakenOver lts comes now xs after end) are taken)
-  then_others before now after problems others k (Err e) are first taken = taken
+  pub ok_with_first_known : {E : Type 0} → EachPlaceSeparates lts comes → (before now after : List Place) (problems solved : List Problem) (p d : Problem)
+      (r : Result (Option Problem) E) → 0 < length problems → solved ≡ problems → p ≡ get_or problems 0 d → All (IsLeft lts before) problems
+      → KeepsItsPlace comes before p now → IfOk r (IsTakenOver lts comes now solved after) → IfOk r (IsTakenOver lts comes before problems after)
+  ok_with_first_known separating before now after [] solved p d r some same is left kept taken = absurd (omega arith)
+  ok_with_first_known separating before now after (x ∷ rest) solved p d (Err e) some same is left kept taken = taken
+  ok_with_first_known separating before now after (x ∷ rest) solved p d (Ok end) some same is left kept taken =
+      by end (subst (λ xs. IsTakenOver lts comes now xs after end) same taken)
+    where
+      known : (a : AfterBlock) → TakenOver lts comes now (x ∷ rest) a → TakenOver lts comes before (x ∷ rest) a
+      known a t = first_known separating before now x rest a (left 0 x (omega arith)) (subst (λ q. KeepsItsPlace comes before q now) is kept) t
+
+      by : (end : Option Problem) → IsTakenOver lts comes now (x ∷ rest) after end → IsTakenOver lts comes before (x ∷ rest) after end
+      by None t = known (kept_places after) t
+      by (Some q) (trees, t) = (trees, known (refuted_one q trees) t)
 
 -- ---- as loops have them
 
@@ -113,25 +119,29 @@ module _ (lts : System) (comes : Problem → Solved → Type 0) (before now afte
       → TakenOver lts comes before (problems_of yielded) (kept_places now) → IsTakenOver lts comes now (s.problem ∷ []) after end
       → TakenOver lts comes before (problems_of (yielded ++ s ∷ [])) (kept_places after)
   solved_more yielded s none taken one = subst (λ xs. TakenOver lts comes before xs (kept_places after)) (sym (one_more_problem yielded s))
-      (one_more lts comes before now after (problems_of yielded) s.problem end none taken one)
+      (then_taken lts comes before now after (problems_of yielded) (s.problem ∷ []) None taken (subst (IsTakenOver lts comes now (s.problem ∷ []) after) none one))
 
   pub solved_ends : (items yielded rest : List SolvedProblem) (s : SolvedProblem) (q : Problem) → items ≡ yielded ++ s ∷ rest → end ≡ Some q
       → TakenOver lts comes before (problems_of yielded) (kept_places now)
       → IsTakenOver lts comes now (s.problem ∷ []) after end → IsTakenOver lts comes before (problems_of items) after (Some q)
   solved_ends items yielded rest s q are some taken one =
-      let split : problems_of items ≡ problems_of yielded ++ s.problem ∷ problems_of rest = ap problems_of are ∙ map-append (λ x. x.problem) yielded (s ∷ rest) in
-      subst (λ xs. IsTakenOver lts comes before xs after (Some q)) (sym split) (one_ends lts comes before now after (problems_of yielded) (problems_of rest) s.problem q end some taken one)
+      let ended = then_taken lts comes before now after (problems_of yielded) (s.problem ∷ []) (Some q) taken (subst (IsTakenOver lts comes now (s.problem ∷ []) after) some one) in
+      let split : problems_of items ≡ (problems_of yielded ++ s.problem ∷ []) ++ problems_of rest =
+      ap problems_of are ∙ map-append (λ x. x.problem) yielded (s ∷ rest) ∙ sym (append_assoc (problems_of yielded) (s.problem ∷ []) (problems_of rest)) in
+      subst (λ xs. IsTakenOver lts comes before xs after (Some q)) (sym split)
+      (then_nothing lts comes before after after (problems_of yielded ++ s.problem ∷ []) (problems_of rest) q ended)
 
-  pub turn_more : (problems : List Problem) (i : ℕ) (p d : Problem) → i < length problems → p ≡ get_or problems i d → end ≡ None
-      → TakenOver lts comes before (take i problems) (kept_places now) → IsTakenOver lts comes now (p ∷ []) after end
-      → TakenOver lts comes before (take (i + 1) problems) (kept_places after)
-  turn_more problems i p d lt is none taken one =
+  pub turn_more : (problems : List Problem) (i : ℕ) (p d : Problem) → i < length problems → p ≡ get_or problems i d
+      → IsTakenOver lts comes before (take i problems) now None → IsTakenOver lts comes now (p ∷ []) after end
+      → IsTakenOver lts comes before (take (i + 1) problems) after end
+  turn_more problems i p d lt is taken one =
       let split : take (i + 1) problems ≡ take i problems ++ p ∷ [] = take_more problems i d lt ∙ ap (λ x. take i problems ++ x ∷ []) (sym is) in
-      subst (λ xs. TakenOver lts comes before xs (kept_places after)) (sym split) (one_more lts comes before now after (take i problems) p end none taken one)
+      subst (λ xs. IsTakenOver lts comes before xs after end) (sym split) (then_taken lts comes before now after (take i problems) (p ∷ []) end taken one)
 
-  pub turn_ends : (problems : List Problem) (i : ℕ) (p d q : Problem) → i < length problems → p ≡ get_or problems i d → end ≡ Some q
-      → TakenOver lts comes before (take i problems) (kept_places now) → IsTakenOver lts comes now (p ∷ []) after end
-      → IsTakenOver lts comes before problems after (Some q)
-  turn_ends problems i p d q lt is some taken one =
-      let split : problems ≡ take i problems ++ p ∷ drop (suc i) problems = split_at problems i d lt ∙ ap (λ x. take i problems ++ x ∷ drop (suc i) problems) (sym is) in
-      subst (λ xs. IsTakenOver lts comes before xs after (Some q)) (sym split) (one_ends lts comes before now after (take i problems) (drop (suc i) problems) p q end some taken one)
+  -- a refuted problem stays the end
+  pub turn_ended : (problems : List Problem) (i : ℕ) (d q : Problem) → i < length problems → end ≡ Some q
+      → IsTakenOver lts comes before (take i problems) now end → IsTakenOver lts comes before (take (i + 1) problems) now end
+  turn_ended problems i d q lt some taken =
+      subst (λ o. IsTakenOver lts comes before (take (i + 1) problems) now o) (sym some)
+      (subst (λ xs. IsTakenOver lts comes before xs now (Some q)) (sym (take_more problems i d lt))
+      (then_nothing lts comes before now now (take i problems) (get_or problems i d ∷ []) q (subst (λ o. IsTakenOver lts comes before (take i problems) now o) some taken)))

@@ -3,4 +3,4 @@ use Rattle.std.specs.Prelude.{ℕ}
 
 -- how many problems a block has at most
 abbrev pub most_in_block : ℕ
-most_in_block = 2048
+most_in_block = 128

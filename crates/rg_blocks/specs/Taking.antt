@@ -1,5 +1,5 @@
 -- What the problems of a block come to, and what comes of it.
-use Rattle.std.specs.Prelude.{◌≡◌, ◌≤◌, List, All, length, take, map, Option, None, Some, IfSome}
+use Rattle.std.specs.Prelude.{◌≡◌, List, [], ◌∷◌, ◌++◌, All, map, Option, None, Some, IfSome}
 use Rattle.rg_theory.specs.System.{System}
 use Rattle.rg_theory.specs.Net.{Place}
 use Rattle.rg_theory.specs.declared.Problem.{Problem}
@@ -16,8 +16,6 @@ use Rattle.rg_blocks.specs.declared.solving.ProblemOutcome.TheVariants as outcom
 use Rattle.rg_blocks.specs.declared.solving.WaitingOutcome.{WaitingOutcome}
 use Rattle.rg_blocks.specs.declared.solving.WaitingOutcome.TheVariants as waiting
 use Rattle.rg_blocks.specs.declared.solving.SolvedProblem.{SolvedProblem}
-use Rattle.rg_blocks.specs.declared.taking.Begun.{Begun}
-use Rattle.rg_blocks.specs.declared.taking.Begun.TheVariants.{Ended, First}
 
 -- the problem comes to this; of a place the fact holds that is said of all
 abbrev pub IsOutcome : (Problem → Solved → Type 0) → (RegionPlace → Type 0) → Problem → ProblemOutcome → Type 0
@@ -62,7 +60,14 @@ abbrev pub IsTakenOver : System → (Problem → Solved → Type 0) → List Pla
 IsTakenOver lts comes before problems after None = TakenOver lts comes before problems (kept_places after)
 IsTakenOver lts comes before problems after (Some q) = (trees : List Tree) × TakenOver lts comes before problems (refuted_one q trees)
 
--- all problems are taken over, or the first ones without an end
-abbrev pub IsBegun : System → (Problem → Solved → Type 0) → List Place → List Problem → List Place → Begun → Type 0
-IsBegun lts comes before problems after (Ended end) = IsTakenOver lts comes before problems after end
-IsBegun lts comes before problems after (First k) = (k ≤ length problems) × IsTakenOver lts comes before (take k problems) after None
+-- the places with that of a result, if it has one
+abbrev pub with_place : List Place → Solved → List Place
+with_place kept (placed p) = kept ++ p ∷ []
+with_place kept (refuted trees) = kept
+with_place kept (passed w) = kept
+
+-- a result of the problem, whose place is kept if it has one
+pub record KeepsItsPlace (comes : Problem → Solved → Type 0) (before : List Place) (problem : Problem) (after : List Place) : Type 0 where
+  pub result : Solved
+  pub comes_to : comes problem result
+  pub places : after ≡ with_place before result

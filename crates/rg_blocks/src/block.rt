@@ -1,15 +1,12 @@
 //! A block of problems: how it is formed and solved.
-ghost use Rattle.std.specs.Prelude.{◌≡◌, ◌<◌, ◌≤◌, All, IfSome, IfOk, OnOk, length};
+ghost use Rattle.std.specs.Prelude.{◌≡◌, ◌<◌, ◌≤◌, All, IfSome, IfOk, OnOk, Some, length, slice_get};
 ghost use Rattle.rg_theory.specs.Problem.{IsProblem};
 ghost use Rattle.rg_outcome.specs.Blocks.{IsBlock, last_of};
 ghost use Rattle.rg_outcome.specs.Coming.{IsDone};
 ghost use Rattle.rg_marks.specs.Separated.{AreSome};
-ghost use Rattle.rg_phase.specs.Answers.{AreAnswers};
 ghost use Rattle.rg_blocks.specs.Blocks.{most_in_block};
-ghost use Rattle.rg_blocks.specs.Dealing.{IsDealt};
 ghost use Rattle.rg_blocks.specs.Taking.{IsOutcome, IsWaiting, IsSolvedBy, AreNotable, MayBeSolved, problems_of};
 
-use crate::dealing::{Deal, PlaceGate};
 use crate::keeping::Keeping;
 use crate::left::next_problem;
 use crate::search::Search;
@@ -23,40 +20,26 @@ use rg_theory::Problem;
 use std::alloc::Global;
 use std::thread::Threads;
 
-// How many problems the first block has at most.
-pub(crate) const FIRST_BLOCK: u32 = 64;
+// How many problems a block has at most.
+const LARGEST_BLOCK: u32 = 128;
 
-// How many problems any block has at most.
-const LARGEST_BLOCK: u32 = 2048;
-
-// How many problems a block has at most after one of at most so many: twice as many, as long as that is no more than a block may have.
-pub(crate) fn most_after(most: u32) -> u32
-    requires some { 1 ≤ most }
-    requires few { most ≤ most_in_block }
-    ensures some { 1 ≤ result }
-    ensures few { result ≤ most_in_block }
-{
-    (2 * most).min(LARGEST_BLOCK)
-}
-
-/// Returns the first `most` problems that no kept place separates, in order: of those after the problem `last`, or of
-/// all if it is None. Returns fewer if no more are left, and `NoMemory` if memory runs out.
+/// Returns the first 128 problems that no kept place separates, in order: of those after the problem `last`, or of all
+/// if it is None. Returns fewer if no more are left, and `NoMemory` if memory runs out.
 pub fn next_block<K: Keeping>(
     alloc: Global,
     lts: &Lts,
     kept: &K,
     last: Option<Problem>,
-    most: u32,
 ) -> Result<Vec<Problem>, NoMemory>
     requires kept { K.keeps_for kept.now lts.now }
     requires last { IfSome last (IsProblem lts.now) }
     ensures block { IfOk result (λ v. IsBlock lts.now (K.places kept.now) last v.items) }
-    ensures few { IfOk result (λ v. length v.items ≤ most) }
-    ensures end { IfOk result (λ v. length v.items < most → IsDone lts.now (K.places kept.now) (last_of last v.items)) }
+    ensures few { IfOk result (λ v. length v.items ≤ most_in_block) }
+    ensures end { IfOk result (λ v. length v.items < most_in_block → IsDone lts.now (K.places kept.now) (last_of last v.items)) }
 {
     let mut block = Vec::new(alloc);
     let mut at = last;
-    for _i in 0..most {
+    for _i in 0..LARGEST_BLOCK {
         match next_problem(lts, kept, at) {
             Some(problem) => {
                 block.push(problem)?;
@@ -68,15 +51,12 @@ pub fn next_block<K: Keeping>(
     Ok(block)
 }
 
-// The solving of the problems of a block that aren't taken over yet, by the numbers with which they are dealt. Each part has a workspace of
-// its own.
+// The solving of the problems of a block. Each part has a workspace of its own.
 #[derive(Drop)]
 struct Problems<'a, K, S, G> {
     search: &'a Search<'a, S, G>,
     kept: &'a K,
     problems: &'a [Problem],
-    deal: Deal,
-    taken: usize,
 }
 
 // What a part keeps from one problem to the next: what the places separate that it made, and what it solves with.
@@ -97,10 +77,10 @@ where
 
     ghost holds = { λ s part. AreSome s.search.now.lts.now part.separated × S.serves s.search.now.solving.now part.workspace };
 
-    ghost asks = { λ s i. (i < length s.problems.now) × (s.deal.dealt ≤ length s.problems.now) × K.keeps_for s.kept.now s.search.now.lts.now
+    ghost asks = { λ s i. (i < length s.problems.now) × K.keeps_for s.kept.now s.search.now.lts.now
         × MayBeSolved s.search.now.lts.now (S.asks s.search.now.solving.now) (S.makes s.search.now.solving.now) s.problems.now };
 
-    ghost answers = { λ s i v. IsDealt s.deal.deals s.deal.parts s.problems.now i v.problem × IsSolvedBy (S.comes s.search.now.solving.now) (S.makes s.search.now.solving.now) v };
+    ghost answers = { λ s i v. (slice_get s.problems.now i ≡ Some v.problem) × IsSolvedBy (S.comes s.search.now.solving.now) (S.makes s.search.now.solving.now) v };
 
     fn begin(&self) -> Result<Part<S::Workspace>, NoMemory> {
         let separated = Separated::nothing(self.search.alloc, self.search.lts)?;
@@ -112,13 +92,9 @@ where
     }
 
     fn run(&self, part: &mut Part<S::Workspace>, i: u32) -> Result<SolvedProblem, NoMemory> {
-        let place = self.deal.place(i as usize);
-        let problem = self.problems[place];
+        let problem = self.problems[i as usize];
         let lts = self.search.lts;
-        if place < self.taken
-            || self.kept.separates(lts, problem)
-            || part.separated.separates(lts, problem)
-        {
+        if self.kept.separates(lts, problem) || part.separated.separates(lts, problem) {
             return Ok(SolvedProblem {
                 problem,
                 outcome: None,
@@ -163,38 +139,16 @@ fn note<S: Solving, G>(
     }
 }
 
-// Returns the outcomes of the problems of a block in the order of the problems. They are given by the numbers of the deal.
-fn gather<S: Solving, G>(
-    search: &Search<'_, S, G>,
-    deal: Deal,
-    problems: &[Problem],
-    solved: &mut [SolvedProblem],
-) -> Result<Vec<SolvedProblem>, NoMemory>
-    requires dealt { deal.dealt ≤ length problems.now }
-    requires solved { AreAnswers (λ i v. IsDealt deal.deals deal.parts problems.now i v.problem × IsSolvedBy (S.comes search.now.solving.now) (S.makes search.now.solving.now) v) 0 (length problems.now) solved.old }
-    ensures solved { IfOk result (λ v. All (IsSolvedBy (S.comes search.now.solving.now) (S.makes search.now.solving.now)) v.items) }
-    ensures same { IfOk result (λ v. problems_of v.items ≡ problems.now) }
-{
-    let mut all = Vec::new(search.alloc);
-    for place in 0..problems.len() {
-        let outcome = solved[deal.number(place)].outcome.take();
-        let problem = problems[place];
-        all.push(SolvedProblem { problem, outcome })?;
-    }
-    Ok(all)
-}
-
-/// Returns the outcomes of the problems of a block, in their order, computed by parts that run in parallel. Of as many
-/// neighbours as there are parts each part gets one, as cards are dealt. The first `taken` problems are left unsolved,
-/// and so is a problem that a kept place separates, or a place that its own part made before: its outcome is None. Each
-/// part solves with a workspace of its own, and keeps no proof. The gate is entered before each number of the block and
-/// left after it, also for a problem that is left unsolved. Returns `NoMemory` if memory runs out.
+/// Returns the outcomes of the problems of a block, in their order, computed by parts that run in parallel: number `i`
+/// is the problem at place `i`. A problem that a kept place separates is left unsolved, and so is one that a place
+/// separates which its own part made before: its outcome is None. Each part solves with a workspace of its own, and
+/// keeps no proof. The gate is entered before the work for each number and left after it. Returns `NoMemory` if memory
+/// runs out.
 pub fn solve_block<R: Threads + Sync, K: Keeping + Sync, S: Solving + Sync, G: Gate + Sync>(
     rt: &R,
     search: &Search<'_, S, G>,
     kept: &K,
     problems: &[Problem],
-    taken: usize,
 ) -> Result<Vec<SolvedProblem>, NoMemory>
 where
     S::Workspace: Send + Sync + Drop,
@@ -208,19 +162,11 @@ where
     ensures solved { IfOk result (λ v. All (IsSolvedBy (S.comes search.now.solving.now) (S.makes search.now.solving.now)) v.items) }
     ensures same { IfOk result (λ v. problems_of v.items ≡ problems.now) }
 {
-    let many = problems.len();
-    let deal = Deal::new(many, usize::from(search.jobs));
-    let gate = PlaceGate {
-        gate: search.gate,
-        deal,
-    };
     let task = Problems {
         search,
         kept,
         problems,
-        deal,
-        taken,
     };
-    let mut solved = block_of_parts(rt, search.alloc, &task, 0, many as u32, search.jobs, &gate)?;
-    gather(search, deal, problems, &mut solved)
+    let many = problems.len() as u32;
+    block_of_parts(rt, search.alloc, &task, 0, many, search.jobs, search.gate)
 }

@@ -1,19 +1,18 @@
 //! All problems.
-ghost use Rattle.std.specs.Prelude.{◌≡◌, ◌≤◌, [], All, IfOk, IfSome, OnOk, None, length};
-ghost use Rattle.rg_theory.specs.Problem.{IsProblem};
+ghost use Rattle.std.specs.Prelude.{◌≡◌, ◌<◌, ◌≤◌, [], All, IfOk, IfSome, OnOk, None, length};
 ghost use Rattle.rg_theory.specs.Region.{IsRegion};
-ghost use Rattle.rg_outcome.specs.Coming.{IsSound};
+ghost use Rattle.rg_outcome.specs.Coming.{IsLeft, IsSound};
 ghost use Rattle.rg_blocks.specs.Blocks.{most_in_block};
 ghost use Rattle.rg_blocks.specs.Taking.{IsTakenOver};
 ghost use Rattle.rg_blocks.specs.Separating.{EndsAll, FindsRefuted, IsSeparationOutcome};
 ghost use Rattle.rg_blocks.specs.Searching.{CanSearch, IsSearching};
 
-use crate::block::{FIRST_BLOCK, most_after, next_block, solve_block};
+use crate::block::{next_block, solve_block};
 use crate::keeping::Keeping;
 use crate::left::next_problem;
 use crate::search::{Progress, Search};
 use crate::solving::Solving;
-use crate::taking::{Begun, begin_in_turn, pass_by, solve_in_turn, take_over};
+use crate::taking::{solve_in_turn, solve_left, take_over};
 use rg_memory::NoMemory;
 use rg_ports::Gate;
 use rg_theory::Problem;
@@ -30,8 +29,8 @@ pub enum SeparationOutcome {
     TooWide(Problem),
 }
 
-// Solves the problems of a block and takes over what they come to: with one job problem by problem, else the first ones in turn, as long as
-// their places separate what follows, and the others when all parts are done.
+// Solves the problems of a block and takes over what they come to: with one job problem by problem. With more, the first one is solved in turn,
+// so that the parts know its place, and then all are solved by the parts.
 fn take_block<R: Threads + Sync, K: Keeping + Sync, S: Solving + Sync, G: Gate + Sync>(
     rt: &R,
     search: &Search<'_, S, G>,
@@ -44,7 +43,8 @@ where
     requires few { length problems.now ≤ most_in_block }
     requires can { CanSearch search.now S.asks S.comes S.makes K.may_keep K.may_keep_compact }
     requires searching { IsSearching search.now K.keeps_for S.serves S.proves progress.old }
-    requires problems { All (IsProblem search.now.lts.now) problems.now }
+    requires some { 0 < length problems.now }
+    requires left { All (IsLeft search.now.lts.now (K.places progress.old.kept)) problems.now }
     ensures searching { OnOk result (IsSearching search.now K.keeps_for S.serves S.proves progress.new) }
     ensures proves { IfSome progress.new.proof (λ p. S.proves search.now.solving.now p.0 p.1) }
     ensures taken { IfOk result (λ end. IsTakenOver search.now.lts.now (S.comes search.now.solving.now) (K.places progress.old.kept) problems.now (K.places progress.new.kept) end) }
@@ -52,17 +52,9 @@ where
     if search.jobs == 1 {
         return solve_in_turn(search, progress, problems);
     }
-    match begin_in_turn(search, progress, problems)? {
-        Begun::Ended(end) => {
-            pass_by(search.gate, 0, problems.len() as u32);
-            Ok(end)
-        }
-        Begun::First(taken) => {
-            let mut solved = solve_block(rt, search, &progress.kept, problems, taken)?;
-            let others = solved.split_off(taken)?;
-            take_over(search, progress, others)
-        }
-    }
+    solve_left(search, progress, problems[0])?;
+    let solved = solve_block(rt, search, &progress.kept, problems)?;
+    take_over(search, progress, solved)
 }
 
 // Takes all problems, block by block, as long as one is left after the last one. Returns the first problem that is refuted, which ends it, and
@@ -83,9 +75,8 @@ where
     ensures ends { IfOk result (λ end. EndsAll search.now.lts.now (S.comes search.now.solving.now) (K.places progress.old.kept) (K.places progress.new.kept) end) }
 {
     let mut last = None;
-    let mut most = FIRST_BLOCK;
     loop {
-        let block = next_block(search.alloc, search.lts, &progress.kept, last, most)?;
+        let block = next_block(search.alloc, search.lts, &progress.kept, last)?;
         if block.is_empty() {
             return Ok(None);
         }
@@ -94,7 +85,6 @@ where
             return Ok(Some(refuted));
         }
         last = Some(end);
-        most = most_after(most);
     }
 }
 

@@ -3,22 +3,19 @@ ghost use Rattle.std.specs.Prelude.{◌≡◌, ◌≤◌, [], ◌∷◌, All, If
 ghost use Rattle.rg_theory.specs.Problem.{IsProblem};
 ghost use Rattle.rg_outcome.specs.Coming.{IsSeparated};
 ghost use Rattle.rg_blocks.specs.Blocks.{most_in_block};
-ghost use Rattle.rg_blocks.specs.Taking.{IsWaiting, IsSolvedBy, AreKeepable, problems_of, IsTakenOver, IsBegun};
+ghost use Rattle.rg_blocks.specs.Taking.{IsWaiting, IsSolvedBy, AreKeepable, KeepsItsPlace, problems_of, IsTakenOver};
 ghost use Rattle.rg_blocks.specs.Searching.{IsSearching};
 
 use crate::keeping::Keeping;
 use crate::search::{Progress, Search};
 use crate::solving::{ProblemOutcome, SolvedProblem, Solving, WaitingOutcome};
-use rg_lts::Lts;
 use rg_memory::NoMemory;
 use rg_ports::Gate;
 use rg_theory::Problem;
 
-// Of so many problems of a block one is solved in turn.
-const ONE_IN_TURN_OF: usize = 256;
-
-// Solves a problem that no kept place separates, and takes over its outcome. Returns the problem if it is refuted.
-fn solve_left<K: Keeping, S: Solving, G>(
+/// Solves a problem that no kept place separates, and takes over its outcome: its place is kept, if it has one. Returns
+/// the problem if it is refuted.
+pub(crate) fn solve_left<K: Keeping, S: Solving, G>(
     search: &Search<'_, S, G>,
     progress: &mut Progress<K, S::Workspace, S::Proof>,
     problem: Problem,
@@ -31,6 +28,7 @@ fn solve_left<K: Keeping, S: Solving, G>(
     ensures searching { OnOk result (IsSearching search.now K.keeps_for S.serves S.proves progress.new) }
     ensures proves { IfSome progress.new.proof (λ p. S.proves search.now.solving.now p.0 p.1) }
     ensures taken { IfOk result (λ end. IsTakenOver search.now.lts.now (S.comes search.now.solving.now) (K.places progress.old.kept) (problem ∷ []) (K.places progress.new.kept) end) }
+    ensures kept { OnOk result (KeepsItsPlace (S.comes search.now.solving.now) (K.places progress.old.kept) problem (K.places progress.new.kept)) }
 {
     let solving = search.solving;
     match solving.solve(&mut progress.workspace, problem, &mut progress.proof)? {
@@ -120,70 +118,10 @@ pub fn take_over<K: Keeping, S: Solving, G>(
     Ok(None)
 }
 
-/// Enters and leaves the gate for the numbers from `from` on below `to`.
-pub(crate) fn pass_by<G: Gate>(gate: &G, from: u32, to: u32) {
-    for i in from..to {
-        gate.enter(i);
-        gate.leave(i);
-    }
-}
-
-/// How far a block is taken over in turn.
-#[derive(Clone, Copy, Debug, PartialEq, Eq)]
-pub enum Begun {
-    /// To its end, or to the problem that is refuted.
-    Ended(Option<Problem>),
-    /// So many of its problems, the first ones.
-    First(usize),
-}
-
-/// Solves the first problems of a block one after the other, and takes over each outcome at once: one problem of
-/// every 256, and further ones as long as the places that are kept separate the problem that follows. A problem that
-/// a kept place separates isn't solved. The first one that is refuted ends the call. Returns `NoMemory` if memory
-/// runs out.
-pub fn begin_in_turn<K: Keeping, S: Solving, G>(
-    search: &Search<'_, S, G>,
-    progress: &mut Progress<K, S::Workspace, S::Proof>,
-    problems: &[Problem],
-) -> Result<Begun, NoMemory>
-    requires keepable { AreKeepable (S.makes search.now.solving.now) (K.may_keep search.now.lts.now) (K.may_keep_compact search.now.lts.now) }
-    requires asked { All (S.asks search.now.solving.now) problems.now }
-    requires searching { IsSearching search.now K.keeps_for S.serves S.proves progress.old }
-    requires problems { All (IsProblem search.now.lts.now) problems.now }
-    ensures searching { OnOk result (IsSearching search.now K.keeps_for S.serves S.proves progress.new) }
-    ensures proves { IfSome progress.new.proof (λ p. S.proves search.now.solving.now p.0 p.1) }
-    ensures begun { IfOk result (IsBegun search.now.lts.now (S.comes search.now.solving.now) (K.places progress.old.kept) problems.now (K.places progress.new.kept)) }
-{
-    let in_turn = problems.len() / ONE_IN_TURN_OF;
-    for (i, &problem) in problems.iter().enumerate() {
-        if progress.kept.separates(search.lts, problem) {
-            continue;
-        }
-        if let Some(refuted) = solve_left(search, progress, problem)? {
-            return Ok(Begun::Ended(Some(refuted)));
-        }
-        if i + 1 >= in_turn && !follows_separated(search.lts, &progress.kept, problems, i + 1) {
-            return Ok(Begun::First(i + 1));
-        }
-    }
-    Ok(Begun::Ended(None))
-}
-
-// Whether a kept place separates the problem of this number, if there is one.
-fn follows_separated<K: Keeping>(lts: &Lts, kept: &K, problems: &[Problem], number: usize) -> bool
-    requires kept { K.keeps_for kept.now lts.now }
-    requires problems { All (IsProblem lts.now) problems.now }
-{
-    match problems.get(number) {
-        Some(&problem) => kept.separates(lts, problem),
-        None => true,
-    }
-}
-
 /// Solves the problems of a block one after the other, and takes over each outcome at once. A problem that a place
-/// kept meanwhile separates isn't solved. The first one that is refuted ends the call and is returned; None is
-/// returned if there is no such problem. The gate is entered and left once for each number of the block, also for
-/// problems that aren't solved. Returns `NoMemory` if memory runs out.
+/// kept meanwhile separates isn't solved. The first one that is refuted is returned, and none after it is solved; None
+/// is returned if there is no such problem. The gate is entered before the work for each number of the block and left
+/// after it, also where nothing is solved. Returns `NoMemory` if memory runs out.
 pub fn solve_in_turn<K: Keeping, S: Solving, G: Gate>(
     search: &Search<'_, S, G>,
     progress: &mut Progress<K, S::Workspace, S::Proof>,
@@ -198,18 +136,22 @@ pub fn solve_in_turn<K: Keeping, S: Solving, G: Gate>(
     ensures proves { IfSome progress.new.proof (λ p. S.proves search.now.solving.now p.0 p.1) }
     ensures taken { IfOk result (λ end. IsTakenOver search.now.lts.now (S.comes search.now.solving.now) (K.places progress.old.kept) problems.now (K.places progress.new.kept) end) }
 {
+    let mut refuted = None;
     for (i, &problem) in problems.iter().enumerate() {
         search.gate.enter(i as u32);
-        let solved = SolvedProblem {
-            problem,
-            outcome: None,
+        let taken = match refuted {
+            Some(_) => Ok(refuted),
+            None => take(
+                search,
+                progress,
+                SolvedProblem {
+                    problem,
+                    outcome: None,
+                },
+            ),
         };
-        let taken = take(search, progress, solved);
         search.gate.leave(i as u32);
-        if let Some(refuted) = taken? {
-            pass_by(search.gate, i as u32 + 1, problems.len() as u32);
-            return Ok(Some(refuted));
-        }
+        refuted = taken?;
     }
-    Ok(None)
+    Ok(refuted)
 }

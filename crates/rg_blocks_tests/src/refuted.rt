@@ -39,8 +39,8 @@ const FIVE: [Given; 5] = [
     Given::Refuted,
 ];
 
-// One job solves nothing after the problem that is refuted. More jobs solve the first label that is left, and then all that are left after it,
-// but those that a place stops that their part made or that was kept before the parts began.
+// One job solves nothing after the problem that is refuted. More jobs solve the first label that is left, and then all that are left, the first one
+// too where it has no place, but those that its place stops or one that their part made.
 const ROWS: [Row; 13] = [
     Row {
         given: &[Given::Refuted, Given::Stops(1)],
@@ -48,7 +48,7 @@ const ROWS: [Row; 13] = [
         refuted: Some(Event(0, 0)),
         labels: &[],
         left: 2,
-        solved: (1, 1),
+        solved: (1, 3),
     },
     Row {
         given: &[
@@ -61,7 +61,7 @@ const ROWS: [Row; 13] = [
         refuted: Some(Event(0, 2)),
         labels: &[1],
         left: 4,
-        solved: (3, 4),
+        solved: (3, 5),
     },
     // the place of label 2 is dropped for that of label 1
     Row {
@@ -92,7 +92,7 @@ const ROWS: [Row; 13] = [
         refuted: Some(Event(0, 3)),
         labels: &[0],
         left: 3,
-        solved: (2, 3),
+        solved: (2, 4),
     },
     Row {
         given: &FIVE,
@@ -108,7 +108,7 @@ const ROWS: [Row; 13] = [
         refuted: Some(Event(0, 3)),
         labels: &[2, 4, 0],
         left: 1,
-        solved: (1, 1),
+        solved: (1, 2),
     },
     Row {
         given: &FIVE,
@@ -141,7 +141,7 @@ const ROWS: [Row; 13] = [
         refuted: None,
         labels: &[0],
         left: 1,
-        solved: (1, 1),
+        solved: (1, 2),
     },
     Row {
         given: &[Given::Stops(0), Given::TooWide],

@@ -11,13 +11,13 @@ use rg_ports::Gate;
 use rg_samples::system;
 use rg_spanning::Tree;
 use rg_theory::Problem;
-use std::alloc::{AllocError, Global};
+use std::alloc::Global;
 use std::sync::atomic::Ordering;
 use std::test::Fail;
 use std::thread::Threads;
 
 // The answers to the problems of labels, what all of them come to, the labels whose places are kept, and how many problems are solved: by one job,
-// by two and how many of these inside the gate, the same by three, and where each label has a part of its own.
+// by two and how many of these inside the gate, and the same by more.
 type Row = (
     &'static [Given],
     Option<SeparationOutcome>,
@@ -25,49 +25,43 @@ type Row = (
     u64,
     (u64, u64),
     (u64, u64),
-    (u64, u64),
 );
 
-// Each is one block of less than 64 problems: the first label is solved in turn, before the gate is entered, and the others as long as the one
-// after a label that was solved is stopped. What is left then is solved by parts: of four labels two jobs have 0 and 2, and 1 and 3; of three
-// jobs the first two have one label each, and the third one has labels 2 and 3. A part leaves what a place kept so far stops, or one of its own.
-// At last those are solved that were left for a place that isn't kept. One job solves each inside.
+// Each is one block of less than 128 problems. More jobs solve the first label in turn, before the gate is entered, and then the block by parts:
+// of four labels two jobs have two each. A part leaves what the place of the first label stops, or one of its own. At last those are solved that
+// were left for a place that isn't kept. One job solves each inside.
 const ROWS: [Row; 17] = [
     (
         &[Given::Stops(1), Given::Stops(0), Given::Stops(2)],
         Some(SeparationOutcome::Separated),
         &[0, 2],
         2,
-        (2, 0),
-        (2, 0),
-        (2, 0),
+        (2, 1),
+        (2, 1),
     ),
     (
         &[Given::Stops(1), Given::TooWide, Given::Stops(0)],
         Some(SeparationOutcome::Separated),
         &[0, 2],
         2,
-        (2, 0),
-        (2, 0),
-        (2, 0),
+        (2, 1),
+        (2, 1),
     ),
     (
         &[Given::Stops(1), Given::Refuted, Given::Stops(0)],
         Some(SeparationOutcome::Separated),
         &[0, 2],
         2,
-        (2, 0),
-        (2, 0),
-        (2, 0),
+        (2, 1),
+        (2, 1),
     ),
     (
         &[Given::TooWide, Given::Stops(0)],
         Some(SeparationOutcome::Separated),
         &[1],
         2,
-        (2, 1),
-        (2, 1),
-        (2, 1),
+        (3, 2),
+        (3, 2),
     ),
     (
         &[
@@ -79,9 +73,8 @@ const ROWS: [Row; 17] = [
         Some(SeparationOutcome::TooWide(Problem::Event(0, 1))),
         &[2],
         4,
-        (4, 3),
-        (4, 3),
-        (4, 3),
+        (5, 4),
+        (5, 4),
     ),
     (
         &[
@@ -93,26 +86,23 @@ const ROWS: [Row; 17] = [
         Some(SeparationOutcome::Unsolvable(Problem::Event(0, 2))),
         &[1],
         3,
-        (4, 3),
-        (4, 3),
-        (4, 3),
+        (5, 4),
+        (5, 4),
     ),
     (
         &[Given::Refuted, Given::Stops(1)],
         Some(SeparationOutcome::Unsolvable(Problem::Event(0, 0))),
         &[],
         1,
-        (1, 0),
-        (1, 0),
-        (1, 0),
+        (3, 2),
+        (3, 2),
     ),
-    (&[Given::NoMemory], None, &[], 1, (1, 0), (1, 0), (1, 0)),
+    (&[Given::NoMemory], None, &[], 1, (1, 0), (1, 0)),
     (
         &[Given::Stops(0), Given::NoMemory],
         None,
         &[],
         2,
-        (2, 1),
         (2, 1),
         (2, 1),
     ),
@@ -123,9 +113,8 @@ const ROWS: [Row; 17] = [
         1,
         (1, 0),
         (1, 0),
-        (1, 0),
     ),
-    // the first two places stop the labels after them, so that all are solved in turn
+    // of two jobs the second one leaves label 3 for its place of label 2
     (
         &[
             Given::Stops(1),
@@ -136,9 +125,8 @@ const ROWS: [Row; 17] = [
         Some(SeparationOutcome::Separated),
         &[0, 2],
         2,
-        (2, 0),
-        (2, 0),
-        (2, 0),
+        (2, 1),
+        (3, 2),
     ),
     // the place of label 0 is kept before the parts begin, so that label 2 is left
     (
@@ -153,10 +141,9 @@ const ROWS: [Row; 17] = [
         3,
         (3, 2),
         (3, 2),
-        (3, 2),
     ),
     // where one part does labels 2 and 3, label 3 is left for the place of label 2, which is dropped for that of label 1: then label 3 is solved at
-    // last; where each has a part of its own, label 3 is solved by its part
+    // last; else label 3 is solved by its part
     (
         &[
             Given::Stops(0),
@@ -167,7 +154,6 @@ const ROWS: [Row; 17] = [
         Some(SeparationOutcome::Separated),
         &[0, 1, 3],
         3,
-        (4, 3),
         (4, 2),
         (4, 3),
     ),
@@ -181,7 +167,6 @@ const ROWS: [Row; 17] = [
         Some(SeparationOutcome::TooWide(Problem::Event(0, 3))),
         &[0, 1],
         3,
-        (4, 3),
         (4, 2),
         (4, 3),
     ),
@@ -195,7 +180,6 @@ const ROWS: [Row; 17] = [
         Some(SeparationOutcome::Unsolvable(Problem::Event(0, 3))),
         &[0, 1],
         3,
-        (4, 3),
         (4, 2),
         (4, 3),
     ),
@@ -209,7 +193,6 @@ const ROWS: [Row; 17] = [
         None,
         &[],
         3,
-        (4, 3),
         (4, 2),
         (4, 3),
     ),
@@ -223,44 +206,17 @@ const ROWS: [Row; 17] = [
         Some(SeparationOutcome::Separated),
         &[0, 1, 2],
         3,
-        (3, 2),
         (4, 3),
         (4, 3),
     ),
 ];
 
-// Puts this letter with each of the numbers from `from` on below `to` after the text.
-fn push_names(
-    alloc: Global,
-    text: &mut String,
-    letter: char,
-    from: usize,
-    to: usize,
-) -> Result<(), AllocError> {
-    for n in from..to {
-        let name = format!(in alloc; " {letter}{n}")?;
-        text.push_str(&name)?;
-    }
-    Ok(())
-}
-
 // The system with one state, so many labels and no arc.
 pub(crate) fn system_with_labels(alloc: Global, labels: usize) -> Option<Lts> {
     let mut text = String::from_str(alloc, ".type LTS .states s[initial] .labels").ok()?;
-    push_names(alloc, &mut text, 't', 0, labels).ok()?;
-    system(alloc, text.as_str())
-}
-
-// The system with so many states in a row, so many labels without an arc, and one after them that leads from each state to the next.
-fn in_a_row(alloc: Global, states: usize, labels: usize) -> Option<Lts> {
-    let mut text = String::from_str(alloc, ".type LTS .states s0[initial]").ok()?;
-    push_names(alloc, &mut text, 's', 1, states).ok()?;
-    text.push_str(" .labels").ok()?;
-    push_names(alloc, &mut text, 't', 0, labels).ok()?;
-    text.push_str(" step .arcs").ok()?;
-    for s in 1..states {
-        let arc = format!(in alloc; " s{} step s{s}", s - 1).ok()?;
-        text.push_str(&arc).ok()?;
+    for n in 0..labels {
+        let name = format!(in alloc; " t{n}").ok()?;
+        text.push_str(&name).ok()?;
     }
     system(alloc, text.as_str())
 }
@@ -378,17 +334,17 @@ fn see<R: Threads + Sync>(rt: &R, alloc: Global, lts: &Lts, given: &[Given], job
     see_through(rt, alloc, lts, given, jobs, &gate, &gate)
 }
 
-// How many workspaces are made for parts: one for each part with a label, where what is left of so many labels is solved inside the gate.
-fn count_made(jobs: u8, labels: usize, inside: u64) -> u64 {
-    if jobs == 1 || inside == 0 {
+// How many workspaces are made for parts: one for each part with a label. No part begins where there is no memory for the first one.
+fn count_made(jobs: u8, given: &[Given]) -> u64 {
+    if jobs == 1 || matches!(given.first(), Some(Given::NoMemory)) {
         return 0;
     }
-    u64::from(jobs).min(labels as u64)
+    u64::from(jobs).min(given.len() as u64)
 }
 
 #[test]
 fn rows(rt: HostRuntime) -> Result<(), Fail> {
-    for (given, wanted, labels, by_one, by_two, by_three, by_each) in ROWS {
+    for (given, wanted, labels, by_one, by_two, by_more) in ROWS {
         let Some(lts) = system_with_labels(rt.alloc(), given.len()) else {
             assert!(rt; false);
             return Ok(());
@@ -396,16 +352,16 @@ fn rows(rt: HostRuntime) -> Result<(), Fail> {
         for (jobs, solved) in [
             (1u8, (by_one, by_one)),
             (2, by_two),
-            (3, by_three),
-            (7, by_each),
-            (16, by_each),
+            (3, by_more),
+            (7, by_more),
+            (16, by_more),
         ] {
             let seen = see(&rt, rt.alloc(), &lts, given, jobs);
             let counted = seen.counted;
             assert!(rt; seen.is_wanted(wanted, labels));
             assert_eq!(rt; counted.left, counted.entered);
             assert!(rt; wanted.is_none() || counted.entered == given.len() as u64);
-            assert_eq!(rt; counted.made, count_made(jobs, given.len(), by_two.1));
+            assert_eq!(rt; counted.made, count_made(jobs, given));
             assert_eq!(rt; (counted.solved, counted.solved_inside), solved);
         }
     }
@@ -458,7 +414,7 @@ fn see_held<R: Threads + Sync>(
 // All labels wait for each other, since each has a part of its own. A part without a label makes no workspace.
 #[test]
 fn each_part_does_one(rt: HostRuntime) -> Result<(), Fail> {
-    for (given, wanted, labels, _, _, _, (solved, inside)) in ROWS {
+    for (given, wanted, labels, _, _, (solved, inside)) in ROWS {
         if inside == 0 {
             continue;
         }
@@ -480,75 +436,35 @@ fn each_part_does_one(rt: HostRuntime) -> Result<(), Fail> {
     Ok(())
 }
 
-// With 255 labels that have no arc, 24 states ask for 24 * 255 + 1 labels, since the last label has no arc at the last state, and for 276 pairs.
-// The first block has labels 0 to 63 of the first state. The places of labels 0, 1 and 2 stop labels 63, 62 and 64 too, at each state, so that
-// the second block has labels 65 to 192. The places of its first three labels stop labels 192, 191 and 193 too. Twelve labels are stopped then.
-// What is left are labels 194 to 254 of the first state, 243 labels of each other state, label 255 of the last one and the pairs,
-// 61 + 23 * 243 + 1 + 276 = 5,927. No other place is made, and they are solved in blocks of 256, 512, 1,024, 2,048, 2,048 and 39.
-//
-// One job solves all but the last two labels of the first two blocks. More jobs solve 1, 1, 1, 2, 4, 8, 8 and 1 of the problems of the blocks in
-// turn, 26 in all. So the place that stops the last label of either of the first two blocks is kept before the parts begin, and that label is
-// left. The last but one is solved as well, since one part makes the place that stops it, and another part solves it. Each of the parts, 16
-// at most, has one to solve in each of the eight blocks.
+// The first block has labels 0 to 127: label 127 is in it, since the place of label 0 isn't kept before, and label 128 is in none, since the place
+// of label 1 is kept before the second block, which has labels 129 to 191. More jobs solve labels 0 and 129 in turn, and their places are kept
+// before the parts begin, so that no part solves these labels, 127 and 191. Label 131 is of the first part, also of sixteen, and that part leaves
+// it for the place of label 130. So labels 127, 128, 131 and 191 are never solved.
 #[test]
-fn growing_blocks(rt: HostRuntime) -> Result<(), Fail> {
-    let mut given = [Given::TooWide; 255];
-    given[0] = Given::Stops(63);
-    given[1] = Given::Stops(62);
-    given[2] = Given::Stops(64);
-    given[65] = Given::Stops(192);
-    given[66] = Given::Stops(191);
-    given[67] = Given::Stops(193);
-    let Some(lts) = in_a_row(rt.alloc(), 24, 255) else {
-        assert!(rt; false);
-        return Ok(());
-    };
-    let (by_one, by_more) = (62 + 126 + 5927, 63 + 127 + 5927);
-    for (jobs, solved, in_turn, made) in [
-        (1u8, by_one, by_one, 0),
-        (2, by_more, 26, 8 * 2),
-        (3, by_more, 26, 8 * 3),
-        (7, by_more, 26, 8 * 7),
-        (16, by_more, 26, 8 * 16),
-    ] {
-        let seen = see(&rt, rt.alloc(), &lts, &given, jobs);
-        let counted = seen.counted;
-        let entered = 64 + 128 + 5927;
-        assert_eq!(rt; (counted.entered, counted.left), (entered, entered));
-        assert_eq!(rt; (counted.solved, counted.in_turn), (solved, in_turn));
-        assert_eq!(rt; (counted.made, counted.used), (made, 1 + made));
-        let wanted = Some(SeparationOutcome::TooWide(Problem::Event(0, 3)));
-        assert!(rt; seen.is_wanted(wanted, &[0, 1, 2, 65, 66, 67]));
-    }
-    Ok(())
-}
-
-// The first block has labels 0 to 63, of which label 0 is solved in turn, and the second one labels 64 to 191. Its first one, label 64, is solved
-// in turn; its place stops label 65, and so label 66 is solved after it; its place stops label 67, and so label 68 is solved. That
-// makes no place, and label 69 isn't stopped. Labels 65 and 67 are solved by no part, since the places are kept before the parts begin.
-#[test]
-fn on_in_turn(rt: HostRuntime) -> Result<(), Fail> {
+fn blocks_of_128(rt: HostRuntime) -> Result<(), Fail> {
     let mut given = [Given::TooWide; 192];
-    given[64] = Given::Stops(65);
-    given[66] = Given::Stops(67);
+    given[0] = Given::Stops(127);
+    given[1] = Given::Stops(128);
+    given[129] = Given::Stops(191);
+    given[130] = Given::Stops(131);
     let Some(lts) = system_with_labels(rt.alloc(), 192) else {
         assert!(rt; false);
         return Ok(());
     };
     for (jobs, in_turn, made) in [
-        (1u8, 192 - 2, 0),
-        (2, 1 + 3, 2 * 2),
-        (3, 1 + 3, 2 * 3),
-        (7, 1 + 3, 2 * 7),
-        (16, 1 + 3, 2 * 16),
+        (1u8, 188, 0),
+        (2, 2, 2 * 2),
+        (3, 2, 2 * 3),
+        (7, 2, 2 * 7),
+        (16, 2, 2 * 16),
     ] {
         let seen = see(&rt, rt.alloc(), &lts, &given, jobs);
         let counted = seen.counted;
-        assert_eq!(rt; (counted.entered, counted.left), (192, 192));
-        assert_eq!(rt; (counted.solved, counted.in_turn), (192 - 2, in_turn));
+        assert_eq!(rt; (counted.entered, counted.left), (191, 191));
+        assert_eq!(rt; (counted.solved, counted.in_turn), (188, in_turn));
         assert_eq!(rt; (counted.made, counted.used), (made, 1 + made));
-        let wanted = Some(SeparationOutcome::TooWide(Problem::Event(0, 0)));
-        assert!(rt; seen.is_wanted(wanted, &[64, 66]));
+        let wanted = Some(SeparationOutcome::TooWide(Problem::Event(0, 2)));
+        assert!(rt; seen.is_wanted(wanted, &[0, 1, 129, 130]));
     }
     Ok(())
 }

@@ -1,9 +1,13 @@
-use Rattle.std.proofs.Common.{◌≡◌, ◌-◌, length, arith}
-use Rattle.rg_blocks.proofs.GatherLemmas.{same_answers}
+use Rattle.rg_blocks.specs.Taking.{IsSolvedBy}
+use Rattle.rg_blocks.proofs.SolvedLemmas.{all_in_order}
 use Rattle.rg_blocks.proofs.block.solve_block.Goals as goal
 
-pub gather-requires-clause-solved : goal.gather-requires-clause-solved
-gather-requires-clause-solved g c =
-    let n : length c.args.problems.now - 0 ≡ length c.args.problems.now = omega arith in
-    same_answers _ (length c.args.problems.now - 0) (length c.args.problems.now) c.in_ok-solved.solved.items c.deref_mut.result.now n c.deref_mut.ensures.value
-    c.in_ok-solved.ensures
+pub returns-clause-solved : goal.returns-clause-solved
+returns-clause-solved g c =
+    (all_in_order (λ v. v.items) c.block_of_parts.result c.args.problems.now
+    (IsSolvedBy (g.S.Solving.comes c.args.search.now.solving.now) (g.S.Solving.makes c.args.search.now.solving.now)) c.block_of_parts.ensures).0
+
+pub returns-clause-same : goal.returns-clause-same
+returns-clause-same g c =
+    (all_in_order (λ v. v.items) c.block_of_parts.result c.args.problems.now
+    (IsSolvedBy (g.S.Solving.comes c.args.search.now.solving.now) (g.S.Solving.makes c.args.search.now.solving.now)) c.block_of_parts.ensures).1

@@ -1,15 +1,16 @@
 use Rattle.std.proofs.Common.{rules, ◌≡◌, ◌<◌, length, All, sym, subst}
-use Rattle.rg_theory.specs.Problem.{IsProblem}
+use Rattle.rg_outcome.specs.Coming.{IsLeft}
 use Rattle.rg_blocks.specs.Taking.{IsTakenOver}
 use Rattle.rg_blocks.proofs.RankLemmas.{behind_rises}
-use Rattle.rg_blocks.proofs.SolvedLemmas.{block_has, end_is}
+use Rattle.rg_blocks.proofs.SolvedLemmas.{block_is_left, end_is}
 use Rattle.rg_blocks.proofs.SeparationLemmas.{block_leads, block_ends, block_sound}
 use Rattle.rg_blocks.proofs.separation.solve_all.Goals as goal
 
-pub take_block-requires-clause-problems : goal.take_block-requires-clause-problems
-take_block-requires-clause-problems g c κs within =
-    subst (λ xs. All (IsProblem c.args.search.now.lts.now) xs) (sym c.deref.ensures.value)
-    (block_has c.args.search.now.lts.now (g.K.Keeping.places c.loop-block.progress.kept) c.loop-block.last c.in_ok-block.block.items c.in_ok-block.ensures.block)
+pub take_block-requires-clause-left : goal.take_block-requires-clause-left
+take_block-requires-clause-left g c κs within =
+    let kept = g.K.Keeping.places c.loop-block.progress.kept in
+    subst (λ xs. All (IsLeft c.args.search.now.lts.now kept) xs) (sym c.deref.ensures.value)
+    (block_is_left c.args.search.now.lts.now kept c.loop-block.last c.in_ok-block.block.items c.in_ok-block.ensures.block)
 
 pub returns-in-Some-clause-ends : goal.returns-in-Some-clause-ends
 returns-in-Some-clause-ends g c =
@@ -48,6 +49,4 @@ loop-block-preserved g c =
       block_sound lts comes now after c.loop-block.last _ c.in_ok-block.block.items c.requires.can.reachable c.requires.can.separating
           c.loop-block.invariant.2 c.in_ok-block.ensures.block end.0 taken_all,
       c.in_ok-refuted.ensures.searching,
-      c.most_after-most.ensures.some,
-      c.most_after-most.ensures.few,
     )

@@ -1,7 +1,6 @@
-use Rattle.std.proofs.Common.{◌-◌, ◌≤◌, IfSome}
+use Rattle.std.proofs.Common.{◌-◌, IfSome}
 use Rattle.rg_theory.specs.Problem.{IsProblem}
 use Rattle.rg_outcome.specs.Coming.{IsSound}
-use Rattle.rg_blocks.specs.Blocks.{most_in_block}
 use Rattle.rg_blocks.specs.Separating.{LeadsTo}
 use Rattle.rg_blocks.specs.Searching.{IsSearching}
 use Rattle.rg_blocks.proofs.RankLemmas.{rank, top_rank}
@@ -16,8 +15,6 @@ invariant-loop-block g l =
     × IfSome l.last (IsProblem lts)
     × IsSound lts comes l.last now
     × IsSearching l.search g.K.Keeping.keeps_for g.S.Solving.serves g.S.Solving.proves l.progress
-    × (1 ≤ l.most)
-    × (l.most ≤ most_in_block)
 
 abbrev pub decreases-loop-block : goal.decreases-loop-block
 decreases-loop-block g l = top_rank l.search.lts.now - rank l.search.lts.now l.last

@@ -1,37 +1,22 @@
-use Rattle.std.proofs.Common.{All, sym, subst}
+use Rattle.std.proofs.Common.{All, refl, sym, subst}
 use Rattle.rg_theory.specs.Problem.{IsProblem}
-use Rattle.rg_blocks.specs.Taking.{problems_of, IsSolvedBy, IsBegun}
-use Rattle.rg_blocks.proofs.TakingLemmas.{then_others}
-use Rattle.rg_blocks.proofs.SolvedLemmas.{of_solved, others_are, others_have}
+use Rattle.rg_blocks.proofs.TakingLemmas.{ok_with_first_known}
+use Rattle.rg_blocks.proofs.SolvedLemmas.{of_solved}
 use Rattle.rg_blocks.proofs.separation.take_block.Goals as goal
 
 pub take_over-requires-clause-problems : goal.take_over-requires-clause-problems
 take_over-requires-clause-problems g c =
-    others_have (λ s. IsProblem c.args.search.now.lts.now s.problem) c.in_ok-solved-in-First.solved.items c.in_ok-others-in-First.others.items c.in-First.taken c.in_ok-others-in-First.ensures.tail
-    (of_solved (IsProblem c.args.search.now.lts.now) c.in_ok-solved-in-First.solved.items
-    (subst (λ xs. All (IsProblem c.args.search.now.lts.now) xs) (sym c.in_ok-solved-in-First.ensures.same) c.requires.problems))
+    of_solved (IsProblem c.args.search.now.lts.now) c.in_ok-solved.solved.items
+    (subst (λ xs. All (IsProblem c.args.search.now.lts.now) xs) (sym c.in_ok-solved.ensures.same) (λ i d lt. (c.requires.left i d lt).0))
 
 pub take_over-requires-clause-asked : goal.take_over-requires-clause-asked
 take_over-requires-clause-asked g c =
     let asks = g.S.Solving.asks c.args.search.now.solving.now in
-    others_have (λ s. asks s.problem) c.in_ok-solved-in-First.solved.items c.in_ok-others-in-First.others.items c.in-First.taken c.in_ok-others-in-First.ensures.tail
-    (of_solved asks c.in_ok-solved-in-First.solved.items
-    (subst (λ xs. All asks xs) (sym c.in_ok-solved-in-First.ensures.same) (λ i d lt. c.requires.can.asked _ (c.requires.problems i d lt))))
+    of_solved asks c.in_ok-solved.solved.items
+    (subst (λ xs. All asks xs) (sym c.in_ok-solved.ensures.same) (λ i d lt. c.requires.can.asked _ (c.requires.left i d lt).0))
 
-pub take_over-requires-clause-solved : goal.take_over-requires-clause-solved
-take_over-requires-clause-solved g c =
-    others_have (IsSolvedBy (g.S.Solving.comes c.args.search.now.solving.now) (g.S.Solving.makes c.args.search.now.solving.now))
-    c.in_ok-solved-in-First.solved.items c.in_ok-others-in-First.others.items c.in-First.taken c.in_ok-others-in-First.ensures.tail
-    c.in_ok-solved-in-First.ensures.solved
-
-pub returns-in_ok-others-in-First-clause-taken : goal.returns-in_ok-others-in-First-clause-taken
-returns-in_ok-others-in-First-clause-taken g c =
-    let lts = c.args.search.now.lts.now in
-    let comes = g.S.Solving.comes c.args.search.now.solving.now in
-    let before = g.K.Keeping.places c.args.progress.now.kept in
-    let now = g.K.Keeping.places c.begin_in_turn.new.progress.kept in
-    let after = g.K.Keeping.places c.take_over.new.progress.kept in
-    let are = others_are c.in_ok-solved-in-First.solved.items c.in_ok-others-in-First.others.items c.args.problems.now c.in-First.taken
-    c.in_ok-solved-in-First.ensures.same c.in_ok-others-in-First.ensures.tail in
-    let begun = subst (IsBegun lts comes before c.args.problems.now now) c.in-First.is c.in_ok-end.ensures.begun in
-    then_others lts comes before now after c.args.problems.now (problems_of c.in_ok-others-in-First.others.items) c.in-First.taken c.take_over.result are begun.1 c.take_over.ensures.taken
+pub returns-clause-taken : goal.returns-clause-taken
+returns-clause-taken g c =
+    ok_with_first_known c.args.search.now.lts.now (g.S.Solving.comes c.args.search.now.solving.now) c.requires.can.separating
+    (g.K.Keeping.places c.args.progress.now.kept) (g.K.Keeping.places c.solve_left.new.progress.kept) (g.K.Keeping.places c.take_over.new.progress.kept)
+    c.args.problems.now _ _ _ c.take_over.result c.requires.some c.in_ok-solved.ensures.same refl c.requires.left c.in_ok-solve_left.ensures.kept c.take_over.ensures.taken

@@ -1,9 +1,9 @@
 use Rattle.std.proofs.Common.{take}
-use Rattle.rg_outcome.specs.Blocks.{AfterBlock.kept_places, TakenOver}
+use Rattle.rg_blocks.specs.Taking.{IsTakenOver}
 use Rattle.rg_blocks.specs.Searching.{IsSearching}
 use Rattle.rg_blocks.proofs.taking.solve_in_turn.Given as goal
 
 abbrev pub invariant-loop-i : goal.invariant-loop-i
 invariant-loop-i g l =
     IsSearching l.search g.K.Keeping.keeps_for g.S.Solving.serves g.S.Solving.proves l.progress
-    × TakenOver l.search.lts.now (g.S.Solving.comes l.search.solving.now) (g.K.Keeping.places l.initial.progress.kept) (take l.i l.problems) (kept_places (g.K.Keeping.places l.progress.kept))
+    × IsTakenOver l.search.lts.now (g.S.Solving.comes l.search.solving.now) (g.K.Keeping.places l.initial.progress.kept) (take l.i l.problems) (g.K.Keeping.places l.progress.kept) l.refuted
