@@ -140,10 +140,9 @@ fn note<S: Solving, G>(
 }
 
 /// Returns the outcomes of the problems of a block, in their order, computed by parts that run in parallel: number `i`
-/// is the problem at place `i`. A problem that a kept place separates is left unsolved, and so is one that a place
-/// separates which its own part made before: its outcome is None. Each part solves with a workspace of its own, and
-/// keeps no proof. The gate is entered before the work for each number and left after it. Returns `NoMemory` if memory
-/// runs out.
+/// is the problem at place `i` of the block. A problem is left unsolved, with the outcome None, if a kept place
+/// separates it or one that its part made before. Each part solves with a workspace of its own, and keeps no proof. The
+/// gate is entered before the work for each number and left after it. Returns `NoMemory` if memory runs out.
 pub fn solve_block<R: Threads + Sync, K: Keeping + Sync, S: Solving + Sync, G: Gate + Sync>(
     rt: &R,
     search: &Search<'_, S, G>,

@@ -38,7 +38,7 @@ pub enum WaitingOutcome {
 pub struct SolvedProblem {
     /// The problem.
     pub problem: Problem,
-    /// The outcome, or None if the problem isn't solved yet because a place made by the same part separates it.
+    /// The outcome, or None if the problem isn't solved yet because a place separates it that is kept or that its part made.
     pub outcome: Option<WaitingOutcome>,
 }
 

@@ -14,7 +14,7 @@ use rg_ports::Gate;
 use rg_theory::Problem;
 
 /// Solves a problem that no kept place separates, and takes over its outcome: its place is kept, if it has one. Returns
-/// the problem if it is refuted.
+/// the problem if it is refuted, and `NoMemory` if memory runs out.
 pub(crate) fn solve_left<K: Keeping, S: Solving, G>(
     search: &Search<'_, S, G>,
     progress: &mut Progress<K, S::Workspace, S::Proof>,
@@ -138,17 +138,14 @@ pub fn solve_in_turn<K: Keeping, S: Solving, G: Gate>(
 {
     let mut refuted = None;
     for (i, &problem) in problems.iter().enumerate() {
+        let unsolved = SolvedProblem {
+            problem,
+            outcome: None,
+        };
         search.gate.enter(i as u32);
         let taken = match refuted {
             Some(_) => Ok(refuted),
-            None => take(
-                search,
-                progress,
-                SolvedProblem {
-                    problem,
-                    outcome: None,
-                },
-            ),
+            None => take(search, progress, unsolved),
         };
         search.gate.leave(i as u32);
         refuted = taken?;

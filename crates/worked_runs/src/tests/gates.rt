@@ -12,29 +12,29 @@ use std::thread::Threads;
 // The word a b a: eleven problems, all in one block.
 const WORD: &str = "file f\n> a b a\nstatus 0\n";
 
-// A ring of nine labels: the first block has 64 problems.
+// A ring of seven labels: 42 problems of labels and 21 of states, all in one block.
 const RING: &str =
-    "file f\n| .type LTS .states s0[initial]\ncount 1 8 s#\n| .labels\ncount 0 8 a#\n| .arcs\ncount 0 7 s# a# s%\n| s8 a8 s0\nstatus 0\n";
+    "file f\n| .type LTS .states s0[initial]\ncount 1 6 s#\n| .labels\ncount 0 6 a#\n| .arcs\ncount 0 5 s# a# s%\n| s6 a6 s0\nstatus 0\n";
 
 // The same with a label without arcs: two factors, of which the first is the ring.
 const RING_AND_LABEL: &str =
-    "file f\n| .type LTS .states s0[initial]\ncount 1 8 s#\n| .labels\ncount 0 8 a#\n| x .arcs\ncount 0 7 s# a# s%\n| s8 a8 s0\nstatus 0\n";
+    "file f\n| .type LTS .states s0[initial]\ncount 1 6 s#\n| .labels\ncount 0 6 a#\n| x .arcs\ncount 0 5 s# a# s%\n| s6 a6 s0\nstatus 0\n";
 
-// The first problems of the parts, where the problems of a block are dealt to sixteen jobs.
-const OF_SIXTEEN: [u32; 16] = [0, 1, 2, 3, 4, 5, 6, 7, 8, 9, 10, 11, 12, 13, 14, 15];
+// The first problems of the parts, where the ring's block is halved for sixteen jobs.
+const OF_SIXTEEN: [u32; 16] = [0, 3, 7, 11, 15, 19, 23, 27, 31, 35, 39, 43, 47, 51, 55, 59];
 
-// Words and files of a run, and the problems of the first block that are inside at once: the first one of each part. They are dealt to the
-// parts one by one. Of the word's eleven problems one part has 0, 2, 4, 6 and 8, and the other 1, 3, 5, 7, 9 and 10; two pairs of them are held.
+// Words and files of a run, and the problems of its block that are inside at once: the first one of each part. Of the word's eleven problems one
+// part has 0 to 4, and the other 5 to 10; two pairs of them are held.
 const RUNS: [(&str, &str, &[u32]); 11] = [
     ("words synthesize none f\n", RING, &[0]),
-    ("words synthesize none f --jobs 2\n", RING, &[0, 1]),
-    ("words synthesize none f --jobs 3\n", RING, &[0, 1, 2]),
-    ("words synthesize none f --jobs 4\n", RING, &[0, 1, 2, 3]),
-    ("words split f --jobs 4\n", RING, &[0, 1, 2, 3]),
+    ("words synthesize none f --jobs 2\n", RING, &[0, 31]),
+    ("words synthesize none f --jobs 3\n", RING, &[0, 31, 47]),
+    ("words synthesize none f --jobs 4\n", RING, &[0, 15, 31, 47]),
+    ("words split f --jobs 4\n", RING, &[0, 15, 31, 47]),
     (
         "words factor f --class none --jobs 2\n",
         RING_AND_LABEL,
-        &[0, 1],
+        &[0, 31],
     ),
     ("words synthesize none f --jobs 16\n", RING, &OF_SIXTEEN),
     ("words split f --jobs 16\n", RING, &OF_SIXTEEN),
