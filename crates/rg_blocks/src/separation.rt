@@ -30,7 +30,8 @@ pub enum SeparationOutcome {
 }
 
 // Solves the problems of a block and takes over what they come to: with one job problem by problem. With more, the first one is solved in turn,
-// so that the parts know its place, and then all are solved by the parts.
+// so that the parts know its place, and then all are solved by the parts. Where it is refuted, the block is gone through problem by problem, which
+// solves none after it.
 fn take_block<R: Threads + Sync, K: Keeping + Sync, S: Solving + Sync, G: Gate + Sync>(
     rt: &R,
     search: &Search<'_, S, G>,
@@ -52,7 +53,9 @@ where
     if search.jobs == 1 {
         return solve_in_turn(search, progress, problems);
     }
-    solve_left(search, progress, problems[0])?;
+    if solve_left(search, progress, problems[0])?.is_some() {
+        return solve_in_turn(search, progress, problems);
+    }
     let solved = solve_block(rt, search, &progress.kept, problems)?;
     take_over(search, progress, solved)
 }

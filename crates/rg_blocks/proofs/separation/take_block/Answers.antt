@@ -20,3 +20,9 @@ returns-clause-taken g c =
     ok_with_first_known c.args.search.now.lts.now (g.S.Solving.comes c.args.search.now.solving.now) c.requires.can.separating
     (g.K.Keeping.places c.args.progress.now.kept) (g.K.Keeping.places c.solve_left.new.progress.kept) (g.K.Keeping.places c.take_over.new.progress.kept)
     c.args.problems.now _ _ _ c.take_over.result c.requires.some c.in_ok-solved.ensures.same refl c.requires.left c.in_ok-solve_left.ensures.kept c.take_over.ensures.taken
+
+pub returns-then-is_some-clause-taken : goal.returns-then-is_some-clause-taken
+returns-then-is_some-clause-taken g c =
+    ok_with_first_known c.args.search.now.lts.now (g.S.Solving.comes c.args.search.now.solving.now) c.requires.can.separating
+    (g.K.Keeping.places c.args.progress.now.kept) (g.K.Keeping.places c.solve_left.new.progress.kept) (g.K.Keeping.places c.solve_in_turn-then-is_some.new.progress.kept)
+    c.args.problems.now _ _ _ c.solve_in_turn-then-is_some.result c.requires.some refl refl c.requires.left c.in_ok-solve_left.ensures.kept c.solve_in_turn-then-is_some.ensures.taken
