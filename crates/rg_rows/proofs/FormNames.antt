@@ -1,8 +1,9 @@
 -- The forms in the order of the named rows are those of the case.
-use Rattle.std.proofs.Common.{◌≡◌, ℕ, ◌<◌, ◌==◌, ◌&&◌, ◌||◌, IsTrue, Contains, not, is_some, Bool, true, false, if◌then◌else◌, Option, Some, None, List, [], ◌∷◌, ◌++◌, map, refl, ap, ap₂, subst, sym, ◌∙◌, arith}
+use Rattle.std.proofs.Common.{◌≡◌, ℕ, ◌<◌, ◌==◌, ◌&&◌, ◌||◌, IsTrue, Contains, not, is_some, Bool, true, false, if◌then◌else◌, Option, Some, None, List, [], ◌∷◌, ◌++◌, length, map, refl, ap, ap₂, subst, sym, ◌∙◌, arith, take_all, le_refl, ◌-◌}
 use Rattle.std.specs.Prelude.{IsFalse}
 use Rattle.std.proofs.lemmas.Bool.{true≢false}
-use Rattle.std.proofs.lemmas.List.{append-nil}
+use Rattle.std.proofs.Math.ListN.{take}
+use Rattle.std.proofs.lemmas.List.{append-nil, length-append, take-append-le}
 use Rattle.std.proofs.lemmas.List.Elements.{Contains-append_left, Contains-append_right}
 use Rattle.rg_theory.specs.declared.Class.{Class}
 use Rattle.rg_theory.specs.declared.Problem.{Problem}
@@ -15,8 +16,8 @@ use Rattle.rg_folds.specs.Substitution.{numbers_where}
 use Rattle.rg_case_folds.specs.Rewriting.{has_label, used_labels, states_with, has_start, all_numbers, problem_rows, names_of, splits_start, split_forms}
 use Rattle.rg_case_folds.proofs.Forms.{start_of_bound}
 use Rattle.rg_case_folds.proofs.Lists.{Contains-map, where_has}
-use Rattle.rg_rows.specs.Forms.{form_in, put_form, forms_in, case_forms}
-use Rattle.rg_rows.specs.Sharing.{shared_names}
+use Rattle.rg_rows.specs.Forms.{form_in, put_form, forms_in, case_forms, form_count}
+use Rattle.rg_rows.specs.Sharing.{shared_names, class_forms}
 use Rattle.rg_rows.proofs.Joining.{names_alone}
 use Rattle.rg_cert_meaning.specs.declared.RowName.TheVariants as row_name
 use Rattle.rg_cert_meaning.specs.declared.Form.TheVariants as split_form
@@ -118,57 +119,85 @@ named_forms lts class problem number =
 pub forms_are : (lts : System) (class : Class) (problem : Problem) (number : ℕ) → case_forms class problem (names_of lts class problem number) ≡ split_forms lts class problem
 forms_are lts class problem number = ap (λ l. l ++ (if splits_start class problem then (split_form.Start ∷ []) else [])) (named_forms lts class problem number)
 
--- where no row comes after those that all cases share, and the case doesn't split on the start, its forms are theirs
+-- where no row comes after those that all cases share, the forms of the case are the first ones of the class
 pub shared_forms : (lts : System) (class : Class) (problem : Problem) (number : ℕ) → IsFalse class.nonbranching
-    → IsFalse (splits_start class problem) → forms_in class (shared_names lts class) ≡ split_forms lts class problem
-shared_forms lts class problem number alone start =
-    ap (λ l. l ++ forms_in class (shared_names lts class)) (sym (problem_none lts class problem))
-    ∙ sym (forms-append class (problem_rows lts class problem) (shared_names lts class))
-    ∙ ap (forms_in class) (sym (names_alone lts class problem number alone))
-    ∙ sym (by (splits_start class problem) start (forms_in class (names_of lts class problem number)))
+    → take (form_count class problem (length (class_forms lts class))) (class_forms lts class) ≡ split_forms lts class problem
+shared_forms lts class problem number alone =
+    first_forms (splits_start class (Event 0 0)) (splits_start class problem) (implied problem) (forms_in class (shared_names lts class))
+    ∙ ap (λ l. l ++ (if splits_start class problem then (split_form.Start ∷ []) else [])) named
     ∙ forms_are lts class problem number
   where
-    by : (b : Bool) → b ≡ false → (xs : List Form) → xs ++ (if b then (split_form.Start ∷ []) else []) ≡ xs
-    by true e xs = cc
-    by false e xs = append-nil xs
+    named : forms_in class (shared_names lts class) ≡ forms_in class (names_of lts class problem number)
+    named =
+        ap (λ l. l ++ forms_in class (shared_names lts class)) (sym (problem_none lts class problem))
+        ∙ sym (forms-append class (problem_rows lts class problem) (shared_names lts class))
+        ∙ ap (forms_in class) (sym (names_alone lts class problem number alone))
 
--- where the case splits on the start, its names have the row of the initial state
-pub has_start_name : (lts : System) (class : Class) (problem : Problem) (number : ℕ) → lts.initial < states lts → IsTrue (splits_start class problem)
-    → Contains (names_of lts class problem number) (row_name.Tokens lts.initial)
-has_start_name lts class problem number initial splits =
-    Contains-append_left (own ++ tokens ++ caps ++ sides) makes (row_name.Tokens lts.initial)
-    (Contains-append_left (own ++ tokens ++ caps) sides (row_name.Tokens lts.initial)
-    (Contains-append_left (own ++ tokens) caps (row_name.Tokens lts.initial)
-    (Contains-append_right own tokens (row_name.Tokens lts.initial)
-    (subst (λ b. Contains (if b then map row_name.Tokens (all_numbers (states lts)) else []) (row_name.Tokens lts.initial)) (sym (started problem splits))
-    (Contains-map row_name.Tokens (all_numbers (states lts)) lts.initial (where_has (λ q. true) 0 (states lts) lts.initial refl (omega arith) (omega arith)))))))
+    by : (m p b : Bool) → (m && b) ≡ true → (m && (p || b)) ≡ true
+    by true true b e = refl
+    by true false b e = e
+    by false p b e = e
+
+    implied : (p : Problem) → splits_start class p ≡ true → splits_start class (Event 0 0) ≡ true
+    implied (Event s t) e = e
+    implied (States s s') e = by (is_some class.marking) class.plain (is_some class.bound) e
+
+    start_where : Bool → List Form
+    start_where b = if b then (split_form.Start ∷ []) else []
+
+    first_forms : (e p : Bool) → (p ≡ true → e ≡ true) → (xs : List Form)
+        → take (if e && not p then length (xs ++ start_where e) - 1 else length (xs ++ start_where e)) (xs ++ start_where e) ≡ xs ++ start_where p
+    first_forms true true is xs = take_all (length (xs ++ split_form.Start ∷ [])) (xs ++ split_form.Start ∷ []) (le_refl (length (xs ++ split_form.Start ∷ [])))
+    first_forms true false is xs =
+        let size = length-append xs (split_form.Start ∷ []) in
+        let count : length (xs ++ split_form.Start ∷ []) - 1 ≡ length xs = omega arith in
+        ap (λ n. take n (xs ++ split_form.Start ∷ [])) count ∙ take-append-le (length xs) xs (split_form.Start ∷ []) (le_refl (length xs)) ∙ take_all (length xs) xs (le_refl (length xs)) ∙ sym (append-nil xs)
+    first_forms false true is xs = absurd (true≢false (sym (is refl)))
+    first_forms false false is xs = take_all (length (xs ++ [])) (xs ++ []) (le_refl (length (xs ++ [])))
+
+-- a class of which a case splits on the start has the start as a column
+started : (class : Class) (p : Problem) → IsTrue (splits_start class p) → has_start class ≡ true
+started class (Event s t) e = by_event class.pure (is_some class.marking) class.plain (is_some class.bound) e
   where
-    own : List RowName
-    own = problem_rows lts class problem
-
-    tokens : List RowName
-    tokens = if has_start class then map row_name.Tokens (all_numbers (states lts)) else []
-
-    caps : List RowName
-    caps = if is_some class.bound then map row_name.Cap (all_numbers (states lts)) else []
-
-    sides : List RowName
-    sides = if class.plain then (map row_name.Up (used_labels lts) ++ map row_name.Down (used_labels lts)) else []
-
-    makes : List RowName
-    makes = if class.nonbranching then map row_name.Makes (numbers_where (λ u. has_label u lts.arcs && not (u == case_consumer lts problem number)) 0 (labels lts)) else []
-
     by_event : (pure marking plain bound : Bool) → (marking && (plain || bound)) ≡ true → (pure || (plain || bound)) ≡ true
     by_event true marking plain bound e = refl
     by_event false true plain bound e = e
     by_event false false plain bound e = absurd cc
-
+started class (States s s') e = by_states class.pure (is_some class.marking) class.plain (is_some class.bound) e
+  where
     by_states : (pure marking plain bound : Bool) → (marking && bound) ≡ true → (pure || (plain || bound)) ≡ true
     by_states true marking plain bound e = refl
     by_states false marking true bound e = refl
     by_states false true false bound e = e
     by_states false false false bound e = absurd cc
 
-    started : (p : Problem) → IsTrue (splits_start class p) → has_start class ≡ true
-    started (Event s t) e = by_event class.pure (is_some class.marking) class.plain (is_some class.bound) e
-    started (States s s') e = by_states class.pure (is_some class.marking) class.plain (is_some class.bound) e
+module _ (lts : System) (class : Class) (problem : Problem) (initial : lts.initial < states lts) (splits : IsTrue (splits_start class problem)) where
+  abbrev tokens : List RowName
+  tokens = if has_start class then map row_name.Tokens (all_numbers (states lts)) else []
+
+  abbrev caps : List RowName
+  caps = if is_some class.bound then map row_name.Cap (all_numbers (states lts)) else []
+
+  abbrev sides : List RowName
+  sides = if class.plain then (map row_name.Up (used_labels lts) ++ map row_name.Down (used_labels lts)) else []
+
+  token_there : Contains tokens (row_name.Tokens lts.initial)
+  token_there = subst (λ b. Contains (if b then map row_name.Tokens (all_numbers (states lts)) else []) (row_name.Tokens lts.initial)) (sym (started class problem splits))
+      (Contains-map row_name.Tokens (all_numbers (states lts)) lts.initial (where_has (λ q. true) 0 (states lts) lts.initial refl (omega arith) (omega arith)))
+
+  -- where a case splits on the start, the rows that all cases share have that of the initial state
+  pub shared_start_name : Contains (shared_names lts class) (row_name.Tokens lts.initial)
+  shared_start_name = Contains-append_left (tokens ++ caps) sides (row_name.Tokens lts.initial) (Contains-append_left tokens caps (row_name.Tokens lts.initial) token_there)
+
+  -- and so have the case's
+  pub has_start_name : (number : ℕ) → Contains (names_of lts class problem number) (row_name.Tokens lts.initial)
+  has_start_name number =
+      Contains-append_left (own ++ tokens ++ caps ++ sides) makes (row_name.Tokens lts.initial)
+      (Contains-append_left (own ++ tokens ++ caps) sides (row_name.Tokens lts.initial)
+      (Contains-append_left (own ++ tokens) caps (row_name.Tokens lts.initial) (Contains-append_right own tokens (row_name.Tokens lts.initial) token_there)))
+    where
+      own : List RowName
+      own = problem_rows lts class problem
+
+      makes : List RowName
+      makes = if class.nonbranching then map row_name.Makes (numbers_where (λ u. has_label u lts.arcs && not (u == case_consumer lts problem number)) 0 (labels lts)) else []

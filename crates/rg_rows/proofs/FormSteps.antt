@@ -1,5 +1,6 @@
 -- The forms of the named rows, one after the other.
-use Rattle.std.proofs.Common.{◌≡◌, ℕ, max, ◌+◌, ◌<◌, ◌≤◌, ◌&&◌, not, is_some, Bool, true, false, if◌then◌else◌, Some, None, List, [], ◌∷◌, ◌++◌, map, drop, length, Result, Ok, Err, All, ap, refl, subst, sym, ◌∙◌, arith, inl, inr, append_assoc}
+use Rattle.std.proofs.Common.{◌≡◌, ℕ, max, ◌+◌, ◌<◌, ◌≤◌, ◌&&◌, not, is_some, Bool, true, false, if◌then◌else◌, Some, None, List, [], ◌∷◌, ◌++◌, zero, suc, map, drop, length, Result, Ok, Err, All, ap, refl, subst, sym, ◌∙◌, arith, inl, inr, append_assoc}
+use Rattle.std.proofs.Math.ListN.{take}
 use Rattle.std.proofs.lemmas.Int.{ints}
 use Rattle.std.specs.Prelude.{ℤ, pos, ◌*ℤ◌, ◌<ℤ◌, slice_index_or}
 use Rattle.std.proofs.lemmas.List.{append-nil, drop_all, get_or-map, get_or_default}
@@ -252,3 +253,8 @@ each_early_fails make [] zs w made = absurd made
 each_early_fails make (x ∷ xs) zs w (inl first) = inl first
 each_early_fails make (x ∷ xs) zs w (inr (z, first, inl more)) = inr (z, first, inl (each_early_fails make xs zs w more))
 each_early_fails make (x ∷ xs) zs w (inr (z, first, inr (rest, more, none))) = absurd none
+
+pub each_take : {A X : Type 0} (make : A → Result X Wide → Type 0) (n : ℕ) (xs : List A) (ys : List X) → each make xs (Ok ys) → each make (take n xs) (Ok (take n ys))
+each_take make zero xs ys made = refl
+each_take make (suc n) [] ys made = ap (take (suc n)) made
+each_take make (suc n) (x ∷ xs) ys (z, first, (rest, more, is)) = (z, first, (take n rest, each_take make n xs rest more, ap (take (suc n)) is))

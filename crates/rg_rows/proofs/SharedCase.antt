@@ -1,10 +1,11 @@
 -- The system of a case, where the rows that all cases share come after its own.
 use Rattle.std.proofs.Common.{◌≡◌, ℕ, ◌+◌, ◌*◌, ◌^◌, ◌<◌, ◌≤◌, List, [], ◌++◌, map, length, All, Ok, Err, ap, refl, subst, sym, ◌∙◌, arith}
-use Rattle.std.specs.Prelude.{IsFalse}
-use Rattle.std.proofs.lemmas.List.{length-append, length-map, map-append}
-use Rattle.std.proofs.lemmas.List.Elements.{All-append}
+use Rattle.std.proofs.Math.ListN.{take}
+use Rattle.std.proofs.lemmas.List.{length-append, length-map, map-append, take-map}
+use Rattle.std.proofs.lemmas.List.Elements.{All-append, All-take}
 use Rattle.rg_theory.specs.ClassWords.{HasNumbersInRange}
 use Rattle.rg_theory.specs.System.{states, labels}
+use Rattle.rg_linear.specs.Branching.{Form}
 use Rattle.rg_linear.specs.Firsts.{KeepsEqualRows}
 use Rattle.rg_linear.specs.View.{linear_row, linear_system, IsWellFormed}
 use Rattle.rg_linear.specs.declared.row.Row.{Row}
@@ -14,7 +15,7 @@ use Rattle.rg_cert_meaning.specs.declared.RowName.{RowName}
 use Rattle.rg_case_folds.specs.Setting.{CaseSetting}
 use Rattle.rg_folds.specs.Fold.{each}
 use Rattle.rg_case_folds.specs.Meaning.{IsCaseOver}
-use Rattle.rg_case_folds.specs.Rewriting.{CaseSystem, IsIdle, KeptRow, column_count, problem_rows, names_of, form_fold, rows_of, split_forms, splits_start, system_fold}
+use Rattle.rg_case_folds.specs.Rewriting.{CaseSystem, IsIdle, KeptRow, column_count, problem_rows, names_of, form_fold, rows_of, split_forms, system_fold}
 use Rattle.rg_case_folds.proofs.Items.{each_length}
 use Rattle.rg_case_parts.proofs.Picking.{columns_few}
 use Rattle.rg_rows.specs.declared.case_row.CaseRow.{CaseRow}
@@ -22,9 +23,9 @@ use Rattle.rg_rows.specs.declared.kept.CaseRows.{CaseRows}
 use Rattle.rg_rows.specs.declared.named_form.NamedForm.{NamedForm}
 use Rattle.rg_rows.specs.declared.shared_rows.SharedRows.{SharedRows}
 use Rattle.rg_rows.specs.View.{kept_row, columns_in, fold_of, ShowsRows, AreIndices, AreOwnRows}
-use Rattle.rg_rows.specs.Forms.{form_after, forms_after, linear_form, split_of, StandsInRow, AreFormsOf}
+use Rattle.rg_rows.specs.Forms.{form_after, forms_after, form_count, linear_form, split_of, StandsInRow, AreFormsOf}
 use Rattle.rg_rows.specs.Making.{IsMade}
-use Rattle.rg_rows.specs.Sharing.{IsApart, shared_names, AreSharedRows}
+use Rattle.rg_rows.specs.Sharing.{IsApart, shared_names, class_forms, AreSharedRows}
 use Rattle.rg_rows.proofs.Assembling.{all_stand, all_forms}
 use Rattle.rg_rows.proofs.FormsAfter.{each_mapped, linear_after, split_after, made_after}
 use Rattle.rg_rows.proofs.FormNames.{shared_forms}
@@ -32,7 +33,7 @@ use Rattle.rg_rows.proofs.Forming.{names_few, well_formed}
 use Rattle.rg_rows.proofs.Joining.{kept_append, rows_differ, indices_append, names_alone, each_joined}
 use Rattle.rg_rows.proofs.Naming.{own_first}
 use Rattle.rg_rows.proofs.Making.{case_made, case_fails}
-use Rattle.rg_rows.proofs.FormSteps.{each_early_fails}
+use Rattle.rg_rows.proofs.FormSteps.{each_early_fails, each_take}
 use Rattle.rg_integers.specs.declared.term.Wide.{Wide}
 
 pub shown_count : (r : CaseRows) (kept : List KeptRow) → ShowsRows r kept → length r.rows.items ≡ length kept
@@ -105,42 +106,53 @@ module _ (s : CaseSetting) (shared : SharedRows) (are : AreSharedRows s.setting 
         all_indices = subst (λ l. AreIndices l (kept ++ are.kept) all_places) (sym rows_are)
             (indices_append (map kept_row own) (map kept_row are.all) kept are.kept places are.indices (map (λ i. length kept + i) are.indices) are_places are.are_indices refl)
 
-        module _ (start : IsFalse (splits_start s.class s.problem)) where
-          abbrev pub forms : List NamedForm
-          forms = forms_after (length kept) shared.forms.items
+        abbrev pub part : List NamedForm
+        part = take (form_count s.class s.problem (length shared.forms.items)) shared.forms.items
 
-          pub splits_are : map split_of shared.forms.items ≡ split_forms s.lts s.class s.problem
-          splits_are = are.splits ∙ shared_forms s.lts s.class s.problem s.number are.alone start
+        abbrev pub forms : List NamedForm
+        forms = forms_after (length kept) part
 
-          forms_made : each (form_fold s.setting) (split_forms s.lts s.class s.problem) (Ok (map linear_form shared.forms.items))
-          forms_made = subst (λ (l : List SplitForm). each (form_fold s.setting) l (Ok (map linear_form shared.forms.items)))
-              (shared_forms s.lts s.class s.problem s.number are.alone start) are.forms_made
+        first_are : take (form_count s.class s.problem (length shared.forms.items)) (class_forms s.lts s.class) ≡ split_forms s.lts s.class s.problem
+        first_are =
+            ap (λ n. take (form_count s.class s.problem n) (class_forms s.lts s.class)) (sym (length-map shared.forms.items split_of) ∙ ap length are.splits)
+            ∙ shared_forms s.lts s.class s.problem s.number are.alone
 
-          are_made : All (IsMade s.lts s.class (columns_in s.setting) (map kept_row all) all_places) forms
-          are_made = subst (λ l. All (IsMade s.lts s.class (columns_in s.setting) l all_places) forms) (sym rows_are)
-              (each_mapped (form_after (length kept)) (IsMade s.lts s.class (columns_in s.setting) (map kept_row are.all) are.indices)
-              (IsMade s.lts s.class (columns_in s.setting) (map kept_row own ++ map kept_row are.all) all_places) shared.forms.items
-              (λ f is. made_after s.lts s.class (columns_in s.setting) (map kept_row are.all) are.indices f is
-              (map kept_row own) places all_places (length kept) are_places.one_each are.are_indices.one_each refl)
-              are.are_made)
+        pub splits_are : map split_of part ≡ split_forms s.lts s.class s.problem
+        splits_are =
+            sym (take-map split_of (form_count s.class s.problem (length shared.forms.items)) shared.forms.items)
+            ∙ ap (take (form_count s.class s.problem (length shared.forms.items))) are.splits ∙ first_are
 
-          module _ (columns : ℕ) (columns_are : columns ≡ columns_in s.setting) where
-            abbrev pub shown : CaseSystem
-            shown = record { columns = columns; kept = kept ++ are.kept; forms = map linear_form shared.forms.items }
+        forms_made : each (form_fold s.setting) (split_forms s.lts s.class s.problem) (Ok (map linear_form part))
+        forms_made = subst (λ (l : List SplitForm). each (form_fold s.setting) l (Ok (map linear_form part))) first_are
+            (subst (λ (l : List Form). each (form_fold s.setting) (take (form_count s.class s.problem (length shared.forms.items)) (class_forms s.lts s.class)) (Ok l))
+            (take-map linear_form (form_count s.class s.problem (length shared.forms.items)) shared.forms.items)
+            (each_take (form_fold s.setting) (form_count s.class s.problem (length shared.forms.items)) (class_forms s.lts s.class) (map linear_form shared.forms.items) are.forms_made))
 
-            pub case_is : system_fold s (Ok shown)
-            case_is = case_made s names names_are (map kept_row all) all_made (map linear_form shared.forms.items) shown forms_made columns_are all_firsts refl
+        are_made : All (IsMade s.lts s.class (columns_in s.setting) (map kept_row all) all_places) forms
+        are_made = subst (λ l. All (IsMade s.lts s.class (columns_in s.setting) l all_places) forms) (sym rows_are)
+            (each_mapped (form_after (length kept)) (IsMade s.lts s.class (columns_in s.setting) (map kept_row are.all) are.indices)
+            (IsMade s.lts s.class (columns_in s.setting) (map kept_row own ++ map kept_row are.all) all_places) part
+            (λ f is. made_after s.lts s.class (columns_in s.setting) (map kept_row are.all) are.indices f is
+            (map kept_row own) places all_places (length kept) are_places.one_each are.are_indices.one_each refl)
+            (All-take (IsMade s.lts s.class (columns_in s.setting) (map kept_row are.all) are.indices) (form_count s.class s.problem (length shared.forms.items)) shared.forms.items are.are_made))
 
-            made_over : All (IsMade s.lts s.class columns (map kept_row all) all_places) forms
-            made_over = subst (λ n. All (IsMade s.lts s.class n (map kept_row all) all_places) forms) (sym columns_are) are_made
+        module _ (columns : ℕ) (columns_are : columns ≡ columns_in s.setting) where
+          abbrev pub shown : CaseSystem
+          shown = record { columns = columns; kept = kept ++ are.kept; forms = map linear_form part }
 
-            pub forms_stand : All (StandsInRow s (rows_of shown)) forms
-            forms_stand = all_stand s names shown (map kept_row all) all_places all_made all_indices forms made_over
+          pub case_is : system_fold s (Ok shown)
+          case_is = case_made s names names_are (map kept_row all) all_made (map linear_form part) shown forms_made columns_are all_firsts refl
 
-            pub are_forms : IsCaseOver s shown → HasNumbersInRange s.class → states s.lts ≤ 4096 → labels s.lts ≤ 256 → AreFormsOf (rows_of shown) forms
-            are_forms over bound few_states few_labels =
-                let most : column_count s.lts s.basis s.class ≤ labels s.lts + 1 = columns_few s.lts s.basis s.class in
-                let size : length (rows_of shown).rows ≡ length kept + length are.kept = length-map (kept ++ are.kept) (λ (k : KeptRow). k.row) ∙ length-append kept are.kept in
-                let few = all_kept_few in
-                all_forms s names shown (map kept_row all) all_places all_made all_indices forms made_over
-                (linear_after (length kept) shared.forms.items) (split_after (length kept) shared.forms.items ∙ splits_are) over few_states bound (omega arith)
+          made_over : All (IsMade s.lts s.class columns (map kept_row all) all_places) forms
+          made_over = subst (λ n. All (IsMade s.lts s.class n (map kept_row all) all_places) forms) (sym columns_are) are_made
+
+          pub forms_stand : All (StandsInRow s (rows_of shown)) forms
+          forms_stand = all_stand s names shown (map kept_row all) all_places all_made all_indices forms made_over
+
+          pub are_forms : IsCaseOver s shown → HasNumbersInRange s.class → states s.lts ≤ 4096 → labels s.lts ≤ 256 → AreFormsOf (rows_of shown) forms
+          are_forms over bound few_states few_labels =
+              let most : column_count s.lts s.basis s.class ≤ labels s.lts + 1 = columns_few s.lts s.basis s.class in
+              let size : length (rows_of shown).rows ≡ length kept + length are.kept = length-map (kept ++ are.kept) (λ (k : KeptRow). k.row) ∙ length-append kept are.kept in
+              let few = all_kept_few in
+              all_forms s names shown (map kept_row all) all_places all_made all_indices forms made_over
+              (linear_after (length kept) part) (split_after (length kept) part ∙ splits_are) over few_states bound (omega arith)

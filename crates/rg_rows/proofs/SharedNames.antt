@@ -4,7 +4,7 @@ use Rattle.std.specs.Prelude.{is_some, slice_index_or}
 use Rattle.std.proofs.lemmas.List.Elements.{Contains-get_or, Contains-append_cases}
 use Rattle.rg_theory.specs.declared.Class.{Class}
 use Rattle.rg_theory.specs.declared.Problem.{Problem}
-use Rattle.rg_theory.specs.declared.Problem.TheVariants.{States}
+use Rattle.rg_theory.specs.declared.Problem.TheVariants.{Event}
 use Rattle.rg_theory.specs.System.{System, states}
 use Rattle.rg_integers.specs.declared.term.Wide.{Wide}
 use Rattle.rg_cert_meaning.specs.Expression.{Expression, plus, minus}
@@ -60,8 +60,8 @@ each_shared lts class P tokens cap up down name has = ⊎_elim
         (Contains-append_cases (map row_name.Up (used_labels lts)) (map row_name.Down (used_labels lts)) n there)
 
 -- they name states of the system
-pub shared_within : (s : Setting) (n m : ℕ) → AreNamesWithin (case_at s (States n m) 0) (shared_names s.lts s.class)
-shared_within s n m = λ k d lt. each_shared s.lts s.class (IsNameWithin (case_at s (States n m) 0))
+pub shared_within : (s : Setting) (n m : ℕ) → AreNamesWithin (case_at s (Event n m) 0) (shared_names s.lts s.class)
+shared_within s n m = λ k d lt. each_shared s.lts s.class (IsNameWithin (case_at s (Event n m) 0))
     (λ q below. one (states s.lts) (plus (Tokens q)) below)
     (λ q below. one (states s.lts) (minus (Tokens q)) below)
     (λ u. one (states s.lts) (minus (Effect u)) tt)

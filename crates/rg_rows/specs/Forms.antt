@@ -1,7 +1,8 @@
 -- The forms of a case, and what a branching asks of them.
-use Rattle.std.specs.Prelude.{◌≡◌, ◌≢◌, ◌⊎◌, ℕ, zero, suc, ◌+◌, ◌^◌, ◌<◌, ◌&&◌, not, ◌++◌, is_some, if◌then◌else◌, List, [], ◌∷◌, map, length, All, Option, Some, None, Ok, slice_get, ℤ, pos, negsuc, ◌+ℤ◌, ◌-ℤ◌, ◌*ℤ◌, ◌≤ℤ◌, ◌<ℤ◌}
+use Rattle.std.specs.Prelude.{◌≡◌, ◌≢◌, ◌⊎◌, ℕ, zero, suc, ◌+◌, ◌-◌, ◌^◌, ◌<◌, ◌&&◌, not, ◌++◌, is_some, if◌then◌else◌, List, [], ◌∷◌, map, length, All, Option, Some, None, Ok, slice_get, ℤ, pos, negsuc, ◌+ℤ◌, ◌-ℤ◌, ◌*ℤ◌, ◌≤ℤ◌, ◌<ℤ◌}
 use Rattle.rg_theory.specs.declared.Class.{Class}
 use Rattle.rg_theory.specs.declared.Problem.{Problem}
+use Rattle.rg_theory.specs.declared.Problem.TheVariants as problem_of
 use Rattle.rg_integers.specs.Range.{InRange}
 use Rattle.rg_integers.specs.Sum.{sum_over}
 use Rattle.rg_linear.specs.System.{LinearSystem}
@@ -57,6 +58,10 @@ forms_in class (name ∷ names) = put_form (form_in class name) (forms_in class 
 -- and after them the start, where the case splits on it
 abbrev pub case_forms : Class → Problem → List RowName → List SplitForm
 case_forms class problem names = forms_in class names ++ (if splits_start class problem then (split_form.Start ∷ []) else [])
+
+-- how many of so many forms of the class a case of the problem has: all but the start, the last one, where events split on it and the case doesn't
+abbrev pub form_count : Class → Problem → ℕ → ℕ
+form_count class problem all = if splits_start class (problem_of.Event 0 0) && not (splits_start class problem) then all - 1 else all
 
 -- ---- the row of a form
 

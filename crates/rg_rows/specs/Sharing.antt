@@ -3,6 +3,7 @@ use Rattle.std.specs.Prelude.{◌≡◌, ℕ, ◌&&◌, not, is_some, if◌then�
 use Rattle.std.specs.List.{list_any}
 use Rattle.rg_theory.specs.declared.Class.{Class}
 use Rattle.rg_theory.specs.declared.Problem.{Problem}
+use Rattle.rg_theory.specs.declared.Problem.TheVariants as problem_of
 use Rattle.rg_theory.specs.System.{System, states, labels}
 use Rattle.rg_integers.specs.declared.term.Wide.{Wide}
 use Rattle.rg_linear.specs.Firsts.{KeepsEqualRows}
@@ -11,6 +12,7 @@ use Rattle.rg_fraction.specs.declared.fold_stop.FoldStop.{FoldStop}
 use Rattle.rg_fraction.specs.declared.fold_stop.FoldStop.TheVariants as stop
 use Rattle.rg_cert_meaning.specs.Row.{shared_expression, row_expression}
 use Rattle.rg_cert_meaning.specs.declared.RowName.{RowName}
+use Rattle.rg_cert_meaning.specs.declared.Form.{Form as SplitForm}
 use Rattle.rg_case_folds.specs.Setting.{Setting, CaseSetting, case_at}
 use Rattle.rg_folds.specs.Fold.{shown_result, each}
 use Rattle.rg_case_folds.specs.Rewriting.{has_start, all_numbers, used_labels, column_count, terms_fold, row_fold, form_fold, KeptRow, IsIdle}
@@ -24,7 +26,7 @@ use Rattle.rg_rows.specs.declared.named_form.NamedForm.{NamedForm}
 use Rattle.rg_rows.specs.declared.shared_rows.SharedRows.{SharedRows}
 use Rattle.rg_rows.specs.View.{numbers_of, kept_row, terms_of, columns_in, fold_of, ShowsRows, AreIndices}
 use Rattle.rg_rows.specs.Hashing.{numbers_hash}
-use Rattle.rg_rows.specs.Forms.{linear_form, split_of, forms_in}
+use Rattle.rg_rows.specs.Forms.{linear_form, split_of, case_forms}
 use Rattle.rg_rows.specs.Making.{IsMade}
 use Rattle.rg_cert_meaning.specs.declared.RowName.TheVariants as row_name
 
@@ -105,6 +107,10 @@ shared_names lts class =
     ++ (if is_some class.bound then map row_name.Cap (all_numbers (states lts)) else [])
     ++ (if class.plain then (map row_name.Up (used_labels lts) ++ map row_name.Down (used_labels lts)) else [])
 
+-- their forms, and after them the start, where event problems split on it
+abbrev pub class_forms : System → Class → List SplitForm
+class_forms lts class = case_forms class (problem_of.Event 0 0) (shared_names lts class)
+
 -- what is kept of these rows, which are in range, and their forms, where no row comes after them
 pub record AreSharedRows (s : Setting) (shared : SharedRows) : Type 0 where
   pub alone : IsFalse s.class.nonbranching
@@ -117,8 +123,8 @@ pub record AreSharedRows (s : Setting) (shared : SharedRows) : Type 0 where
   pub hashed : All (λ k. IsTrue (has_hash shared.hashes.keys k.row)) (map kept_row all)
   pub indices : List ℕ
   pub are_indices : AreIndices (map kept_row all) kept indices
-  pub forms_made : each (form_fold s) (forms_in s.class (shared_names s.lts s.class)) (Ok (map linear_form shared.forms.items))
-  pub splits : map split_of shared.forms.items ≡ forms_in s.class (shared_names s.lts s.class)
+  pub forms_made : each (form_fold s) (class_forms s.lts s.class) (Ok (map linear_form shared.forms.items))
+  pub splits : map split_of shared.forms.items ≡ class_forms s.lts s.class
   pub are_made : All (IsMade s.lts s.class (columns_in s) (map kept_row all) indices) shared.forms.items
 
 abbrev pub forms_of_shared : Option SharedRows → List NamedForm

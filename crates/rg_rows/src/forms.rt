@@ -1,5 +1,5 @@
 //! The forms of a case.
-ghost use Rattle.std.specs.Prelude.{◌≡◌, ◌⊎◌, ℕ, ◌<◌, [], length, map, All, Contains, slice_index_or, ℤ, pos, ◌*ℤ◌, Ok, IfOk, IsTrue};
+ghost use Rattle.std.specs.Prelude.{◌≡◌, ◌⊎◌, ℕ, ◌<◌, ◌≤◌, [], length, map, All, Contains, slice_index_or, ℤ, pos, ◌*ℤ◌, Ok, IfOk, IsTrue};
 ghost use Rattle.rg_integers.specs.Range.{InRange};
 ghost use Rattle.rg_theory.specs.System.{labels};
 ghost use Rattle.rg_linear.specs.Cycle.{IsZeroVector};
@@ -11,7 +11,7 @@ ghost use Rattle.rg_case_parts.specs.SettingViews.{shown_setting, shown_case};
 ghost use Rattle.rg_cert_meaning.specs.Row.{row_expression, step_of};
 ghost use Rattle.rg_rows.specs.View.{kept_row, row_in, terms_of, columns_in, IsNameWithin, AreNamesWithin, fold_of};
 ghost use Rattle.rg_rows.specs.Sharing.{IsCommonOf};
-ghost use Rattle.rg_rows.specs.Forms.{linear_form, split_of, form_in, forms_in, case_forms, IsPartOf};
+ghost use Rattle.rg_rows.specs.Forms.{linear_form, split_of, form_in, forms_in, case_forms, form_count, IsPartOf};
 ghost use Rattle.rg_rows.specs.Making.{IsMade};
 ghost use Rattle.rg_cert_meaning.specs.declared.RowName.TheVariants as row_name;
 ghost use Rattle.rg_cert_meaning.specs.declared.Form.TheVariants as split_form;
@@ -65,6 +65,19 @@ pub(crate) fn splits_start(class: Class, problem: Problem) -> bool
     match problem {
         Problem::Event(..) => class.marking.is_some() && (class.plain || class.bound.is_some()),
         Problem::States(..) => class.marking.is_some() && class.bound.is_some(),
+    }
+}
+
+// How many of so many forms of the class a case of the problem has: all but the start, which is the last one, if the case doesn't split on
+// it, though event problems of the class do.
+pub(crate) fn form_count(class: Class, problem: Problem, all: usize) -> usize
+    ensures value { result ≡ form_count class problem all }
+    ensures within { result ≤ all }
+{
+    if splits_start(class, Problem::Event(0, 0)) && !splits_start(class, problem) {
+        all.saturating_sub(1)
+    } else {
+        all
     }
 }
 

@@ -20,6 +20,7 @@ mod names;
 mod problem_names;
 mod rewriting;
 mod row_numbers;
+mod shared_part;
 mod shared_rows;
 
 pub use case::cases;

@@ -7,7 +7,7 @@ ghost use Rattle.rg_cert_meaning.specs.Refutes.{IsSeparationProblem};
 ghost use Rattle.rg_cert_meaning.specs.Row.{cases_of};
 ghost use Rattle.rg_cert_meaning.specs.declared.RowName.{RowName};
 ghost use Rattle.rg_spanning.specs.Spanning.{IsTreeOf};
-ghost use Rattle.rg_case_folds.specs.Rewriting.{CaseSystem, split_forms, splits_start, system_fold};
+ghost use Rattle.rg_case_folds.specs.Rewriting.{CaseSystem, split_forms, system_fold};
 ghost use Rattle.rg_case_folds.specs.Chords.{IsBasis};
 ghost use Rattle.rg_cycles.specs.View.{labels_of};
 ghost use Rattle.rg_fraction.specs.declared.fraction.Fraction.{Fraction};
@@ -20,12 +20,13 @@ ghost use Rattle.rg_rows.specs.Shared.{HasSharedForms};
 ghost use Rattle.rg_case_parts.specs.SettingViews.{shown_setting, shown_case};
 
 use crate::common::Common;
-use crate::forms::{case_forms, splits_start};
+use crate::forms::{case_forms, form_count};
 use crate::held_row::HeldRow;
 use crate::kept::{CaseRows, firsts};
 use crate::named_form::NamedForm;
 use crate::named_system::{NamedSystem, own_rows, rows_after};
 use crate::names::names;
+use crate::shared_part::SharedPart;
 use crate::shared_rows::{SharedRows, are_apart};
 use rg_case_parts::CaseSetting;
 use rg_cert_meaning::RowName;
@@ -43,7 +44,7 @@ pub struct NamedCase<'a> {
     columns: u32,
     own: CaseRows,
     forms: Vec<NamedForm>,
-    shared: Option<&'a SharedRows>,
+    shared: Option<SharedPart<'a>>,
 }
 
 impl<'a> Model for NamedCase<'a> {
@@ -62,7 +63,7 @@ impl<'a> NamedCase<'a> {
         ensures { result ≡ self.now.system }
     {
         match self.shared {
-            Some(shared) => JoinedSystem::new(self.columns, &self.own.rows, &shared.rows),
+            Some(shared) => JoinedSystem::new(self.columns, &self.own.rows, &shared.all.rows),
             None => JoinedSystem::alone(self.columns, &self.own.rows),
         }
     }
@@ -81,7 +82,9 @@ impl<'a> NamedCase<'a> {
     {
         let row = row as usize;
         match self.shared {
-            Some(shared) if row >= self.own.names.len() => shared.names[row - self.own.names.len()],
+            Some(shared) if row >= self.own.names.len() => {
+                shared.all.names[row - self.own.names.len()]
+            }
             _ => self.own.names[row],
         }
     }
@@ -94,7 +97,7 @@ impl<'a> NamedCase<'a> {
         let row = row as usize;
         match self.shared {
             Some(shared) if row >= self.own.factors.len() => {
-                shared.factors[row - self.own.factors.len()]
+                shared.all.factors[row - self.own.factors.len()]
             }
             _ => self.own.factors[row],
         }
@@ -105,7 +108,7 @@ impl<'a> NamedCase<'a> {
         ensures { result.now ≡ self.now.forms }
     {
         match self.shared {
-            Some(shared) => &shared.forms,
+            Some(shared) => &shared.all.forms[..shared.form_count],
             None => &self.forms,
         }
     }
@@ -121,7 +124,7 @@ impl<'a> NamedCase<'a> {
         }
     }
 
-    /// Whether the last rows, and all forms, are those that all cases share.
+    /// Whether the last rows are those that all cases share, and the forms the first ones of theirs.
     pub fn has_shared_rows(&self) -> bool
         ensures { result ≡ self.now.joined }
     {
@@ -172,7 +175,7 @@ pub fn system_with<'a>(
 {
     let own = own_rows(alloc, common, c)?;
     if let Some(shared) = &common.shared {
-        if !splits_start(c.setting.class, c.problem) && are_apart(&own, &shared.hashes) {
+        if are_apart(&own, &shared.hashes) {
             return Ok(case_before(alloc, common, c, &own, shared)?);
         }
     }
@@ -195,17 +198,20 @@ fn case_before<'a>(
     requires own { AreOwnRows (shown_case c) (map row_in own.now) }
     requires shared { AreSharedRows (shown_setting c.setting) shared.now }
     requires apart { All (IsApart shared.now.hashes.keys) (map kept_row (map row_in own.now)) }
-    requires start { IsFalse (splits_start c.setting.class c.problem) }
     ensures made { IfOk result (IsSystemOf (shown_case c.entry)) }
     ensures shared { IfOk result (HasSharedForms shared.now.forms.items) }
 {
     c.setting.lts.is_well_formed();
     let (kept, _) = firsts(alloc, own)?;
+    let part = SharedPart {
+        all: shared,
+        form_count: form_count(c.setting.class, c.problem, shared.forms.len()),
+    };
     Ok(NamedCase {
         columns: common.columns.count(c.setting.basis),
         own: kept,
         forms: Vec::new(alloc),
-        shared: Some(shared),
+        shared: Some(part),
     })
 }
 

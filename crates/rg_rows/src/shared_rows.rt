@@ -9,7 +9,7 @@ ghost use Rattle.rg_rows.specs.Sharing.{has_hash, IsApart, AreSharedRows, IsComm
 
 use crate::case_row::CaseRow;
 use crate::common::Common;
-use crate::forms::forms;
+use crate::forms::case_forms;
 use crate::held_row::HeldRow;
 use crate::kept::{CaseRows, firsts};
 use crate::named_form::NamedForm;
@@ -24,7 +24,8 @@ use rg_theory::Problem;
 use std::alloc::{AllocError, Global};
 
 /// The rows that each case has after its own: those that are kept of them, and their forms, as they are in a case
-/// without rows of its own. A row whose hash isn't among the hashes is none of these rows.
+/// without rows of its own. The start is the last form, if some problem splits on it. A row whose hash isn't among the
+/// hashes is none of these rows.
 #[derive(Drop)]
 pub(crate) struct SharedRows {
     pub(crate) rows: RowList,
@@ -56,8 +57,8 @@ pub(crate) fn shared_rows(
     }
 }
 
-// The rows that each case of the class has after its own. They are written for a case of any problem, since none of them
-// speaks of it.
+// The rows that each case of the class has after its own, and their forms, with the start if some problem splits on it. They
+// are written for a case of an event problem: no row speaks of the problem, and event problems split on the start if any do.
 fn rows_in_range(
     alloc: Global,
     setting: Setting<'_>,
@@ -72,13 +73,13 @@ fn rows_in_range(
     setting.lts.is_well_formed();
     let c = CaseSetting {
         setting,
-        problem: Problem::States(0, 0),
+        problem: Problem::Event(0, 0),
         number: 0,
     };
     let names = shared_names(alloc, setting.lts, setting.class, &common.columns)?;
     let all = rows(alloc, common, c, &names)?;
     let (kept, indices) = firsts(alloc, &all)?;
-    let forms = forms(alloc, common, c, &names, &all, &indices)?;
+    let forms = case_forms(alloc, common, c, &names, &all, &indices)?;
     let CaseRows {
         rows,
         names,

@@ -1,8 +1,8 @@
 -- What a branching asks of the forms of a case.
-use Rattle.std.proofs.Common.{◌≡◌, ℕ, zero, suc, ◌+◌, ◌<◌, List, [], ◌∷◌, ◌++◌, map, take, drop, length, get_or, All, Vec, Global, refl, ap, sym, subst, ◌∙◌, arith}
+use Rattle.std.proofs.Common.{◌≡◌, ℕ, zero, suc, ◌+◌, ◌<◌, ◌≤◌, List, [], ◌∷◌, ◌++◌, map, take, drop, length, get_or, All, Vec, Global, refl, ap, sym, subst, ◌∙◌, arith}
 use Rattle.std.specs.Prelude.{ℤ, pos, negsuc, ◌+ℤ◌, ◌-ℤ◌, ◌*ℤ◌, ◌≤ℤ◌, ◌<ℤ◌}
 use Rattle.std.proofs.lemmas.Int.{ints}
-use Rattle.std.proofs.lemmas.List.{length-map, map-append, take_more}
+use Rattle.std.proofs.lemmas.List.{length-map, map-append, take_more, take-map}
 use Rattle.std.proofs.lemmas.List.Elements.{All-nil, All-cons, All-head, All-tail, All-weaker}
 use Rattle.rg_integers.specs.Range.{InRange}
 use Rattle.rg_integers.specs.Sum.{sum_over}
@@ -12,7 +12,7 @@ use Rattle.rg_linear.specs.Room.{gap_of, gap, total, room}
 use Rattle.rg_rows.specs.declared.named_form.NamedForm.{NamedForm}
 use Rattle.rg_rows.specs.Forms.{row_after, form_after, forms_after, linear_form, IsFormOf as IsNamedFormOf, AreFormsOf}
 use Rattle.rg_rows.proofs.FormsAfter.{after_some, linear_after, of_mapped}
-use Rattle.rg_separate.specs.Bounding.{bounded_form, listed_form, AreBoundedOf}
+use Rattle.rg_separate.specs.Bounding.{bounded_form, listed_form, AreBoundedOf, AreFirstBounded}
 use Rattle.rg_branch.specs.declared.bounded.Bounded.{Bounded}
 use Rattle.rg_branch.specs.View.{form_of, forms_of}
 use Rattle.rg_branch.specs.Asked.{IsFormOf, CanBranch}
@@ -161,6 +161,18 @@ bounds_after system before forms are = subst (AreBounded system) (linear_after b
 
 pub bounded_linear : (forms : List NamedForm) (bounded : List Bounded) → AreBoundedOf forms bounded → forms_of bounded ≡ map linear_form forms
 bounded_linear forms bounded same = as_seen listed_form bounded_form linear_form form_of forms bounded (λ f b e. ap (λ (p : Form × ℕ × ℤ). p.0) e) same
+
+-- the forms that all cases share begin with those of a case
+pub first_bounded : (forms shared : List NamedForm) (bounded : List Bounded) → AreBoundedOf shared bounded
+    → (length forms ≤ length shared) × (forms ≡ take (length forms) shared) → AreFirstBounded forms bounded
+first_bounded forms shared bounded same (within, first) = (
+  (let e = sym (length-map bounded bounded_form) ∙ ap length same ∙ length-map shared listed_form in omega arith),
+  sym (take-map bounded_form (length forms) bounded) ∙ ap (take (length forms)) same ∙ take-map listed_form (length forms) shared ∙ ap (map listed_form) (sym first),
+)
+
+pub first_are : (forms named : List NamedForm) (bounded first : List Bounded) → named ≡ forms → first ≡ take (length named) bounded
+    → AreBoundedOf forms (take (length forms) bounded) → AreBoundedOf forms first
+first_are forms named bounded first e taken are = subst (AreBoundedOf forms) (sym (taken ∙ ap (λ (fs : List NamedForm). take (length fs) bounded) e)) are
 
 pub can_branch : (system : LinearSystem) (before : ℕ) (forms : List NamedForm) (bounded : List Bounded)
     → AreFormsOf system (forms_after before forms) → AreBoundedOf forms bounded → CanBranch system before bounded

@@ -1,5 +1,5 @@
 -- Forms of a case as a branching takes them.
-use Rattle.std.specs.Prelude.{◌≡◌, ℕ, ℤ, List, map}
+use Rattle.std.specs.Prelude.{◌≡◌, ◌≤◌, ℕ, ℤ, List, length, map, take}
 use Rattle.rg_linear.specs.Branching.{Form}
 use Rattle.rg_branch.specs.declared.bounded.Bounded.{Bounded}
 use Rattle.rg_branch.specs.View.{form_of}
@@ -16,3 +16,7 @@ listed_form f = (linear_form f, f.row, f.times)
 -- the forms are these, in order
 abbrev pub AreBoundedOf : List NamedForm → List Bounded → Type 0
 AreBoundedOf forms bounded = map bounded_form bounded ≡ map listed_form forms
+
+-- the forms are the first of these, in order
+abbrev pub AreFirstBounded : List NamedForm → List Bounded → Type 0
+AreFirstBounded forms bounded = (length forms ≤ length bounded) × AreBoundedOf forms (take (length forms) bounded)

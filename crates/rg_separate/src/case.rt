@@ -1,10 +1,10 @@
 //! One case of a problem.
-ghost use Rattle.std.specs.Prelude.{◌≡◌, map, IfOk, IfErr, IsTrue};
+ghost use Rattle.std.specs.Prelude.{◌≡◌, ◌≤◌, length, map, take, IfOk, IfErr, IsTrue};
 ghost use Rattle.rg_cert_meaning.specs.Sides.{side_of};
 ghost use Rattle.rg_branch.specs.Answer.{IsAnswer, IsSound, IsStop};
 ghost use Rattle.rg_rows.specs.Forms.{forms_after, AreFormsOf};
 ghost use Rattle.rg_separate.specs.Casing.{IsCase, IsNamedSystem, forms_in};
-ghost use Rattle.rg_separate.specs.Bounding.{AreBoundedOf};
+ghost use Rattle.rg_separate.specs.Bounding.{AreBoundedOf, AreFirstBounded};
 ghost use Rattle.rg_separate.specs.Keeping.{Serves};
 ghost use Rattle.rg_separate.specs.Deciding.{CaseTells, CaseComesTo};
 ghost use Rattle.rg_separate.specs.View.{shown_of};
@@ -66,7 +66,7 @@ fn answer_of_forms(
 ) -> Result<CaseAnswer, AllocError>
     requires case { IsCase c }
     requires system { IsNamedSystem c named.now }
-    requires forms { IsTrue named.now.joined → AreBoundedOf named.now.forms problems.forms.now }
+    requires forms { IsTrue named.now.joined → AreFirstBounded named.now.forms problems.forms.now }
     requires columns { solver.old ≡ named.now.system.columns }
     ensures tells { IfOk result (CaseTells c.entry.setting.lts.now c.entry.setting.class c.entry.problem c.entry.number) }
     ensures comes { IfOk result (CaseComesTo c.entry) }
@@ -97,7 +97,7 @@ fn branch_on_forms(
     named: &NamedCase<'_>,
 ) -> Result<Whole, BranchStop>
     requires are { AreFormsOf named.now.system (forms_after named.now.before named.now.forms) }
-    requires forms { IsTrue named.now.joined → AreBoundedOf named.now.forms problems.forms.now }
+    requires forms { IsTrue named.now.joined → AreFirstBounded named.now.forms problems.forms.now }
     requires columns { solver.old ≡ named.now.system.columns }
     ensures answer { IfOk result (IsAnswer named.now.system (forms_in named.now)) }
     ensures sound { IfOk result (IsSound named.now.system (forms_in named.now)) }
@@ -107,10 +107,19 @@ fn branch_on_forms(
     let alloc = problems.alloc;
     let system = named.system();
     if named.has_shared_rows() {
-        return solver.solve_whole(alloc, &system, problems.forms, named.before());
+        let forms = first_forms(problems.forms, named.forms().len());
+        return solver.solve_whole(alloc, &system, forms, named.before());
     }
     let forms = bounded_forms(alloc, named.forms())?;
     solver.solve_whole(alloc, &system, &forms, named.before())
+}
+
+// The first so many of the forms.
+fn first_forms(forms: &[Bounded], count: usize) -> &[Bounded]
+    requires { count ≤ length forms.now }
+    ensures { result.now ≡ take count forms.now }
+{
+    &forms[..count]
 }
 
 // The forms as a branching takes them.

@@ -13,7 +13,7 @@ use crate::asked::{
 use crate::bases::basis;
 use crate::rows::{write_form, write_row};
 use rg_case_parts::{CaseSetting, Setting};
-use rg_cert_meaning::Form::{self, Effect, Tokens};
+use rg_cert_meaning::Form::{self, Effect, Start, Tokens};
 use rg_rows::{Common, NamedCase, NamedForm, cases, system_with};
 use rg_samples::{
     ABA, CHOICE, CYCLE, DEAD, IN_TURN, LOOP_AND_STEP, NONBRANCHING, PLAIN, PURE, SAFE, STEP,
@@ -234,12 +234,12 @@ const SHARING: [(&str, Class, Problem, bool, u32); 20] = [
     (IN_TURN, PLAIN, Event(0, 1), true, 3),
     (IN_TURN, PLAIN, States(0, 1), true, 1),
     (STEP, PURE_PLAIN, Event(1, 0), true, 1),
-    // a class that asks a marking splits the start in the event problems of a plain class, and in all of a bounded one
+    // a class that asks a marking shares its rows too, whether the case splits on the start or not
     (STEP, TWO_MARKING, Event(1, 0), true, 1),
-    (STEP, PURE_PLAIN_TWO_MARKING, Event(1, 0), false, 0),
+    (STEP, PURE_PLAIN_TWO_MARKING, Event(1, 0), true, 1),
     (STEP, PURE_PLAIN_TWO_MARKING, States(0, 1), true, 1),
-    (STEP, TWO_BOUNDED_TWO_MARKING, Event(1, 0), false, 0),
-    (STEP, TWO_BOUNDED_TWO_MARKING, States(0, 1), false, 0),
+    (STEP, TWO_BOUNDED_TWO_MARKING, Event(1, 0), true, 1),
+    (STEP, TWO_BOUNDED_TWO_MARKING, States(0, 1), true, 1),
     // which rows Makes a case has depends on its consumer
     (CHOICE, NONBRANCHING, Event(1, 0), false, 0),
     (CHOICE, NONBRANCHING, States(1, 2), false, 0),
@@ -290,15 +290,15 @@ fn are_named(named: &[NamedForm], forms: &[Form]) -> bool {
     named.len() == forms.len()
 }
 
-// Texts, classes, and their shared forms: in a bounded class one for each state.
+// Texts, classes, and their shared forms: in a bounded class one for each state, and in one that asks a marking the start.
 const SHARED_FORMS: [(&str, Class, &[Form]); 13] = [
     (CYCLE, SAFE, &[Tokens(0), Tokens(1), Tokens(2)]),
     (CYCLE, TWO_BOUNDED, &[Tokens(0), Tokens(1), Tokens(2)]),
     (ABA, SAFE, &[Tokens(0), Tokens(1), Tokens(2), Tokens(3)]),
     (DEAD, SAFE, &[Tokens(0)]),
-    (STEP, TWO_BOUNDED_TWO_MARKING, &[Tokens(0), Tokens(1)]),
+    (STEP, TWO_BOUNDED_TWO_MARKING, &[Tokens(0), Tokens(1), Start]),
     (CYCLE, PLAIN, &[Effect(0), Effect(1)]),
-    (STEP, PLAIN_TWO_MARKING, &[Effect(0)]),
+    (STEP, PLAIN_TWO_MARKING, &[Effect(0), Start]),
     (CYCLE, ALL_NETS, &[]),
     (CYCLE, PURE, &[]),
     (STEP, TWO_MARKING, &[]),

@@ -83,7 +83,7 @@ pub case_forms-requires-clause-start : goal.case_forms-requires-clause-start
 case_forms-requires-clause-start c = λ splits.
     let named = c.deref-3.ensures.value ∙ c.in_ok-names.ensures in
     subst (λ (l : List RowName). Contains l (row_name.Tokens c.args.c.setting.lts.now.initial)) (sym named)
-    (has_start_name c.args.c.setting.lts.now c.args.c.setting.class c.args.c.problem c.args.c.number c.is_well_formed.ensures.in_range.initial splits)
+    (has_start_name c.args.c.setting.lts.now c.args.c.setting.class c.args.c.problem c.is_well_formed.ensures.in_range.initial splits c.args.c.number)
 
 pub returns-in_err-all-clause-wide : goal.returns-in_err-all-clause-wide
 returns-in_err-all-clause-wide c = λ w e.

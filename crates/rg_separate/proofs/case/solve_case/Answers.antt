@@ -5,7 +5,8 @@ use Rattle.rg_outcome.specs.Casing.{CaseResult.passes, CaseComes, CaseComes.row_
 use Rattle.rg_cert_data.specs.declared.wide_at.Stage.TheVariants.{Row}
 use Rattle.rg_case_parts.specs.SettingViews.{shown_case}
 use Rattle.rg_separate.specs.Passing.{passed_at}
-use Rattle.rg_separate.proofs.Branched.{bounds_after}
+use Rattle.rg_rows.specs.Sharing.{shared_forms}
+use Rattle.rg_separate.proofs.Branched.{bounds_after, first_bounded}
 use Rattle.rg_separate.proofs.Passing.{row_shown}
 use Rattle.rg_separate.proofs.case.solve_case.Goals as goal
 use Rattle.rg_cert_meaning.specs.declared.Form.{Form}
@@ -36,3 +37,7 @@ answer_of_forms-requires-clause-system c =
       forms = forms;
       bounded = bounds_after c.in-Ok.named.system c.in-Ok.named.before c.in-Ok.named.forms forms;
     }
+
+pub answer_of_forms-requires-clause-forms : goal.answer_of_forms-requires-clause-forms
+answer_of_forms-requires-clause-forms c = λ joined.
+    first_bounded c.in-Ok.named.forms (shared_forms c.args.problems.common.now) c.args.problems.forms.now c.requires.serves.forms (c.in-Ok.ensures.shared joined)
