@@ -1,10 +1,14 @@
 -- Problems that are left, from a bound on.
-use Rattle.std.specs.Prelude.{List}
-use Rattle.rg_theory.specs.System.{System}
+use Rattle.std.specs.Prelude.{ℕ, ◌<◌, ◌≤◌, List}
+use Rattle.rg_theory.specs.System.{System, HasArc}
 use Rattle.rg_theory.specs.Net.{Place}
 use Rattle.rg_theory.specs.declared.Problem.{Problem}
 use Rattle.rg_theory.specs.Problem.{ComesBefore}
 use Rattle.rg_outcome.specs.Coming.{IsFirstProblem, IsLeft}
+
+-- none of the labels from the first number on below the second has an arc at the state
+abbrev pub HaveNoArc : System → ℕ → ℕ → ℕ → Type 0
+HaveNoArc lts s from to = (t q : ℕ) → from ≤ t → t < to → ¬ HasArc lts s t q
 
 -- the problem is left, and doesn't come before the bound
 abbrev pub IsLeftFrom : System → List Place → Problem → Problem → Type 0

@@ -1,14 +1,33 @@
 //! The next problem that is left.
-ghost use Rattle.std.specs.Prelude.{◌+◌, ◌<◌, IfSome, IfNone};
-ghost use Rattle.rg_theory.specs.System.{states};
+ghost use Rattle.std.specs.Prelude.{◌+◌, ◌<◌, ◌≤◌, IfSome, IfNone};
+ghost use Rattle.rg_theory.specs.System.{states, labels};
 ghost use Rattle.rg_theory.specs.declared.Problem.TheVariants as problem;
 ghost use Rattle.rg_theory.specs.Problem.{IsProblem};
 ghost use Rattle.rg_outcome.specs.Coming.{IsNext, IsDone};
-ghost use Rattle.rg_blocks.specs.Left.{IsFirstFrom, NoneBetween, NoneFrom};
+ghost use Rattle.rg_blocks.specs.Left.{HaveNoArc, IsFirstFrom, NoneBetween, NoneFrom};
 
 use crate::keeping::Keeping;
 use rg_lts::Lts;
 use rg_theory::Problem;
+
+// The first event problem of state `s` that is left, of the labels from `from` on below `to`, none of which has an arc there.
+fn event_between<K: Keeping>(lts: &Lts, kept: &K, s: u32, from: u32, to: u32) -> Option<Problem>
+    requires kept { K.keeps_for kept.now lts.now }
+    requires state { s < states lts.now }
+    requires labels { to ≤ labels lts.now }
+    requires no_arc { HaveNoArc lts.now s from to }
+    ensures some { IfSome result (IsFirstFrom lts.now (K.places kept.now) (problem.Event s from)) }
+    ensures none { IfNone result (NoneBetween lts.now (K.places kept.now) (problem.Event s from) (problem.Event s to)) }
+{
+    for t in from..to {
+        let problem = Problem::Event(s, t);
+        if kept.separates(lts, problem) {
+            continue;
+        }
+        return Some(problem);
+    }
+    None
+}
 
 // The first event problem of state `s` that is left, from label `first` on.
 fn event_of_state<K: Keeping>(lts: &Lts, kept: &K, s: u32, first: u32) -> Option<Problem>
@@ -17,17 +36,16 @@ fn event_of_state<K: Keeping>(lts: &Lts, kept: &K, s: u32, first: u32) -> Option
     ensures some { IfSome result (IsFirstFrom lts.now (K.places kept.now) (problem.Event s first)) }
     ensures none { IfNone result (NoneBetween lts.now (K.places kept.now) (problem.Event s first) (problem.Event (s + 1) 0)) }
 {
-    for t in first..lts.labels() {
-        let problem = Problem::Event(s, t);
-        if lts.arc_at(s, t).is_some() {
-            continue;
+    let labels = lts.labels();
+    let mut next = first;
+    for arc in lts.arcs_from(s) {
+        let found = event_between(lts, kept, s, next, arc.label);
+        if found.is_some() {
+            return found;
         }
-        if kept.separates(lts, problem) {
-            continue;
-        }
-        return Some(problem);
+        next = next.max(arc.label + 1);
     }
-    None
+    event_between(lts, kept, s, next, labels)
 }
 
 // The first state problem of state `s` and a later one that is left, from the other state `first` on.
