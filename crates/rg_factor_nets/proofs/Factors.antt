@@ -20,7 +20,7 @@ use Rattle.rg_product.proofs.OneFactoring.{factors_in_range}
 use Rattle.rg_product.proofs.Widening.{zip_at, zip_from, beside_solves, beside_bounded}
 use Rattle.rg_factor.specs.Places.{HasFewPlaces}
 use Rattle.rg_factor.proofs.FewBeside.{few_beside}
-use Rattle.rg_synth.proofs.FewPlaces.{net_is_small}
+use Rattle.rg_synth.proofs.FewPlaces.{net_in_either_order}
 use Rattle.rg_factor_nets.specs.Answer.{HasNet, IsBehindNets, IsNetOf, IsNetBeside}
 
 -- ---- factor after factor
@@ -76,7 +76,7 @@ module _ (lts : System) (fine : IsWellFormed lts) (reachable : IsAllReachable lt
 
   pub few : (class : Class) (nets : List Net) → AllZip (IsNetOf class) fs nets → length (places_beside (labels lts) fs nets) < 4294967296
   few class nets zip = few_beside lts fs tuples nets fine factoring
-      (zip_from (IsNetOf class) HasFewPlaces fs nets zip (λ i f net at (out, right). net_is_small f.lts class net.places out))
+      (zip_from (IsNetOf class) HasFewPlaces fs nets zip (λ i f net at (out, right). net_in_either_order f.lts class net.places out))
 
   pub beside : (class : Class) (nets : List Net) (net : Net) → AllZip (IsNetOf class) fs nets → net ≡ net_beside lts fs nets → IsNetInRange net → IsNetBeside class lts fs net
   beside class nets net zip is in_range =

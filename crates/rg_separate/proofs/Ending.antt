@@ -66,7 +66,7 @@ module _ (s : Setting) (is : IsSetting s) where
     separated_searched = searched_of (places kept) all_come
 
     pub separated_tells : AreSeparating s.lts.now s.class kept
-    separated_tells = separating s.lts.now s.class kept firsts separated is.in_range is.bound are (few_places s.lts.now (comes_of s) kept fine all_come) separated_searched
+    separated_tells = separating s.lts.now s.class kept firsts separated fine is.bound are (few_places s.lts.now (comes_of s) kept all_come) separated_searched
 
   -- the problem that ends the search
   refuted_last : (kept : List Place) (q : Problem) (o : outcome.Separation) → AllComeTo s.lts.now (comes_of s) o → ShowsSeparation s.lts.now (comes_of s) kept (ended.Unsolvable q) o → EndsRefuted s q

@@ -1,5 +1,5 @@
 -- What the answer says.
-use Rattle.std.specs.Prelude.{◌≡◌, ℕ, ◌<◌, ◌≤◌, List, map, All}
+use Rattle.std.specs.Prelude.{◌≡◌, ℕ, ◌<◌, ◌≤◌, List, length, map, All}
 use Rattle.rg_theory.specs.System.{System, states, labels}
 use Rattle.rg_theory.specs.Net.{Place}
 use Rattle.rg_theory.specs.declared.Class.{Class}
@@ -17,6 +17,7 @@ use Rattle.rg_outcome.specs.Coming as outcome
 use Rattle.rg_outcome.specs.Outcome.{Searched}
 use Rattle.rg_cert_data.specs.Certificates.{reason_of, IsCertificateOf}
 use Rattle.rg_case_folds.specs.Shown.{ShownWide}
+use Rattle.rg_blocks.specs.Problems.{most_problems}
 use Rattle.rg_separate.specs.View.{shown_of}
 use Rattle.rg_cert_data.specs.declared.wide_at.WideAt.{WideAt}
 use Rattle.rg_separate.specs.declared.separation.Separation.{Separation}
@@ -30,10 +31,11 @@ pub record IsNarrowRegion (lts : System) (class : Class) (p : Place) : Type 0 wh
   pub region : RegionIn lts class p m
   pub narrow : (s : ℕ) → s < states lts → m s ≤ greatest
 
--- the places are such regions, their numbers are in range, and they separate all problems
+-- the places are such regions, at most one for each problem, their numbers are in range, and they separate all problems
 pub record AreSeparating (lts : System) (class : Class) (places : List Place) : Type 0 where
   pub regions : All (IsNarrowRegion lts class) places
   pub in_range : IsNetInRange (record { labels = labels lts; places = places })
+  pub few : length places ≤ most_problems lts
   pub separate : SeparateAll places lts
 
 -- what a separation has: places, a certificate or a term

@@ -1,5 +1,5 @@
--- The net of an answer has at most one place for each problem, and one more.
-use Rattle.std.proofs.Common.{inl, inr, ◌+◌, ◌*◌, ◌≤◌, List, [], ◌∷◌, ◌++◌, length, None, ap, arith}
+-- The net of an answer has at most one place for each problem.
+use Rattle.std.proofs.Common.{inl, inr, ◌+◌, ◌*◌, ◌≤◌, List, [], ◌∷◌, ◌++◌, length, ap, arith}
 use Rattle.rg_theory.specs.System.{System, states, labels}
 use Rattle.rg_theory.specs.Net.{Place}
 use Rattle.rg_theory.specs.declared.Class.{Class}
@@ -7,8 +7,10 @@ use Rattle.rg_theory.specs.Pruned.{Decides, LeavesBehind}
 use Rattle.rg_outcome.specs.Solving.{ProblemComes}
 use Rattle.rg_outcome.specs.Coming.{Separation, Separation.places, Separation.unsolvable as of_problem, Separation.too_wide as of_term}
 use Rattle.rg_outcome.specs.Outcome.{Answer.net as of_net, Gives, Searched, Searched.all_problems, Out, Out.a_search}
-use Rattle.rg_blocks.proofs.RankLemmas.{top_rank}
-use Rattle.rg_separate.proofs.Few.{few_from}
+use Rattle.rg_lts.specs.WellFormed.{IsWellFormed}
+use Rattle.rg_blocks.specs.Problems.{most_problems}
+use Rattle.rg_blocks.proofs.RankLemmas.{most_at_limits, pairs_fewer}
+use Rattle.rg_separate.proofs.Few.{few_places}
 use Rattle.rg_case_folds.specs.Setting.{setting_at}
 
 left_short : (lts : System) (front kept left : List Place) → LeavesBehind lts front kept left → length left ≤ length kept
@@ -19,13 +21,20 @@ left_short lts front (p ∷ kept) left (behind, rest, decides) = by decides (lef
     by (inl (all, is)) short = let n = ap length is in omega arith
     by (inr (some, is)) short = let n = ap length is in omega arith
 
-searched_few : (lts : System) (class : Class) (kept : List Place) → Searched lts class (places kept) → length kept ≤ top_rank lts
-searched_few lts class kept (all_problems arcs basis _ tree is comes) = few_from lts (ProblemComes (setting_at lts arcs basis class)) None [] (places kept) (top_rank lts) tt (omega arith) comes
+searched_few : (lts : System) (class : Class) (kept : List Place) → Searched lts class (places kept) → length kept ≤ most_problems lts
+searched_few lts class kept (all_problems arcs basis _ tree is comes) = few_places lts (ProblemComes (setting_at lts arcs basis class)) kept comes
 
-given_few : (lts : System) (class : Class) (o : Separation) (left : List Place) → Searched lts class o → Gives lts o (of_net left) → length left ≤ top_rank lts
+given_few : (lts : System) (class : Class) (o : Separation) (left : List Place) → Searched lts class o → Gives lts o (of_net left) → length left ≤ most_problems lts
 given_few lts class (places kept) left searched pruned = let a = left_short lts [] kept left pruned in let b = searched_few lts class kept searched in omega arith
 given_few lts class (of_problem problem trees) left searched gives = absurd gives
 given_few lts class (of_term w) left searched gives = absurd gives
 
-pub net_is_small : (lts : System) (class : Class) (left : List Place) → Out lts class (of_net left) → length left ≤ 1 + (states lts * labels lts + states lts * states lts)
+pub net_is_small : (lts : System) (class : Class) (left : List Place) → Out lts class (of_net left) → length left ≤ most_problems lts
 net_is_small lts class left (a_search o _ reach one searched gives) = given_few lts class o left searched gives
+
+pub net_at_limits : (lts : System) (class : Class) (left : List Place) → IsWellFormed lts → Out lts class (of_net left) → length left ≤ 9435136
+net_at_limits lts class left fine out = let few = net_is_small lts class left out in let most = most_at_limits lts fine in omega arith
+
+-- two states counted in either order
+pub net_in_either_order : (lts : System) (class : Class) (left : List Place) → Out lts class (of_net left) → length left ≤ 1 + (states lts * labels lts + states lts * states lts)
+net_in_either_order lts class left out = let few = net_is_small lts class left out in let fewer = pairs_fewer (states lts) in omega arith

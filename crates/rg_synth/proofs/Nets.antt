@@ -1,5 +1,5 @@
 -- A net of places that separate is one that solves.
-use Rattle.std.proofs.Common.{◌≡◌, ◌≤◌, List, [], All, sym, ap, subst, ◌∙◌}
+use Rattle.std.proofs.Common.{◌≡◌, ◌≤◌, List, [], All, sym, ap, subst, ◌∙◌, arith}
 use Rattle.std.proofs.lemmas.Option.{get_or_from_slice_get, slice_get_within}
 use Rattle.rg_theory.specs.System.{System, labels, IsInRange, IsAllReachable}
 use Rattle.rg_theory.specs.Net.{Place, Net, tokens}
@@ -13,7 +13,7 @@ use Rattle.rg_theory.proofs.Yes.{region_unique}
 use Rattle.rg_net.specs.Range.{IsNetInRange}
 use Rattle.rg_integers.specs.Range.{greatest}
 use Rattle.rg_theory.specs.Pruned.{IsPruned}
-use Rattle.rg_theory.proofs.Leaving.{left_separates, left_needed}
+use Rattle.rg_theory.proofs.Leaving.{left_separates, left_needed, left_no_more}
 use Rattle.rg_separate.specs.Answer.{IsNarrowRegion, AreSeparating}
 use Rattle.rg_synth.specs.Answer.{IsSolvingNet}
 use Rattle.rg_synth.proofs.Pruned.{all_left}
@@ -44,5 +44,6 @@ solving_net lts class places net fine reachable are transitions numbers pruned =
       solves = solves;
       in_class = in_class;
       irredundant = λ i lt without. left_needed lts [] places net.places pruned i lt (solved_separates lts _ fine without);
+      few = let no_more = left_no_more lts [] places net.places pruned in let few = are.few in omega arith;
       narrow = narrow_markings lts class net fine solves regions;
     }

@@ -1,5 +1,5 @@
 -- What the answer for a system and a class is, and what each kind of answer says.
-use Rattle.std.specs.Prelude.{◌≡◌, ℕ, ◌<◌, length, All}
+use Rattle.std.specs.Prelude.{◌≡◌, ℕ, ◌<◌, ◌≤◌, length, All}
 use Rattle.rg_theory.specs.System.{System, IsAllReachable, IsLeastUnreachable, IsLeastFork}
 use Rattle.rg_checks.specs.Flaws.{IsFlawless}
 pub use Rattle.rg_checks.specs.Flaws.{IsFlawless as IsOpen}
@@ -16,6 +16,7 @@ use Rattle.rg_cert_data.specs.Certificates.{reason_of, IsCertificateOf}
 use Rattle.rg_theory.specs.ClassWords.{no_condition}
 use Rattle.rg_outcome.specs.Outcome as outcome
 use Rattle.rg_outcome.specs.Outcome.{Out}
+use Rattle.rg_blocks.specs.Problems.{most_problems}
 use Rattle.rg_separate.specs.Keeping.{IsKept}
 use Rattle.rg_separate.specs.declared.refusal.Refusal.{Refusal}
 use Rattle.rg_separate.specs.View.{shown_of}
@@ -49,12 +50,14 @@ IsReason lts (fork s t s₁ s₂) = IsAllReachable lts × IsLeastFork lts s t s�
 IsReason lts (refuted problem trees) = IsFlawless lts
 
 -- the net, whose labels are those of the system, is of the class and solves the system, and without any one of its places doesn't;
+-- it has at most one place for each problem;
 -- no number of the net or of a reachable marking is above 2^127 - 1
 pub record IsSolvingNet (lts : System) (class : Class) (net : Net) : Type 0 where
   pub in_range : IsNetInRange net
   pub solves : Solves net lts
   pub in_class : InClass net class
   pub irredundant : (i : ℕ) → i < length net.places → ¬ Solves (net_without net i) lts
+  pub few : length net.places ≤ most_problems lts
   pub narrow : IsBounded net greatest
 
 -- the certificate is of the class, and its reason holds; no net of the class solves the system; its trees are whole, and its numbers

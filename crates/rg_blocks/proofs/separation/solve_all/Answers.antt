@@ -1,7 +1,7 @@
 use Rattle.std.proofs.Common.{rules, ◌≡◌, ◌<◌, length, All, sym, subst}
 use Rattle.rg_outcome.specs.Coming.{IsLeft}
 use Rattle.rg_blocks.specs.Taking.{IsTakenOver}
-use Rattle.rg_blocks.proofs.RankLemmas.{behind_rises}
+use Rattle.rg_blocks.proofs.RankLemmas.{behind_falls}
 use Rattle.rg_blocks.proofs.SolvedLemmas.{block_is_left, end_is}
 use Rattle.rg_blocks.proofs.SeparationLemmas.{block_leads, block_ends, block_sound}
 use Rattle.rg_blocks.proofs.separation.solve_all.Goals as goal
@@ -30,7 +30,7 @@ loop-block-smaller g c =
     let end = end_is c.args.search.now.lts.now
     (g.K.Keeping.places c.loop-block.progress.kept) c.loop-block.last c.in_ok-block.block.items c.index-end.result.now c.len.result
     c.in_ok-block.ensures.block some n c.index-end.ensures in
-    behind_rises c.args.search.now.lts.now c.loop-block.last c.index-end.result.now c.loop-block.invariant.1 end.1 end.2
+    behind_falls c.args.search.now.lts.now c.loop-block.last c.index-end.result.now c.loop-block.invariant.1 end.1 end.2
 
 pub loop-block-preserved : goal.loop-block-preserved
 loop-block-preserved g c =

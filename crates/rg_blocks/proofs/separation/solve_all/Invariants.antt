@@ -1,9 +1,9 @@
-use Rattle.std.proofs.Common.{◌-◌, IfSome}
+use Rattle.std.proofs.Common.{IfSome}
 use Rattle.rg_theory.specs.Problem.{IsProblem}
 use Rattle.rg_outcome.specs.Coming.{IsSound}
 use Rattle.rg_blocks.specs.Separating.{LeadsTo}
 use Rattle.rg_blocks.specs.Searching.{IsSearching}
-use Rattle.rg_blocks.proofs.RankLemmas.{rank, top_rank}
+use Rattle.rg_blocks.proofs.RankLemmas.{problems_after}
 use Rattle.rg_blocks.proofs.separation.solve_all.Given as goal
 
 abbrev pub invariant-loop-block : goal.invariant-loop-block
@@ -17,4 +17,4 @@ invariant-loop-block g l =
     × IsSearching l.search g.K.Keeping.keeps_for g.S.Solving.serves g.S.Solving.proves l.progress
 
 abbrev pub decreases-loop-block : goal.decreases-loop-block
-decreases-loop-block g l = top_rank l.search.lts.now - rank l.search.lts.now l.last
+decreases-loop-block g l = problems_after l.search.lts.now l.last
