@@ -31,35 +31,42 @@ any_mapped g P Q go (a ∷ xs) (suc k, x, lt, e, is) =
 module _ (lts : System) (factors : List Factor) (tuples : List (List ℕ)) (fine : IsInRange lts) (inside : AreInRange factors)
     (product : Product lts factors tuples) (i : ℕ) (f : Factor) (at : IsFactorAt factors i f) where
   -- the tuple of the initial state with another entry of the factor
-  abbrev begun : ℕ → List ℕ
+  abbrev pub begun : ℕ → List ℕ
   begun q = slice_set (tuple_of tuples lts.initial) i q
 
-  begun_is : (q : ℕ) → q < states f.lts → IsTuple factors (begun q)
+  pub begun_is : (q : ℕ) → q < states f.lts → IsTuple factors (begun q)
   begun_is q lt = with_entry lts factors tuples fine inside product (tuple_of tuples lts.initial) i q f (tuple_is lts factors tuples fine inside product lts.initial fine.initial) at lt
 
   begun_entry : (q : ℕ) → slice_index (begun q) i ≡ q
   begun_entry q = get_or-set_same (tuple_of tuples lts.initial) i q 0 (entries lts factors tuples fine inside product lts.initial i f fine.initial at)
 
   -- its state, which stands for the factor's state in the product
-  abbrev placed_by : (q : ℕ) → (q < states f.lts) ⊎ (states f.lts ≤ q) → ℕ
+  abbrev pub placed_by : (q : ℕ) → (q < states f.lts) ⊎ (states f.lts ≤ q) → ℕ
   placed_by q (inl lt) = (state_of lts factors tuples fine inside product (begun q) (begun_is q lt)).0
   placed_by q (inr past) = 0
 
-  abbrev placed : ℕ → ℕ
+  abbrev pub placed : ℕ → ℕ
   placed q = placed_by q (cases_lt q (states f.lts))
 
-  placed_is : (q : ℕ) → q < states f.lts → (placed q < states lts) × (tuple_of tuples (placed q) ≡ begun q)
+  pub placed_is : (q : ℕ) → q < states f.lts → (placed q < states lts) × (tuple_of tuples (placed q) ≡ begun q)
   placed_is q lt = by (cases_lt q (states f.lts))
     where
       by : (d : (q < states f.lts) ⊎ (states f.lts ≤ q)) → (placed_by q d < states lts) × (tuple_of tuples (placed_by q d) ≡ begun q)
       by (inl lt') = (let s = state_of lts factors tuples fine inside product (begun q) (begun_is q lt') in (s.1, s.2))
       by (inr past) = absurd (omega arith)
 
-  placed_entry : (q : ℕ) → q < states f.lts → slice_index (tuple_of tuples (placed q)) i ≡ q
+  pub placed_entry : (q : ℕ) → q < states f.lts → slice_index (tuple_of tuples (placed q)) i ≡ q
   placed_entry q lt = ap (λ (l : List ℕ). slice_index l i) (placed_is q lt).1 ∙ begun_entry q
 
-  placed_differ : (q q' : ℕ) → q < states f.lts → q' < states f.lts → placed q ≡ placed q' → q ≡ q'
+  pub placed_differ : (q q' : ℕ) → q < states f.lts → q' < states f.lts → placed q ≡ placed q' → q ≡ q'
   placed_differ q q' lt lt' e = sym (placed_entry q lt) ∙ ap (λ s. slice_index (tuple_of tuples s) i) e ∙ placed_entry q' lt'
+
+  -- two of these states differ in the entry of the factor alone
+  pub placed_agree : (q q' : ℕ) → q < states f.lts → q' < states f.lts → AgreeOutside i (tuple_of tuples (placed q)) (tuple_of tuples (placed q'))
+  placed_agree q q' lt lt' j other = initially q lt ∙ sym (initially q' lt')
+    where
+      initially : (r : ℕ) → r < states f.lts → slice_index (tuple_of tuples (placed r)) j ≡ slice_index (tuple_of tuples lts.initial) j
+      initially r less = ap (λ (l : List ℕ). slice_index l j) (placed_is r less).1 ∙ get_or-set_other (tuple_of tuples lts.initial) i j r 0 other
 
   placed_initial : placed f.lts.initial ≡ lts.initial
   placed_initial =
@@ -75,14 +82,12 @@ module _ (lts : System) (factors : List Factor) (tuples : List (List ℕ)) (fine
       let (lt, _, lt') = arc_in_range f.lts (inside i f at) q k q' has in
       let a = placed_is q lt in
       let b = placed_is q' lt' in
-      let agree : AgreeOutside i (tuple_of tuples (placed q)) (tuple_of tuples (placed q')) = λ j other.
-      ap (λ (l : List ℕ). slice_index l j) a.1 ∙ get_or-set_other (tuple_of tuples lts.initial) i j q 0 other
-      ∙ sym (ap (λ (l : List ℕ). slice_index l j) b.1 ∙ get_or-set_other (tuple_of tuples lts.initial) i j q' 0 other) in
+      let agree : AgreeOutside i (tuple_of tuples (placed q)) (tuple_of tuples (placed q')) = placed_agree q q' lt lt' in
       let step : HasArc f.lts (slice_index (tuple_of tuples (placed q)) i) k (slice_index (tuple_of tuples (placed q')) i) =
       subst (λ n. HasArc f.lts n k (slice_index (tuple_of tuples (placed q')) i)) (sym (placed_entry q lt)) (subst (HasArc f.lts q k) (sym (placed_entry q' lt')) has) in
       (product.arcs (placed q) t (placed q') i k f a.0 b.0 at label).1 (agree, step)
 
-  arc_of_factor : (q k t s' : ℕ) → q < states f.lts → IsLabelAt f k t → HasArc lts (placed q) t s' → (q' : ℕ) × HasArc f.lts q k q'
+  pub arc_of_factor : (q k t s' : ℕ) → q < states f.lts → IsLabelAt f k t → HasArc lts (placed q) t s' → (q' : ℕ) × HasArc f.lts q k q'
   arc_of_factor q k t s' lt label has =
       let m : Moves f i k (tuple_of tuples (placed q)) (tuple_of tuples s') = moved lts factors tuples fine inside product (placed q) t s' i k f at label has in
       (slice_index (tuple_of tuples s') i, subst (λ n. HasArc f.lts n k (slice_index (tuple_of tuples s') i)) (placed_entry q lt) m.1)

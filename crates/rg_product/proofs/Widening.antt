@@ -65,14 +65,14 @@ beside_has n (g ∷ factors) (other ∷ nets) (suc i) f net p at at' has =
 
 module _ (lts : System) (factors : List Factor) (tuples : List (List ℕ)) (fine : IsInRange lts) (inside : AreInRange factors) (product : Product lts factors tuples) where
   -- the numbers of a factor's states, at the states of the product
-  abbrev lifted : (ℕ → ℕ) → ℕ → ℕ → ℕ
+  abbrev pub lifted : (ℕ → ℕ) → ℕ → ℕ → ℕ
   lifted m i s = m (slice_index (tuple_of tuples s) i)
 
-  once : (i : ℕ) (f : Factor) → IsFactorAt factors i f → (t : ℕ) → StandsOnce f.labels t
+  pub once : (i : ℕ) (f : Factor) → IsFactorAt factors i f → (t : ℕ) → StandsOnce f.labels t
   once i f at t k l label label' = (product.shared.one t i k i l f f at label at label').1
 
   -- a label of another factor doesn't stand among those of this one
-  elsewhere : (i j l t : ℕ) (f g : Factor) → IsFactorAt factors i f → IsFactorAt factors j g → IsLabelAt g l t → i ≢ j → (k : ℕ) → slice_get f.labels k ≡ Some t → ⊥
+  pub elsewhere : (i j l t : ℕ) (f g : Factor) → IsFactorAt factors i f → IsFactorAt factors j g → IsLabelAt g l t → i ≢ j → (k : ℕ) → slice_get f.labels k ≡ Some t → ⊥
   elsewhere i j l t f g at at' label' other k label = other (product.shared.one t i k j l f g at label at' label').0
 
   pub lifted_region : (i : ℕ) (f : Factor) (p : Place) (m : ℕ → ℕ) → IsFactorAt factors i f → Region f.lts p m → Region lts (widened (labels lts) f.labels p) (lifted m i)
