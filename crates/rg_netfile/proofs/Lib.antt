@@ -28,4 +28,5 @@ pub mod PrintedSums
 pub mod PrintedFaults
 pub mod PrintedNets
 pub mod PrintedTexts
+pub mod LabelledNets
 pub mod MemoryFaults

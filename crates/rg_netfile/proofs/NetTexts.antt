@@ -11,11 +11,12 @@ use Rattle.rg_lexer.specs.declared.token.Kind.TheVariants.{Name, Word, Colon, Ar
 use Rattle.rg_lexer.proofs.Printed.{Reads, Then, reads_same, reads_more, reads_token, reads_blank, reads_name, reads_word, reads_end, literal_name}
 use Rattle.rg_grammar.specs.Entry.{AreEach}
 use Rattle.rg_grammar.proofs.Printed.{NamesThen, reads_names}
-use Rattle.rg_net.specs.NetText.{place_name, set_text, taken_by, put_by, starts, flow_lines, net_lines}
+use Rattle.rg_net.specs.NetText.{place_name, set_text, taken_by, put_by, starts, flow_lines}
 use Rattle.rg_net_grammar.specs.Item.{Flow, IsFlow}
+use Rattle.rg_netfile.specs.LabelledTexts.{lines_with}
 use Rattle.rg_netfile.proofs.PlaceNames.{IsPrefix}
 use Rattle.rg_netfile.proofs.SetTexts.{AreMembers, SetThen, reads_set}
-use Rattle.rg_netfile.proofs.Texts.{text_parts, place_lines, flows_of, marking_of}
+use Rattle.rg_netfile.proofs.Texts.{parts_with, place_lines, flows_of, marking_of}
 
 -- these are the flows of the labels from t on
 abbrev pub AreFlows : List ℕ → Net → ℕ → List (List ℕ) → List Flow → Type 0
@@ -134,8 +135,8 @@ abbrev pub PlaceSection : List ℕ → Net → List (List ℕ) → List Lexeme �
 PlaceSection q net names =
     Then Word (codes ".places") (NamesThen (map (place_name q) (range_with_len 0 (length net.places))) (TransitionSection q net names))
 
-abbrev pub TypeSection : List ℕ → Net → List (List ℕ) → List Lexeme → Type 0
-TypeSection q net names = Then Word (codes ".type") (Then Name (codes "PN") (PlaceSection q net names))
+abbrev pub TypeSection : List ℕ → List ℕ → Net → List (List ℕ) → List Lexeme → Type 0
+TypeSection type q net names = Then Word (codes ".type") (Then Name type (PlaceSection q net names))
 
 reads_marking : (q : List ℕ) (net : Net) → IsPrefix q → IsPrintable net → Reads (marking_of q net) (MarkingSection q net)
 reads_marking q net prefix small =
@@ -150,9 +151,13 @@ reads_marking q net prefix small =
     (reads_set q (starts net) (10 ∷ []) Ends prefix (omega arith) small.start
     (reads_blank 10 [] Ends refl (reads_end Ends refl)))))
 
-pub reads_net : (q : List ℕ) (net : Net) (names : List (List ℕ)) → IsPrefix q → IsPrintable net → All IsName names
-    → All IsName (map (place_name q) (range_with_len 0 (length net.places))) → Reads (fed (net_lines q net names)) (TypeSection q net names)
-reads_net q net names prefix small are places =
+-- the lines of a net of a type
+abbrev pub typed_lines : List ℕ → List ℕ → Net → List (List ℕ) → List (List ℕ)
+typed_lines type q net names = lines_with (codes ".type " ++ type) names q net names
+
+pub reads_net : (type q : List ℕ) (net : Net) (names : List (List ℕ)) → IsName type → IsPrefix q → IsPrintable net → All IsName names
+    → All IsName (map (place_name q) (range_with_len 0 (length net.places))) → Reads (fed (typed_lines type q net names)) (TypeSection type q net names)
+reads_net type q net names typed prefix small are places =
     let marking = marking_of q net in
     let flows = flows_of q net names ++ marking in
     let transitions = fed names ++ (codes ".flows\n" ++ flows) in
@@ -160,11 +165,14 @@ reads_net q net names prefix small are places =
     let Flows = FlowsThen q net 0 names (MarkingSection q net) in
     let Transitions = NamesThen names (FlowSection q net names) in
     let Places = NamesThen (map (place_name q) (range_with_len 0 (length net.places))) (TransitionSection q net names) in
-    let Type_name = Then Name (codes "PN") (PlaceSection q net names) in
-    reads_same (codes ".type PN\n.places\n" ++ lines) (fed (net_lines q net names)) (TypeSection q net names) (sym (text_parts q net names))
-    (reads_word (codes "type") 32 (codes "PN\n.places\n" ++ lines) Type_name (literal_name (codes "type") (omega arith) (omega arith) refl) refl
-    (reads_blank 32 (codes "PN\n.places\n" ++ lines) Type_name refl
-    (reads_name (codes "PN") 10 (codes ".places\n" ++ lines) (PlaceSection q net names) (literal_name (codes "PN") (omega arith) (omega arith) refl) refl
+    let Type_name = Then Name type (PlaceSection q net names) in
+    let after_type = type ++ (codes "\n.places\n" ++ lines) in
+    reads_same (codes ".type " ++ after_type) (fed (typed_lines type q net names)) (TypeSection type q net names)
+    (sym (parts_with (codes ".type " ++ type ++ codes "\n.places\n") (codes ".type " ++ type) names q net names (λ more. ap (λ l. codes ".type " ++ l) (sym (append_assoc type (codes "\n.places\n") (fed more))))
+    ∙ ap (λ l. codes ".type " ++ l) (append_assoc type (codes "\n.places\n") lines)))
+    (reads_word (codes "type") 32 after_type Type_name (literal_name (codes "type") (omega arith) (omega arith) refl) refl
+    (reads_blank 32 after_type Type_name refl
+    (reads_name type 10 (codes ".places\n" ++ lines) (PlaceSection q net names) typed refl
     (reads_blank 10 (codes ".places\n" ++ lines) (PlaceSection q net names) refl
     (reads_word (codes "places") 10 lines Places (literal_name (codes "places") (omega arith) (omega arith) refl) refl
     (reads_blank 10 lines Places refl

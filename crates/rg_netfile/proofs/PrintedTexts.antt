@@ -1,14 +1,15 @@
 -- The text of a net spells that net.
-use Rattle.std.proofs.Common.{◌≡◌, ℕ, zero, suc, ◌<◌, ◌≤◌, ◌^◌, inl, true, List, [], ◌∷◌, ◌++◌, length, map, get_or, All, refl, sym, ap, subst, ◌∙◌, arith, append-nil}
+use Rattle.std.proofs.Common.{◌≡◌, ℕ, zero, suc, ◌<◌, ◌≤◌, ◌^◌, ◌⊎◌, inl, inr, true, List, [], ◌∷◌, ◌++◌, length, map, codes, get_or, All, refl, sym, ap, subst, ◌∙◌, arith, append-nil}
 use Rattle.std.specs.List.{range_with_len}
 use Rattle.std.proofs.lemmas.List.{length-map}
 use Rattle.std.proofs.lemmas.List.FromFn.{get_or-map-range_with_len, length-range_with_len}
 use Rattle.std.proofs.lemmas.List.Elements.{All-map, All-weaker}
 use Rattle.rg_text.specs.Byte.{IsName}
+use Rattle.rg_text.specs.Line.{fed}
 use Rattle.rg_theory.specs.System.{System, labels}
 use Rattle.rg_theory.specs.Net.{Place, Net, pre_weight, post_weight}
 use Rattle.rg_lexer.specs.Lexeme.{Lexeme}
-use Rattle.rg_lexer.proofs.Printed.{reads_lexemes}
+use Rattle.rg_lexer.proofs.Printed.{reads_lexemes, literal_name}
 use Rattle.rg_lts.specs.WellFormed.{IsWellFormed}
 use Rattle.rg_grammar.specs.Entry.{Entry}
 use Rattle.rg_grammar.proofs.Printed.{bare, lexeme_text}
@@ -21,7 +22,7 @@ use Rattle.rg_net_grammar.specs.Contents.{Transition, Declared, declared, label_
 use Rattle.rg_netfile.specs.Contents.{most_places}
 use Rattle.rg_netfile.specs.Spells.{Spells}
 use Rattle.rg_netfile.proofs.PlaceNames.{prefix_is, place_name_is}
-use Rattle.rg_netfile.proofs.NetTexts.{IsPrintable, TypeSection, reads_net}
+use Rattle.rg_netfile.proofs.NetTexts.{IsPrintable, TypeSection, typed_lines, reads_net}
 use Rattle.rg_netfile.proofs.PrintedFaults.{label_of}
 use Rattle.rg_netfile.proofs.PrintedNets.{Declares, names_of, declares_none, declares_net}
 
@@ -54,8 +55,12 @@ record AreItemsOfNet (q : List ℕ) (lts : System) (net : Net) (xs : List Lexeme
   are : AreItems items xs
   declares : Declares q lts net (declared items)
 
-items_of : (q : List ℕ) (lts : System) (net : Net) (xs : List Lexeme) → TypeSection q net lts.label_names xs → AreItemsOfNet q lts net xs
-items_of q lts net xs (type_word, after_type, type_kind, type_text, (name, after_name, name_kind, name_text, (place_word, after_places, place_kind, place_text, places, whole₂), whole₁), whole₀) =
+-- the types of nets that a file may name
+abbrev pub IsTypeOfNets : List ℕ → Type 0
+IsTypeOfNets type = (type ≡ codes "PN") ⊎ (type ≡ codes "LPN")
+
+items_of : (type q : List ℕ) (lts : System) (net : Net) (xs : List Lexeme) → IsTypeOfNets type → TypeSection type q net lts.label_names xs → AreItemsOfNet q lts net xs
+items_of type q lts net xs typed (type_word, after_type, type_kind, type_text, (name, after_name, name_kind, name_text, (place_word, after_places, place_kind, place_text, places, whole₂), whole₁), whole₀) =
     let transitions = places.rest in
     let flows = transitions.4.rest in
     let marking = flows.4.rest in
@@ -84,7 +89,7 @@ items_of q lts net xs (type_word, after_type, type_kind, type_text, (name, after
       are = (
         type_word ∷ name ∷ [],
         second,
-        (type_word, (type_kind, type_text), (name_kind, inl name_text), refl),
+        (type_word, (type_kind, type_text), (name_kind, subst IsTypeOfNets (sym name_text) typed), refl),
         (
           place_word ∷ places.named,
           third,
@@ -135,7 +140,7 @@ weight_below [] t all = omega arith
 weight_below (w ∷ ws) zero all = all 0 0 (omega arith)
 weight_below (w ∷ ws) (suc t) all = weight_below ws t (λ k d lt. all (suc k) d (omega arith))
 
-printable : (net : Net) → IsNetInRange net → IsPrintable net
+pub printable : (net : Net) → IsNetInRange net → IsPrintable net
 printable net range = record {
   few = omega (arith, range.few);
   pre = λ t. small_weights net range (λ p. pre_weight p t) (λ p in'. weight_below p.pre t in'.pre);
@@ -143,22 +148,31 @@ printable net range = record {
   start = small_weights net range (λ p. p.start) (λ p in'. in'.start);
 }
 
-place_names_are : (q : List ℕ) (n : ℕ) → ((i : ℕ) → i < n → IsName (place_name q i)) → All IsName (names_of q n)
+pub place_names_are : (q : List ℕ) (n : ℕ) → ((i : ℕ) → i < n → IsName (place_name q i)) → All IsName (names_of q n)
 place_names_are q n each = λ k d lt.
     let less : k < n = omega (arith, length-map (range_with_len 0 n) (place_name q), length-range_with_len 0 n) in
     subst IsName (sym (get_or-map-range_with_len (place_name q) 0 n k k d less (omega arith))) (each k less)
 
-pub printed_spelled : (net : Net) (lts : System) → IsWellFormed lts → net.labels ≡ labels lts → IsNetInRange net → length net.places ≤ most_places
-    → Spells (net_text net lts) lts net
-printed_spelled net lts formed same range few =
+-- the lines of the net for the system, of one type or the other, spell it
+pub lines_spelled : (type : List ℕ) (net : Net) (lts : System) → IsTypeOfNets type → IsWellFormed lts → net.labels ≡ labels lts → IsNetInRange net → length net.places ≤ most_places
+    → Spells (fed (typed_lines type (place_prefix lts.label_names) net lts.label_names)) lts net
+lines_spelled type net lts typed formed same range few =
     let q = place_prefix lts.label_names in
     let prefix = prefix_is lts.label_names in
-    let read = reads_lexemes (net_text net lts) (TypeSection q net lts.label_names)
-    (reads_net q net lts.label_names prefix (printable net range) formed.label_names.each
+    let read = reads_lexemes (fed (typed_lines type q net lts.label_names)) (TypeSection type q net lts.label_names)
+    (reads_net type q net lts.label_names (name_of typed) prefix (printable net range) formed.label_names.each
     (place_names_are q (length net.places) (λ i lt. place_name_is q i prefix (omega (arith, few))))) in
-    let items = items_of q lts net read.0 read.2 in (
+    let items = items_of type q lts net read.0 typed read.2 in (
       items.items,
       (read.0, read.1, items.are),
       declares_none q lts net (declared items.items) formed same range few items.declares,
       declares_net q lts net (declared items.items) formed same range few items.declares,
     )
+  where
+    name_of : IsTypeOfNets type → IsName type
+    name_of (inl e) = subst IsName (sym e) (literal_name (codes "PN") (omega arith) (omega arith) refl)
+    name_of (inr e) = subst IsName (sym e) (literal_name (codes "LPN") (omega arith) (omega arith) refl)
+
+pub printed_spelled : (net : Net) (lts : System) → IsWellFormed lts → net.labels ≡ labels lts → IsNetInRange net → length net.places ≤ most_places
+    → Spells (net_text net lts) lts net
+printed_spelled net lts = lines_spelled (codes "PN") net lts (inl refl)

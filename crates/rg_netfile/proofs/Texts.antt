@@ -1,12 +1,12 @@
 -- The lines of a net that are left, and its text whole, with any first line and any lines of transitions.
-use Rattle.std.proofs.Common.{◌≡◌, ℕ, suc, ◌+◌, List, [], ◌∷◌, ◌++◌, Some, slice_get, length, map, drop, codes, refl, sym, ap, ◌∙◌, append_assoc}
+use Rattle.std.proofs.Common.{◌≡◌, ℕ, suc, ◌+◌, List, [], ◌∷◌, ◌++◌, Some, slice_get, length, map, drop, codes, sym, ap, ◌∙◌, append_assoc}
 use Rattle.std.specs.List.{range_with_len}
 use Rattle.rg_text.specs.Line.{fed}
 use Rattle.std.proofs.lemmas.Option.{get_or_from_slice_get}
 use Rattle.rg_theory.specs.System.{System}
 use Rattle.rg_theory.specs.Net.{Net}
 use Rattle.rg_text.proofs.Grown.{after, first_left, line_left, fed-append}
-use Rattle.rg_net.specs.NetText.{place_name, set_text, flow_line, flow_lines, starts, net_lines}
+use Rattle.rg_net.specs.NetText.{place_name, set_text, flow_line, flow_lines, starts}
 use Rattle.rg_netfile.specs.LabelledTexts.{lines_with, labelled_line, labelled_lines, named_labels}
 
 pub place_left : (prefix : List ℕ) (i m n : ℕ) → n ≡ suc m
@@ -50,11 +50,6 @@ parts_with head first transitions prefix net names heads =
     ∙ ap (λ l. head ++ l) (fed-append (map (place_name prefix) (range_with_len 0 (length net.places))) _
     ∙ ap (λ l. place_lines prefix (length net.places) ++ (codes ".transitions\n" ++ l)) (fed-append transitions _
     ∙ ap (λ l. fed transitions ++ (codes ".flows\n" ++ l)) (fed-append (flow_lines prefix net 0 names) _)))
-
-pub text_parts : (prefix : List ℕ) (net : Net) (names : List (List ℕ)) → fed (net_lines prefix net names)
-    ≡ codes ".type PN\n.places\n" ++ (place_lines prefix (length net.places) ++
-    (codes ".transitions\n" ++ (fed names ++ (codes ".flows\n" ++ (flows_of prefix net names ++ marking_of prefix net)))))
-text_parts prefix net names = parts_with (codes ".type PN\n.places\n") (codes ".type PN") names prefix net names (λ more. refl)
 
 -- a text that grows by these pieces is that of the net
 pub whole_text : (head first : List ℕ) (transitions : List (List ℕ)) (prefix p q r : List ℕ) (count : ℕ) (net : Net) (names : List (List ℕ)) (t₀ t₁ t₂ t₃ t₄ t₅ t₆ t₇ : List ℕ)

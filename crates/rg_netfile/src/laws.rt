@@ -6,9 +6,12 @@ ghost use Rattle.rg_lts.specs.WellFormed.{IsWellFormed};
 ghost use Rattle.rg_net.specs.NetText.{net_text};
 ghost use Rattle.rg_net.specs.Range.{IsNetInRange};
 ghost use Rattle.rg_netfile.specs.Contents.{most_places};
+ghost use Rattle.rg_netfile.specs.LabelledTexts.{IsLabelledNet, labelled_text, without_options};
 ghost use Rattle.rg_netfile.specs.declared.fault.NetFault.{NetFault};
 ghost use Rattle.rg_netfile.specs.declared.fault.NetFault.TheVariants.{NoMemory};
 ghost use Rattle.rg_netfile.specs.Spells.{Spells, FirstFault};
+
+use rg_net::net_is_told;
 
 /// A text spells a net for a system or has a first fault, never both and never two.
 pub fn one_answer()
@@ -22,6 +25,21 @@ pub fn one_answer()
 pub fn printed_is_spelled()
     ensures { (net : Net) (lts : System) → IsWellFormed lts → net.labels ≡ labels lts → IsNetInRange net → length net.places ≤ most_places
         → Spells (net_text net lts) lts net }
+{}
+
+/// Two labelled nets for one system with the same text are the same net with the same labels.
+pub fn labelled_net_is_told()
+    ensures { (system : System) (a b : Net) (names others : List (List ℕ)) → IsWellFormed system → IsLabelledNet system a names → IsLabelledNet system b others
+        → labelled_text a system names ≡ labelled_text b system others → (a ≡ b) × (names ≡ others) }
+{
+    net_is_told();
+}
+
+/// The text of a labelled net with at most 16,384 places, as `print_labelled` writes it, without what is in brackets
+/// spells the net for the system whose labels are the transitions.
+pub fn labelled_net_is_spelled()
+    ensures { (system : System) (net : Net) (names : List (List ℕ)) → IsWellFormed system → IsLabelledNet system net names → length net.places ≤ most_places
+        → Spells (without_options (labelled_text net system names)) system net }
 {}
 
 /// A net that a text spells for a system has the system's labels, and no text has want of memory as its first fault.

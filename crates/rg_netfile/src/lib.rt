@@ -20,7 +20,10 @@ mod whole;
 
 pub use fault::NetFault;
 pub use labelled::print_labelled;
-pub use laws::{one_answer, printed_is_spelled, spelled_is_for_the_system};
+pub use laws::{
+    labelled_net_is_spelled, labelled_net_is_told, one_answer, printed_is_spelled,
+    spelled_is_for_the_system,
+};
 pub use print::print_net;
 pub use rg_memory::NoMemory;
 pub use whole::read_net;
