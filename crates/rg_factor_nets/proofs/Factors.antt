@@ -14,8 +14,9 @@ use Rattle.rg_lts.specs.WellFormed.{IsWellFormed}
 use Rattle.rg_net.specs.Range.{IsNetInRange}
 use Rattle.rg_product.specs.Product.{Factor, IsFactorAt, name_at, AreInRange, Product}
 use Rattle.rg_product.specs.Factoring.{IsFactoring, IsFactoring.of_factors, Factoring.factors as of_all}
-use Rattle.rg_product.specs.Beside.{places_beside, net_beside}
+use Rattle.rg_product.specs.Beside.{places_beside, net_beside, IsIrredundant}
 use Rattle.rg_product.proofs.Narrowing.{no_net_above}
+use Rattle.rg_product.proofs.Needed.{beside_irredundant}
 use Rattle.rg_product.proofs.OneFactoring.{factors_in_range}
 use Rattle.rg_product.proofs.Widening.{zip_at, zip_from, beside_solves, beside_bounded}
 use Rattle.rg_factor.specs.Places.{HasFewPlaces}
@@ -82,6 +83,7 @@ module _ (lts : System) (fine : IsWellFormed lts) (reachable : IsAllReachable lt
   beside class nets net zip is in_range =
       let each = zip_from (IsNetOf class) (λ (f : Factor) (n : Net). Solves n f.lts × InClass n class) fs nets zip (λ i f n at (out, right). (right.solves, right.in_class)) in
       let small = zip_from (IsNetOf class) (λ (f : Factor) (n : Net). Solves n f.lts × IsBounded n greatest) fs nets zip (λ i f n at (out, right). (right.solves, right.narrow)) in
+      let needed = zip_from (IsNetOf class) (λ (f : Factor) (n : Net). Solves n f.lts × IsIrredundant n f.lts) fs nets zip (λ i f n at (out, right). (right.solves, right.irredundant)) in
       let both = beside_solves lts fs tuples fine.in_range inside product class nets each reachable in
       record {
         nets = nets;
@@ -90,6 +92,7 @@ module _ (lts : System) (fine : IsWellFormed lts) (reachable : IsAllReachable lt
         in_range = in_range;
         solves = subst (λ n. Solves n lts) (sym is) both.0;
         in_class = subst (λ n. InClass n class) (sym is) both.1;
+        irredundant = subst (λ n. IsIrredundant n lts) (sym is) (beside_irredundant lts fs tuples fine.in_range inside product reachable nets needed);
         narrow = subst (λ n. IsBounded n greatest) (sym is) (beside_bounded lts fs tuples greatest nets fine.in_range inside product reachable small);
       }
 

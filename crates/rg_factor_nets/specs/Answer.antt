@@ -13,7 +13,7 @@ use Rattle.rg_cert_data.specs.Certificates.{reason_of}
 use Rattle.rg_case_folds.specs.Shown.{ShownWide}
 use Rattle.rg_outcome.specs.Outcome.{Out, Answer.net as of_net, Answer.unsolvable as of_reason, Answer.too_wide as of_term}
 use Rattle.rg_product.specs.Product.{Factor, IsFactorAt}
-use Rattle.rg_product.specs.Beside.{net_beside}
+use Rattle.rg_product.specs.Beside.{net_beside, IsIrredundant}
 use Rattle.rg_separate.specs.View.{shown_of}
 use Rattle.rg_cert_data.specs.declared.wide_at.WideAt.{WideAt}
 use Rattle.rg_synth.specs.Answer.{IsOpen, IsSolvingNet, IsRightCertificate}
@@ -46,8 +46,8 @@ pub record IsBehindNets (class : Class) (fs : List Factor) (i : ℕ) (f : Factor
 abbrev pub IsNetOf : Class → Factor → Net → Type 0
 IsNetOf class f net = Out f.lts class (of_net net.places) × IsSolvingNet f.lts class net
 
--- the net is that of the nets of all factors, side by side: it is of the class and solves the system, and no number of it or of a reachable
--- marking is above 2^127 - 1
+-- the net is that of the nets of all factors, side by side: it is of the class and solves the system, and without any one of its places
+-- doesn't; no number of it or of a reachable marking is above 2^127 - 1
 pub record IsNetBeside (class : Class) (lts : System) (fs : List Factor) (net : Net) : Type 0 where
   pub nets : List Net
   pub each : AllZip (IsNetOf class) fs nets
@@ -55,6 +55,7 @@ pub record IsNetBeside (class : Class) (lts : System) (fs : List Factor) (net : 
   pub in_range : IsNetInRange net
   pub solves : Solves net lts
   pub in_class : InClass net class
+  pub irredundant : IsIrredundant net lts
   pub narrow : IsBounded net greatest
 
 -- the certificate is the answer for the first factor whose answer is no net, and it is right; so no net of the class solves the system
