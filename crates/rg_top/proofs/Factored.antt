@@ -25,7 +25,7 @@ use Rattle.rg_product.specs.Squares.{IsBroken}
 use Rattle.rg_product.specs.Blocks.{IsOneBlock}
 use Rattle.rg_product.specs.Product.{Factor, IsFactorAt, Product}
 use Rattle.rg_product.specs.Factoring.{factors, one_block, IsFactoring, IsFactoring.of_one_block, IsFactoring.of_factors}
-use Rattle.rg_product.specs.Beside.{net_beside}
+use Rattle.rg_product.specs.Beside.{net_beside, IsIrredundant}
 use Rattle.rg_product.proofs.ProductSquares.{joined_is_one_block, one_block_no_product}
 use Rattle.rg_factor_nets.specs.Answer.{IsNetBeside as IsMadeOfNets, IsCertificateOfFactor, IsTermOfFactor}
 use Rattle.rg_cert_data.specs.declared.wide_at.WideAt.{WideAt}
@@ -94,6 +94,7 @@ nets_end class lts fs tuples net out formed are made text =
       in_range = in_range;
       solves = subst (λ (n : Net). Solves n lts) made.is made.solves;
       in_class = subst (λ (n : Net). InClass n class) made.is made.in_class;
+      irredundant = subst (λ (n : Net). IsIrredundant n lts) made.is made.irredundant;
       narrow = subst (λ (n : Net). IsBounded n greatest) made.is made.narrow;
       text = told;
       spelled = λ few. subst (λ bytes. NetSpells bytes lts beside) (sym told) (printed_spelled beside lts formed refl in_range few);

@@ -3,6 +3,9 @@ use Rattle.std.proofs.Common.{Vec, Global, ◌≡◌, ◌⊎◌, inl, inr, ℕ, 
 use Rattle.rg_theory.specs.System.{System}
 use Rattle.rg_theory.specs.Net.{Place, Net}
 use Rattle.rg_lts.specs.WellFormed.{IsWellFormed}
+use Rattle.rg_netfile.specs.LabelledTexts.{named_labels, without_options}
+use Rattle.rg_netfile.specs.Spells.{Spells as NetSpells}
+use Rattle.rg_netfile.proofs.LabelledNets.{labelled_spelled, named_net}
 use Rattle.rg_apt.specs.Spells.{Spells}
 use Rattle.rg_apt.proofs.PlainTexts.{printed_spelled}
 use Rattle.rg_case_folds.specs.Shown.{Shown}
@@ -55,10 +58,18 @@ solved_by lts system old numbers net formed same result =
     })
 
 -- the text that is asked for of what is solved
-pub solved_ends : (lts : System) (now : rounds.Labelling) (net : Net) (wanted : SplitOutput) (out : List ℕ)
+pub solved_ends : (lts : System) (now : rounds.Labelling) (net : Net) (wanted : SplitOutput) (out : List ℕ) → IsWellFormed lts
     → IsSolvedBy lts now net → out ≡ solved_text lts now net wanted → SplitEnds lts wanted (says_yes out)
-solved_ends lts now net output.Net out solved is = a_net out (record { now = now; net = net; solved = solved; text = is })
-solved_ends lts now net output.System out solved is = a_system out (record {
+solved_ends lts now net output.Net out formed solved is = a_net out (record {
+  now = now;
+  net = net;
+  solved = solved;
+  text = is;
+  spelled = λ few. subst (λ bytes. NetSpells (without_options bytes) now.system net) (sym is)
+      (labelled_spelled now.system solved.apart.formed net (named_labels lts now.old)
+      (named_net lts now.system net now.old formed solved.right.solves.transitions solved.right.in_range solved.labelled.transitions solved.labelled.within) few);
+})
+solved_ends lts now net output.System out formed solved is = a_system out (record {
   now = now;
   net = net;
   solved = solved;

@@ -1,9 +1,9 @@
 -- How `factor FILE [--class CLASS]` ends where FILE spells a system.
-use Rattle.std.specs.Prelude.{◌≡◌, ℕ, ◌<◌, ◌≤◌, List, ◌++◌, length, Option, None, Some}
+use Rattle.std.specs.Prelude.{◌≡◌, ℕ, ◌≤◌, List, ◌++◌, length, Option, None, Some}
 use Rattle.std.specs.List.{AllZip}
 use Rattle.rg_integers.specs.Range.{greatest}
 use Rattle.rg_theory.specs.System.{System}
-use Rattle.rg_theory.specs.Net.{Place, Net}
+use Rattle.rg_theory.specs.Net.{Net}
 use Rattle.rg_theory.specs.Solves.{Solves}
 use Rattle.rg_theory.specs.declared.Class.{Class}
 use Rattle.rg_theory.specs.Class.{IsBounded, InClass, NoNet}
@@ -15,15 +15,15 @@ use Rattle.rg_netfile.specs.Contents.{most_places}
 use Rattle.rg_netfile.specs.Spells.{Spells as NetSpells}
 use Rattle.rg_cert_meaning.specs.Refutes.{Reason}
 use Rattle.rg_case_folds.specs.Shown.{Shown}
-use Rattle.rg_outcome.specs.Outcome.{Out, Answer.net as of_net, Answer.unsolvable as of_reason, Answer.too_wide as of_term}
+use Rattle.rg_outcome.specs.Outcome.{Out, Answer.unsolvable as of_reason, Answer.too_wide as of_term}
 use Rattle.rg_product.specs.declared.Broken.{Broken}
 use Rattle.rg_product.specs.Product.{Factor, IsFactorAt, Product, IsIndivisible}
 use Rattle.rg_product.specs.Factoring.{factors, one_block, fewer, IsFactoring}
-use Rattle.rg_product.specs.Beside.{net_beside}
+use Rattle.rg_product.specs.Beside.{net_beside, IsIrredundant}
 use Rattle.rg_factor_nets.specs.Answer.{HasNet, IsBehindNets, IsNetOf}
 use Rattle.rg_separate.specs.View.{shown_of}
 use Rattle.rg_cert_data.specs.declared.wide_at.WideAt.{WideAt}
-use Rattle.rg_synth.specs.Answer.{IsOpen, IsSolvingNet}
+use Rattle.rg_synth.specs.Answer.{IsOpen}
 use Rattle.rg_messages.specs.FlawTexts.{flaw_line}
 use Rattle.rg_messages.specs.FactorTexts.{one_block_text, sizes_line, factors_text, unsolvable_factor_line}
 use Rattle.rg_messages.specs.declared.wide.WideCause.TheVariants as cause
@@ -39,8 +39,9 @@ pub record AreFactorsOf (lts : System) (fs : List Factor) (tuples : List (List �
   pub factoring : IsFactoring lts (factors fs tuples)
   pub product : Product lts fs tuples
 
--- the bytes are the text of the nets of all factors side by side: of a net of the class that solves the system. No number of it or of a
--- reachable marking is above 2^127 - 1, and the bytes are read as that net where a net file may have so many places
+-- the bytes are the text of the nets of all factors side by side: of a net of the class that solves the system, and without any one of its
+-- places doesn't. No number of it or of a reachable marking is above 2^127 - 1, and the bytes are read as that net where a net file may have
+-- so many places
 pub record IsNetBeside (class : Class) (lts : System) (out : List ℕ) : Type 0 where
   pub fs : List Factor
   pub tuples : List (List ℕ)
@@ -50,6 +51,7 @@ pub record IsNetBeside (class : Class) (lts : System) (out : List ℕ) : Type 0 
   pub in_range : IsNetInRange (net_beside lts fs nets)
   pub solves : Solves (net_beside lts fs nets) lts
   pub in_class : InClass (net_beside lts fs nets) class
+  pub irredundant : IsIrredundant (net_beside lts fs nets) lts
   pub narrow : IsBounded (net_beside lts fs nets) greatest
   pub text : out ≡ net_text (net_beside lts fs nets) lts
   pub spelled : length (net_beside lts fs nets).places ≤ most_places → NetSpells out lts (net_beside lts fs nets)

@@ -1,5 +1,5 @@
 -- How `split FILE` ends where FILE spells a system.
-use Rattle.std.specs.Prelude.{◌≡◌, ℕ, List}
+use Rattle.std.specs.Prelude.{◌≡◌, ℕ, ◌≤◌, List, length}
 use Rattle.rg_theory.specs.System.{System, labels, IsLeastUnreachable}
 use Rattle.rg_theory.specs.Limits.{most_labels}
 use Rattle.rg_checks.specs.declared.flaw.Flaw.TheVariants.{Unreachable}
@@ -7,7 +7,9 @@ use Rattle.rg_theory.specs.Net.{Place, Net}
 use Rattle.rg_theory.specs.Solves.{Solves}
 use Rattle.rg_theory.specs.Class.{NoNet}
 use Rattle.rg_theory.specs.ClassWords.{no_condition}
-use Rattle.rg_netfile.specs.LabelledTexts.{named_labels, labelled_text}
+use Rattle.rg_netfile.specs.Contents.{most_places}
+use Rattle.rg_netfile.specs.LabelledTexts.{named_labels, labelled_text, without_options}
+use Rattle.rg_netfile.specs.Spells.{Spells as NetSpells}
 use Rattle.rg_apt.specs.Plain.{lts_text}
 use Rattle.rg_apt.specs.Spells.{Spells}
 use Rattle.rg_cert_meaning.specs.Refutes.{Reason}
@@ -41,12 +43,13 @@ pub record IsSolvedBy (lts : System) (now : Labelling) (net : Net) : Type 0 wher
 abbrev pub labelled_net_text : System → Labelling → Net → List ℕ
 labelled_net_text lts now net = labelled_text net now.system (named_labels lts now.old)
 
--- the bytes are that text of a net
+-- the bytes are that text of a net, and without what is in brackets they are read as that net where a net file may have so many places
 pub record IsLabelledText (lts : System) (out : List ℕ) : Type 0 where
   pub now : Labelling
   pub net : Net
   pub solved : IsSolvedBy lts now net
   pub text : out ≡ labelled_net_text lts now net
+  pub spelled : length net.places ≤ most_places → NetSpells (without_options out) now.system net
 
 -- the bytes are the text of the system with its labels split, and are read as it
 pub record IsSplitText (lts : System) (out : List ℕ) : Type 0 where

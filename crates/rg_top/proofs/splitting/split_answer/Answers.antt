@@ -28,7 +28,7 @@ returns-in-Done g c =
     let solved = solved_by lts found.system found.old numbers found.net c.is_well_formed.ensures c.deref.ensures.value
     (result_is lts c.in_ok-system.field-0 (of.Done found.system found.old found.net) found.is c.in_ok-system.ensures.outcome c.in_ok-system.ensures.says) in
     let made = c.in_ok-text-in-Done in
-    solved_ends lts (labelling found.system numbers) found.net c.args.output made.text.items solved made.ensures
+    solved_ends lts (labelling found.system numbers) found.net c.args.output made.text.items c.is_well_formed.ensures solved made.ensures
 
 pub returns-in-Unreachable : goal.returns-in-Unreachable
 returns-in-Unreachable g c =
