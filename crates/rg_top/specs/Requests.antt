@@ -1,5 +1,5 @@
 -- What the parts of the answer say. Contracts of the crate's private functions cite it.
-use Rattle.std.specs.Prelude.{◌≡◌, ◌⊎◌, ◌++◌, ℕ, Bool, List, Option, None, Some, option_map, Ok, Err}
+use Rattle.std.specs.Prelude.{◌≡◌, ◌⊎◌, ◌++◌, ℕ, Bool, List, Option, None, Some, option_map, Result, Ok, Err}
 use Rattle.std.specs.Option.{option_to_list}
 use Rattle.rg_text.specs.Limits.{most_bytes}
 use Rattle.rg_ports.specs.Calls.{LastCall, ReadsFile}
@@ -24,15 +24,17 @@ use Rattle.rg_messages.specs.CheckedTexts.{yes_line, no_line}
 use Rattle.rg_messages.specs.JudgedTexts.{accepted_line, refused_line}
 use Rattle.rg_messages.specs.declared.fault.Fault.{Fault}
 use Rattle.rg_top.specs.Check.{IsNetFault}
-use Rattle.rg_top.specs.Second.{second_fault}
+use Rattle.rg_top.specs.Second.{first_fault, second_fault}
 use Rattle.rg_top.specs.Verify.{IsRefusedFor}
-use Rattle.rg_top.specs.Run.{Writes, Takes, Breaks, AsksFiles, ReadsFiles}
+use Rattle.rg_top.specs.Run.{Writes, Takes, Breaks, AsksFiles, Cause, is_refused, lacks_memory, ReadsFiles}
 use Rattle.rg_top.specs.End.{End, says_yes, says_no, refuses_words, refuses_file, shows_term, to_out, to_err, output_of, HasStatus}
 use Rattle.rg_top.specs.Terms.{of_check, term_of}
 use Rattle.rg_top.specs.declared.status.Status.{Status}
 use Rattle.rg_top.specs.declared.status.Status.TheVariants.{WriteFault}
 use Rattle.rg_top.specs.declared.answer.Answer.{Answer}
 use Rattle.rg_top.specs.declared.answer.Answer.TheVariants as answer
+use Rattle.rg_top.specs.declared.answer.Stop.{Stop}
+use Rattle.rg_top.specs.declared.answer.Stop.TheVariants as stop
 use Rattle.rg_top.specs.declared.output.Output.{Output}
 use Rattle.rg_top.specs.declared.output.Output.TheVariants as output
 
@@ -58,9 +60,16 @@ abbrev pub AsksOf : Option Files → Request (List ℕ) → Option (List (List �
 AsksOf files (OfSystem work file form) before after = AsksFiles files work file form before after
 AsksOf files _ before after = after ≡ before
 
-abbrev pub ReadsOf : {S : Type 0} (finds : S → List ℕ → Option Bool → S → Type 0) (hands : S → ℕ → Option ℕ → S → Type 0) → Option Files → Request (List ℕ) → S → S → Type 0
-ReadsOf finds hands files (OfSystem work file form) s t = ReadsFiles finds hands files work file form s t
-ReadsOf finds hands files _ s t = t ≡ s
+abbrev pub ReadsOf : {S : Type 0} (finds : S → List ℕ → Option Bool → S → Type 0) (hands : S → ℕ → Option ℕ → S → Type 0)
+    → Option Files → Request (List ℕ) → (Cause → Type 0) → S → S → Type 0
+ReadsOf finds hands files (OfSystem work file form) may_have s t = ReadsFiles finds hands files work file form may_have s t
+ReadsOf finds hands files _ may_have s t = t ≡ s
+
+-- what is answered, if anything, has the cause: the answer refuses the first file for the fault, or there was no memory
+abbrev pub HasCause : Result Answer Stop → Cause → Type 0
+HasCause (Ok answer) (is_refused fault) = end_of answer ≡ refuses_file (first_fault fault)
+HasCause (Err stop.NoMemory) lacks_memory = Unit {0}
+HasCause _ _ = ⊥
 
 -- the request is for work on the system of a file
 abbrev pub IsOfFile : Request (List ℕ) → Type 0

@@ -1,5 +1,5 @@
 -- What is seen of one run, and how it may end.
-use Rattle.std.specs.Prelude.{◌≡◌, ◌⊎◌, ℕ, ◌<◌, Bool, true, false, List, [], ◌∷◌, ◌++◌, length, Option, option_map, IsSome}
+use Rattle.std.specs.Prelude.{◌≡◌, ◌≢◌, ◌⊎◌, ℕ, ◌<◌, Bool, true, false, List, [], ◌∷◌, ◌++◌, length, Option, option_map, IsSome}
 use Rattle.rg_text.specs.Limits.{most_bytes}
 use Rattle.rg_ports.specs.Calls.{LastCall, finds_end, ReadsFile}
 use Rattle.rg_ports.specs.Count.{HasRisen}
@@ -12,13 +12,15 @@ use Rattle.rg_commands.specs.declared.request.Work.{Work}
 use Rattle.rg_commands.specs.Requests.{file_words}
 use Rattle.rg_commands.specs.Says.{Ask}
 use Rattle.rg_commands.specs.declared.forms.Form.{Form}
-use Rattle.rg_top.specs.Given.{IsSystemFile}
+use Rattle.rg_messages.specs.declared.fault.Fault.{Fault}
+use Rattle.rg_top.specs.Given.{IsNoSystem, IsSystemFile}
+use Rattle.rg_top.specs.Second.{first_fault}
 use Rattle.rg_top.specs.Ends.{Answers}
 use Rattle.rg_top.specs.Due.{IsDue, IsPassed}
 use Rattle.rg_top.specs.End.{End, Output, to_out, to_err, output_of, HasStatus}
 use Rattle.rg_top.specs.Terms.{Term, term_of, ShowsTerm}
 use Rattle.rg_top.specs.declared.status.Status.{Status}
-use Rattle.rg_top.specs.declared.status.Status.TheVariants.{TooWide, ReadFault, WriteFault, NoMemory}
+use Rattle.rg_top.specs.declared.status.Status.TheVariants.{File, TooWide, ReadFault, WriteFault, NoMemory}
 
 -- a value before the run and after it
 pub record Change (A : Type 0) : Type 0 where
@@ -134,19 +136,37 @@ abbrev pub AsksAtMost : List (List ℕ) → Option Files → Option (List (List 
 AsksAtMost words files before after =
     (after ≡ before) ⊎ ((work : Work (List ℕ)) × (file : List ℕ) × (form : Form) × Ask words (OfSystem work file form) × AsksFiles files work file form before after)
 
--- the calls that read the system's file, each handing out at most one byte more than a file may have, and after them, where its end was found and it spells a system, those that read the second
--- one
+-- why a second file that is named isn't read after the end of the first was found: the first is refused for this fault, or memory ran out
+pub data Cause : Type 0 where
+  is_refused : Fault → Cause
+  lacks_memory : Cause
+
+-- a run that ends with the status may have that cause: the refusal is written or breaks off, or there was no memory
+abbrev pub MayHaveCause : Status → Cause → Type 0
+MayHaveCause (File found) (is_refused fault) = found ≡ first_fault fault
+MayHaveCause WriteFault (is_refused fault) = Unit {0}
+MayHaveCause NoMemory cause = Unit {0}
+MayHaveCause _ _ = ⊥
+
+-- the calls that read the system's file, each handing out at most one byte more than a file may have: they stop before its end is found; or the
+-- work names no other file, the file is refused, or memory ran out; or the file spells a system, and the second one is read
 pub data ReadsFiles {S : Type 0} (finds : S → List ℕ → Option Bool → S → Type 0) (hands : S → ℕ → Option ℕ → S → Type 0)
-    (files : Option Files) (work : Work (List ℕ)) (file : List ℕ) (form : Form) : S → S → Type 0 where
-  first_alone : (s t : S) (last : LastCall) → ReadsFile finds hands most_bytes file s last t → ReadsFiles finds hands files work file form s t
+    (files : Option Files) (work : Work (List ℕ)) (file : List ℕ) (form : Form) (may_have : Cause → Type 0) : S → S → Type 0 where
+  part : (s t : S) (last : LastCall) → last ≢ finds_end → ReadsFile finds hands most_bytes file s last t → ReadsFiles finds hands files work file form may_have s t
+  only_one : (s t : S) → ReadsFile finds hands most_bytes file s finds_end t → file_words (OfSystem work file form) ≡ file ∷ []
+      → ReadsFiles finds hands files work file form may_have s t
+  refused : (s t : S) (fault : Fault) → ReadsFile finds hands most_bytes file s finds_end t → IsNoSystem files form file fault → may_have (is_refused fault)
+      → ReadsFiles finds hands files work file form may_have s t
+  no_memory : (s t : S) → ReadsFile finds hands most_bytes file s finds_end t → may_have lacks_memory → ReadsFiles finds hands files work file form may_have s t
   both : (second : List ℕ) (s m t : S) (lts : System) (last : LastCall) → file_words (OfSystem work file form) ≡ file ∷ second ∷ []
       → ReadsFile finds hands most_bytes file s finds_end m → IsSystemFile files form file lts
-      → ReadsFile finds hands most_bytes second m last t → ReadsFiles finds hands files work file form s t
+      → ReadsFile finds hands most_bytes second m last t → ReadsFiles finds hands files work file form may_have s t
 
 -- no call of the shelf, or those that read the files that the words name; none after the end of a file was found
-abbrev pub ReadsAtMost : {S : Type 0} (finds : S → List ℕ → Option Bool → S → Type 0) (hands : S → ℕ → Option ℕ → S → Type 0) → List (List ℕ) → Option Files → S → S → Type 0
-ReadsAtMost finds hands words files s t =
-    (t ≡ s) ⊎ ((work : Work (List ℕ)) × (file : List ℕ) × (form : Form) × Ask words (OfSystem work file form) × ReadsFiles finds hands files work file form s t)
+abbrev pub ReadsAtMost : {S : Type 0} (finds : S → List ℕ → Option Bool → S → Type 0) (hands : S → ℕ → Option ℕ → S → Type 0)
+    → List (List ℕ) → Option Files → (Cause → Type 0) → S → S → Type 0
+ReadsAtMost finds hands words files may_have s t =
+    (t ≡ s) ⊎ ((work : Work (List ℕ)) × (file : List ℕ) × (form : Form) × Ask words (OfSystem work file form) × ReadsFiles finds hands files work file form may_have s t)
 
 -- a fault, or want of memory
 abbrev pub IsMishap : Status → Type 0

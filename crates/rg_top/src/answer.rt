@@ -4,7 +4,7 @@ ghost use Rattle.rg_ports.specs.Count.{HasRisen};
 ghost use Rattle.rg_lts.specs.WellFormed.{IsWellFormed};
 ghost use Rattle.rg_commands.specs.Requests.{named, named_work, second_file, HasBounds, HasWorkBounds};
 ghost use Rattle.rg_top.specs.Ends.{EndsOn, FileEnds, EndsOf, Answers};
-ghost use Rattle.rg_top.specs.Requests.{end_of, asked_more, ReadsMore, AsksOf, ReadsOf, IsOfFile};
+ghost use Rattle.rg_top.specs.Requests.{end_of, asked_more, ReadsMore, AsksOf, HasCause, ReadsOf, IsOfFile};
 ghost use Rattle.rg_top.specs.Run.{AsksAtMost, AsksFiles, ReadsAtMost, ReadsFiles, IsReadFault};
 ghost use Rattle.rg_top.specs.declared.answer.Stop.TheVariants as stop;
 
@@ -61,7 +61,7 @@ pub(crate) fn make_answer<R: Threads + Sync, H: Shelf, G: Gate + Sync>(
 ) -> Result<Answer, Stop>
     ensures files { H.files shelf.new ≡ H.files shelf.old }
     ensures asked { AsksAtMost (map string_bytes words.now) (H.files shelf.old) (H.asked shelf.old) (H.asked shelf.new) }
-    ensures reads { ReadsAtMost H.finds H.hands (map string_bytes words.now) (H.files shelf.old) shelf.old shelf.new }
+    ensures reads { ReadsAtMost H.finds H.hands (map string_bytes words.now) (H.files shelf.old) (HasCause result) shelf.old shelf.new }
     ensures says { IfOk result (λ a. Answers (map string_bytes words.now) (H.files shelf.old) (end_of a)) }
     ensures fault { IsErrOf result stop.ReadFault → IsReadFault (map string_bytes words.now) (record { before = H.faults shelf.old; after = H.faults shelf.new }) }
 {
@@ -83,7 +83,7 @@ fn request_answer<R: Threads + Sync, H: Shelf, G: Gate + Sync>(
     requires { HasBounds (named request) }
     ensures files { H.files shelf.new ≡ H.files shelf.old }
     ensures asked { AsksOf (H.files shelf.old) (named request.entry) (H.asked shelf.old) (H.asked shelf.new) }
-    ensures reads { ReadsOf H.finds H.hands (H.files shelf.old) (named request.entry) shelf.old shelf.new }
+    ensures reads { ReadsOf H.finds H.hands (H.files shelf.old) (named request.entry) (HasCause result) shelf.old shelf.new }
     ensures ok { IfOk result (λ a. EndsOf (H.files shelf.old) (named request.entry) (end_of a)) }
     ensures fault { IsErrOf result stop.ReadFault → IsOfFile (named request.entry) × HasRisen (H.faults shelf.old) (H.faults shelf.new) }
 {
@@ -109,7 +109,7 @@ fn file_answer<R: Threads + Sync, H: Shelf, G: Gate + Sync>(
     requires { HasWorkBounds (named_work work) }
     ensures files { H.files shelf.new ≡ H.files shelf.old }
     ensures asked { AsksFiles (H.files shelf.old) (named_work work.entry) file.now form (H.asked shelf.old) (H.asked shelf.new) }
-    ensures reads { ReadsFiles H.finds H.hands (H.files shelf.old) (named_work work.entry) file.now form shelf.old shelf.new }
+    ensures reads { ReadsFiles H.finds H.hands (H.files shelf.old) (named_work work.entry) file.now form (HasCause result) shelf.old shelf.new }
     ensures ok { IfOk result (λ a. FileEnds (H.files shelf.old) (named_work work.entry) file.now form (end_of a)) }
     ensures fault { IsErrOf result stop.ReadFault → HasRisen (H.faults shelf.old) (H.faults shelf.new) }
 {

@@ -1,6 +1,6 @@
 //! The files that the words name.
 ghost use Rattle.std.specs.Prelude.{◌≡◌, ◌≢◌, ℕ, ◌≤◌, length, IfOk, IfErr, IsErrOf};
-ghost use Rattle.rg_ports.specs.Calls.{LastCall, finds_end, ReadsFile};
+ghost use Rattle.rg_ports.specs.Calls.{LastCall, finds_end, fails, ReadsFile};
 ghost use Rattle.rg_ports.specs.Count.{HasRisen};
 ghost use Rattle.rg_ports.specs.Shelf.{asked_with};
 ghost use Rattle.rg_text.specs.Limits.{most_bytes};
@@ -35,6 +35,7 @@ pub(crate) fn read_bytes<H: Shelf>(
     ensures asked { H.asked shelf.new ≡ asked_with (H.asked shelf.old) name.now }
     ensures reads { (last : LastCall) × ReadsFile H.finds H.hands most_bytes name.now shelf.old last shelf.new }
     ensures whole { IfOk result (λ _. ReadsFile H.finds H.hands most_bytes name.now shelf.old finds_end shelf.new) }
+    ensures failed { IsErrOf result stop.Failed → ReadsFile H.finds H.hands most_bytes name.now shelf.old fails shelf.new }
     ensures ok { IfOk result (λ bytes. IsFile (H.files shelf.old) name.now bytes.items) }
     ensures refused { (fault : Fault) → IsErrOf result (stop.Refused fault) → IsUnread (H.files shelf.old) name.now fault }
     ensures never_falls { H.faults shelf.old ≤ H.faults shelf.new }
@@ -60,6 +61,7 @@ pub(crate) fn read_system<H: Shelf>(
     ensures asked { H.asked shelf.new ≡ asked_with (H.asked shelf.old) name.now }
     ensures reads { (last : LastCall) × ReadsFile H.finds H.hands most_bytes name.now shelf.old last shelf.new }
     ensures whole { IfOk result (λ _. ReadsFile H.finds H.hands most_bytes name.now shelf.old finds_end shelf.new) }
+    ensures failed { IsErrOf result stop.Failed → ReadsFile H.finds H.hands most_bytes name.now shelf.old fails shelf.new }
     ensures ok { IfOk result (λ lts. IsSystemFile (H.files shelf.old) form name.now lts) }
     ensures refused { (fault : Fault) → IsErrOf result (stop.Refused fault) → IsNoSystem (H.files shelf.old) form name.now fault }
     ensures never_falls { H.faults shelf.old ≤ H.faults shelf.new }

@@ -2,7 +2,7 @@
 ghost use Rattle.std.specs.Prelude.{◌≡◌, map, string_bytes};
 ghost use Rattle.rg_top.specs.Requests.{IsWritten};
 ghost use Rattle.rg_top.specs.Terms.{Term};
-ghost use Rattle.rg_top.specs.Run.{Ends, seen, change, writes, AsksAtMost, ReadsAtMost, ComesIfDue, ComesIfPassed};
+ghost use Rattle.rg_top.specs.Run.{Ends, seen, change, writes, AsksAtMost, MayHaveCause, ReadsAtMost, ComesIfDue, ComesIfPassed};
 ghost use Rattle.rg_top.specs.declared.status.Status.{Status};
 
 use crate::answer::{Stop, make_answer};
@@ -23,10 +23,10 @@ use std::thread::Threads;
 /// such systems: a net with the verdict of `check`, or a certificate with the verdict of `verify`.
 ///
 /// A refusal of words or files, and a number out of range, is a line on `err`. The whole output is computed before
-/// the first write, and each write offers all that isn't taken yet. A file isn't read on once its end was found, and
-/// the second one is asked for only if the first spells a system. The problems of a system are solved by as many jobs
-/// as the words say, those of a self test by one, and the gate is entered and left for each number of a block of
-/// them.
+/// the first write, and each write offers all that isn't taken yet. A file isn't read on once its end was found. A
+/// second one that is named is asked for only if the first spells a system, and then always unless memory runs out.
+/// The problems of a system are solved by as many jobs as the words say, those of a self test by one, and the gate is
+/// entered and left for each number of a block of them.
 ///
 /// The status says how the run ended. `Ends` has the cause of each status, and `ComesIfDue` says that an expected
 /// status is returned. `synthesize` has one answer for the system and the class (`Out`, in `rg_outcome`): a net, a
@@ -47,7 +47,7 @@ pub fn run<R: Threads + Sync, H: Shelf, O: Sink, E: Sink, G: Gate + Sync>(
     ensures passed { (w : Term) → ComesIfPassed (map string_bytes words.now) (H.files shelf.old) w result }
     ensures files { H.files shelf.new ≡ H.files shelf.old }
     ensures asked { AsksAtMost (map string_bytes words.now) (H.files shelf.old) (H.asked shelf.old) (H.asked shelf.new) }
-    ensures reads { ReadsAtMost H.finds H.hands (map string_bytes words.now) (H.files shelf.old) shelf.old shelf.new }
+    ensures reads { ReadsAtMost H.finds H.hands (map string_bytes words.now) (H.files shelf.old) (MayHaveCause result) shelf.old shelf.new }
 {
     answers_are_one();
     let made = match make_answer(rt, alloc, words, shelf, gate) {

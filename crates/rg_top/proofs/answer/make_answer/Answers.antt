@@ -1,7 +1,7 @@
 use Rattle.std.proofs.Common.{map, string_bytes, subst}
 use Rattle.rg_commands.specs.Requests.{named}
 use Rattle.rg_commands.specs.Says.{AreRefused, IsStopOf}
-use Rattle.rg_top.specs.Requests.{end_of}
+use Rattle.rg_top.specs.Requests.{end_of, HasCause}
 use Rattle.rg_top.specs.Ends.{EndsOf, Answers, refused, asked}
 use Rattle.rg_top.specs.declared.answer.Answer.{Answer}
 use Rattle.rg_top.proofs.Asking.{asks_at_most, reads_at_most, read_fault}
@@ -23,8 +23,8 @@ returns-in-Ok-clause-asked g c =
 
 pub returns-in-Ok-clause-reads : goal.returns-in-Ok-clause-reads
 returns-in-Ok-clause-reads g c =
-    reads_at_most g.H.Shelf.finds g.H.Shelf.hands (map string_bytes c.args.words.now) (g.H.Shelf.files c.args.shelf.now) (named c.in-Ok.request) c.args.shelf.now c.request_answer.new.shelf
-    c.in-Ok.ensures.asks c.request_answer.ensures.reads
+    reads_at_most g.H.Shelf.finds g.H.Shelf.hands (map string_bytes c.args.words.now) (g.H.Shelf.files c.args.shelf.now) (named c.in-Ok.request) (HasCause c.request_answer.result) c.args.shelf.now
+    c.request_answer.new.shelf c.in-Ok.ensures.asks c.request_answer.ensures.reads
 
 pub returns-in-Ok-clause-fault : goal.returns-in-Ok-clause-fault
 returns-in-Ok-clause-fault g c = λ failed.

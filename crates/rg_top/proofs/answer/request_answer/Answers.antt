@@ -3,7 +3,7 @@ use Rattle.std.specs.Borrow.{Bor}
 use Rattle.rg_commands.specs.declared.request.Request.{Request}
 use Rattle.rg_commands.specs.Requests.{named}
 use Rattle.rg_top.specs.Ends.{EndsOf}
-use Rattle.rg_top.specs.Requests.{end_of, AsksOf, ReadsOf, IsOfFile}
+use Rattle.rg_top.specs.Requests.{end_of, AsksOf, HasCause, ReadsOf, IsOfFile}
 use Rattle.rg_top.specs.declared.answer.Answer.{Answer}
 use Rattle.rg_top.proofs.answer.request_answer.Goals as goal
 
@@ -14,7 +14,7 @@ returns-in-OfSystem-clause-asked g c =
 
 pub returns-in-OfSystem-clause-reads : goal.returns-in-OfSystem-clause-reads
 returns-in-OfSystem-clause-reads g c =
-    subst (λ (q : Request (Bor (List ℕ))). ReadsOf g.H.Shelf.finds g.H.Shelf.hands (g.H.Shelf.files c.args.shelf.now) (named q) c.args.shelf.now c.file_answer.new.shelf)
+    subst (λ (q : Request (Bor (List ℕ))). ReadsOf g.H.Shelf.finds g.H.Shelf.hands (g.H.Shelf.files c.args.shelf.now) (named q) (HasCause c.file_answer.result) c.args.shelf.now c.file_answer.new.shelf)
     (sym c.in-OfSystem.is) c.file_answer.ensures.reads
 
 pub returns-in-OfSystem-clause-ok : goal.returns-in-OfSystem-clause-ok
