@@ -6,3 +6,4 @@ pub mod Points
 pub mod Nodes
 pub mod Sides
 pub mod Sound
+pub mod Keeping

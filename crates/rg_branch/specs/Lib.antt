@@ -5,3 +5,4 @@ pub mod Work
 pub mod Relating
 pub mod Points
 pub mod Answer
+pub mod Kept

@@ -13,7 +13,7 @@ use std::alloc::Global;
 /// Returns a point of the system at which every form is whole, or a tree that shows that there is none.
 ///
 /// Each node is the system with the rows of the splits above it after all others, outermost first, and its descent is
-/// made from the start. The first form without a whole value at its point is split at its floor, and the low side is
+/// that from the start. The first form without a whole value at its point is split at its floor, and the low side is
 /// taken first; a point of the low side is the answer. Returns `BranchStop::Wide` exactly if a node is reached whose
 /// descent has a term out of range; the first such node ends the call. Returns `BranchStop::NoMemory` if memory runs
 /// out. A system with its forms has one answer. The rows that the forms name are counted from the system's first row.

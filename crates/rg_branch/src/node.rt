@@ -17,7 +17,6 @@ use rg_feasible::{Dictionary, PivotWide, Settled};
 use rg_fraction::Fraction;
 use rg_linear::{JoinedSystem, System};
 use rg_memory::NoMemory;
-use rg_revised::{Descent, Revised};
 use std::alloc::{AllocError, Global};
 
 // What a node comes to.
@@ -33,39 +32,7 @@ pub(crate) enum NodeEnd {
     Fraction(u32, i64),
 }
 
-// Settles the system below the splits with the revised dictionary. None where a number is too large for it.
-pub(crate) fn settle_small(
-    alloc: Global,
-    revised: &mut Revised,
-    system: &JoinedSystem<'_>,
-    forms: &[Bounded],
-    before: u32,
-    splits: &Splits,
-) -> Result<Option<NodeEnd>, NoMemory>
-    requires can { CanBranch system.now before forms.now }
-    requires sides { AreSidesOf (forms_of forms.now) splits.now.above.items }
-    requires rows { HasRowsOf (forms_of forms.now) splits.now }
-    requires columns { revised.old.columns ≡ system.now.columns }
-    ensures node { IfOk result (λ end. IfSome end (NodeTells system.now (forms_of forms.now) splits.now.above.items)) }
-    ensures columns { revised.new.columns ≡ system.now.columns }
-{
-    let count = system.count() as usize + splits.rows.len();
-    let ended = revised.settle(system, &splits.rows);
-    let relations = Relations::OfColumns(revised);
-    match ended {
-        Descent::Point => {
-            let end = point_end(alloc, relations, system, forms, before)?;
-            Ok(Some(end))
-        }
-        Descent::Refuted(_) => {
-            let weights = weights(alloc, relations, count as u32)?;
-            Ok(Some(NodeEnd::Refuted(weights)))
-        }
-        Descent::Large => Ok(None),
-    }
-}
-
-// Settles it with the full dictionary, which may be any: it is filled again.
+// Settles the system below the splits with the full dictionary, which may be any: it is filled again.
 pub(crate) fn settle_full(
     alloc: Global,
     full: &mut Option<Dictionary>,
@@ -123,7 +90,7 @@ fn fill_and_settle(
 }
 
 // What a node comes to at the point of its descent.
-fn point_end(
+pub(crate) fn point_end(
     alloc: Global,
     relations: Relations<'_>,
     system: &JoinedSystem<'_>,
@@ -154,7 +121,7 @@ fn members(alloc: Global, dictionary: &Dictionary, columns: u32) -> Result<Vec<u
 }
 
 // The rows whose multiplier isn't 0, with it.
-fn weights(
+pub(crate) fn weights(
     alloc: Global,
     relations: Relations<'_>,
     rows: u32,
