@@ -23,8 +23,8 @@ fn measure(
     eprintln!(rt; "judged: {} nanoseconds", spent.as_nanos())
 }
 
-/// Judges the net of the second file for the system of the first one and the class of all nets. The verdict goes to standard output, and the
-/// time that the judge takes beyond reading to standard error.
+/// Judges the net of the second file for the system of the first one and the class of all nets. The verdict goes to
+/// standard output, and the time that the judge takes beyond reading to standard error.
 pub fn judge(rt: HostRuntime, words: &[String]) -> io::Result<()> {
     let [system_path, net_path] = words else {
         return eprintln!(rt; "usage: benches judge SYSTEM NET");

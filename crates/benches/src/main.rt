@@ -1,7 +1,7 @@
 //! Measures parts of the program for the scripts of `bench/`.
 //!
-//! The first word names what is measured: `judge SYSTEM NET` the check of nets, `read FORM FILE` the reading of a system, `solve WORD ..` the
-//! problems that the blocks of a run have.
+//! The first word names what is measured: `judge SYSTEM NET` the check of nets, `read FORM FILE` the reading of a
+//! system, `solve WORD ..` the problems that the blocks of a run have.
 #![tactic(auto)]
 
 mod judging;

@@ -64,8 +64,8 @@ fn measure(
     eprintln!(rt; "{} nanoseconds", spent.as_nanos())
 }
 
-/// Reads the file in the form that the first word names: `system`, `graph` or `words`. How much was read goes to standard output, and the time
-/// to standard error.
+/// Reads the file in the form that the first word names: `system`, `graph` or `words`. How much was read goes to
+/// standard output, and the time to standard error.
 pub fn read(rt: HostRuntime, words: &[String]) -> io::Result<()> {
     let [name, path] = words else {
         return eprintln!(rt; "usage: benches read FORM FILE");

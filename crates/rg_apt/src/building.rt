@@ -180,9 +180,9 @@ fn add_arcs(builder: &mut LtsBuilder, bytes: &[u8], arcs: &[FoundArc]) -> Result
     Ok(())
 }
 
-/// The system of what is declared, or the first fault of it: `NoType`, then by state `TwiceState`,
-/// `TooManyStates` or `TwoInitial`, then by label `TwiceLabel` or `TooManyLabels`, then by arc
-/// `UnknownState`, `UnknownLabel` or `TooManyArcs`, then `NoInitial`.
+/// Returns the system of what is declared, or the first fault of it: `NoType`, then by state `TwiceState`,
+/// `TooManyStates` or `TwoInitial`, then by label `TwiceLabel` or `TooManyLabels`, then by arc `UnknownState`,
+/// `UnknownLabel` or `TooManyArcs`, then `NoInitial`.
 pub fn build(alloc: Global, bytes: &[u8], found: &Found) -> Result<Lts, TextFault>
     requires { HoldsNames bytes.now found.now }
     ensures none { IfOk result (λ lts. AreNone (faults (found_in bytes.now found.now))) }

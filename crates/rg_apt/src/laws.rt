@@ -14,7 +14,7 @@ ghost use Rattle.rg_apt.specs.Spells.{Spells, FirstFault};
 ghost use Rattle.rg_apt.specs.Plain.{IsPlainText, lts_text};
 ghost use Rattle.rg_lts.specs.WellFormed.{IsWellFormed};
 
-/// A text spells a system or has a first fault, never both and never two.
+/// Law: a text spells a system or has a first fault, never both and never two.
 pub fn one_answer()
     ensures some { (bytes : List ℕ) → ((a : System) × Spells bytes a) ⊎ ((f : TextFault) × FirstFault bytes f) }
     ensures one_system { (bytes : List ℕ) (a b : System) → Spells bytes a → Spells bytes b → a ≡ b }
@@ -22,9 +22,9 @@ pub fn one_answer()
     ensures not_both { (bytes : List ℕ) (a : System) (f : TextFault) → Spells bytes a → ¬ FirstFault bytes f }
 {}
 
-/// The table and the items agree: tokens are items, or one of them is refused, never both. What they
-/// declare is one. Tokens that lead anywhere from the start go on to the tokens of a whole file, so the first that
-/// is refused is the first that can't continue any file.
+/// Law: the table and the items agree: tokens are items, or one of them is refused, never both. What they declare is
+/// one. Tokens that lead anywhere from the start go on to the tokens of a whole file, so the first that is refused is
+/// the first that can't continue any file.
 pub fn items_are_read()
     ensures some { (xs : List Lexeme) (end : ℕ) → ((items : List Item) × AreItems items xs) ⊎ ((f : ItemFault) × FirstRefusal xs end f) }
     ensures not_refused { (items : List Item) (xs : List Lexeme) (end : ℕ) (f : ItemFault) → AreItems items xs → ¬ FirstRefusal xs end f }
@@ -32,17 +32,17 @@ pub fn items_are_read()
     ensures goes_on { (front : List Lexeme) (position : Position) → leads_all system_grammar section front ≡ Some position → (more : List Lexeme) × (items : List Item) × AreItems items (front ++ more) }
 {}
 
-/// A plain text spells the same system by the whole grammar, whatever the order of its arcs.
+/// Law: a plain text spells the same system by the whole grammar, whatever the order of its arcs.
 pub fn plain_is_spelled()
     ensures { (bytes : List ℕ) (lts : System) → IsPlainText bytes lts → Spells bytes lts }
 {}
 
-/// The plain text of a system, as `print_lts` writes it, spells that system.
+/// Law: the plain text of a system, as `print_lts` writes it, spells that system.
 pub fn printed_is_spelled()
     ensures { (lts : System) → IsWellFormed lts → Spells (lts_text lts) lts }
 {}
 
-/// What a text spells is well formed, and no text has want of memory as its first fault.
+/// Law: what a text spells is well formed, and no text has want of memory as its first fault.
 pub fn spelled_is_well_formed()
     ensures formed { (bytes : List ℕ) (lts : System) → Spells bytes lts → IsWellFormed lts }
     ensures fault { (bytes : List ℕ) → ¬ FirstFault bytes NoMemory }

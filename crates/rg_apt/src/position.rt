@@ -32,7 +32,7 @@ pub enum Position {
     InList(Section, ListPosition),
 }
 
-/// What is wanted at a position.
+/// Returns what is wanted at a position.
 pub fn want_at(position: Position) -> Want
     ensures { (bytes : List ℕ) → result ≡ wanted (position_in bytes position) }
 {
@@ -76,7 +76,7 @@ fn after_name(section: Section, name: Token) -> Position
     }
 }
 
-/// Where a token leads from a position where an entry may begin.
+/// Returns where a token leads from a position where an entry may begin.
 pub fn from_section(section: Section, token: Token, text: &[u8]) -> Option<Position>
     ensures leads { (bytes : List ℕ) → slice_range bytes token.from token.to ≡ text.now
         → option_map (position_in bytes) result ≡ leads (table.in_section (section_in section)) (lexeme bytes token) }
@@ -89,7 +89,7 @@ pub fn from_section(section: Section, token: Token, text: &[u8]) -> Option<Posit
     }
 }
 
-/// Where a token leads directly after an entry or triple.
+/// Returns where a token leads directly after an entry or triple.
 pub fn from_entry(section: Section, token: Token, text: &[u8]) -> Option<Position>
     ensures leads { (bytes : List ℕ) → slice_range bytes token.from token.to ≡ text.now
         → option_map (position_in bytes) result ≡ leads (table.after_entry (section_in section)) (lexeme bytes token) }
@@ -109,7 +109,7 @@ fn is_type_name(text: &[u8]) -> bool
     text == b"LTS".as_slice() || text == b"TS".as_slice()
 }
 
-/// Where a token leads after `.type`.
+/// Returns where a token leads after `.type`.
 pub fn from_type(token: Token, text: &[u8]) -> Option<Position>
     ensures leads { (bytes : List ℕ) → slice_range bytes token.from token.to ≡ text.now
         → option_map (position_in bytes) result ≡ leads table.type_name (lexeme bytes token) }
@@ -127,7 +127,7 @@ pub fn from_type(token: Token, text: &[u8]) -> Option<Position>
     }
 }
 
-/// Where a token leads in an option list.
+/// Returns where a token leads in an option list.
 pub fn from_list(section: Section, position: ListPosition, token: Token) -> Option<Position>
     ensures leads { (bytes : List ℕ) → option_map (position_in bytes) result
         ≡ leads (table.in_list (section_in section) (list_position_in bytes position)) (lexeme bytes token) }
@@ -140,7 +140,7 @@ pub fn from_list(section: Section, position: ListPosition, token: Token) -> Opti
     }
 }
 
-/// Where a token leads at the start and after a passed-over text.
+/// Returns where a token leads at the start and after a passed-over text.
 pub fn from_start(token: Token, text: &[u8]) -> Option<Position>
     ensures leads { (bytes : List ℕ) → slice_range bytes token.from token.to ≡ text.now
         → option_map (position_in bytes) result ≡ leads table.section (lexeme bytes token) }
@@ -152,7 +152,7 @@ pub fn from_start(token: Token, text: &[u8]) -> Option<Position>
     }
 }
 
-/// Where a token leads after a word that isn't a section's.
+/// Returns where a token leads after a word that isn't a section's.
 pub fn from_word(token: Token) -> Option<Position>
     ensures leads { (bytes : List ℕ) → option_map (position_in bytes) result ≡ leads table.passed_text (lexeme bytes token) }
     ensures holds { (bytes : List ℕ) → IsTokenOf bytes token → IfSome result (HoldsTokens bytes) }
@@ -163,7 +163,7 @@ pub fn from_word(token: Token) -> Option<Position>
     }
 }
 
-/// Where a token leads at the second name of a triple.
+/// Returns where a token leads at the second name of a triple.
 pub fn from_second(from: Token, token: Token) -> Option<Position>
     ensures leads { (bytes : List ℕ) → option_map (position_in bytes) result ≡ leads (table.second (lexeme bytes from)) (lexeme bytes token) }
     ensures holds { (bytes : List ℕ) → IsTokenOf bytes token → IsNameOf bytes from → IfSome result (HoldsTokens bytes) }
@@ -174,7 +174,7 @@ pub fn from_second(from: Token, token: Token) -> Option<Position>
     }
 }
 
-/// Where a token leads at the third name of a triple.
+/// Returns where a token leads at the third name of a triple.
 pub fn from_third(from: Token, label: Token, token: Token) -> Option<Position>
     ensures leads { (bytes : List ℕ) → option_map (position_in bytes) result ≡ leads (table.third (lexeme bytes from) (lexeme bytes label)) (lexeme bytes token) }
     ensures holds { (bytes : List ℕ) → IsTokenOf bytes token → IfSome result (HoldsTokens bytes) }

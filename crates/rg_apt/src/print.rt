@@ -9,8 +9,8 @@ use rg_lts::{Arc, Lts};
 use rg_memory::NoMemory;
 use std::alloc::Global;
 
-/// The text of the system in the plain layout, a text of lines that a line feed ends, each of them the last one too:
-/// `.type LTS`; `.states`, and a line for each state, its name, and directly after that of the initial state
+/// Returns the text of the system in the plain layout, a text of lines that a line feed ends, each of them the last
+/// one too: `.type LTS`; `.states`, and a line for each state, its name, and directly after that of the initial state
 /// `[initial]`; `.labels`, and a line for each label, its name; `.arcs`, and a line for each arc, the names of the
 /// state that it leaves, of its label and of the state that it enters, with one space between. `read_lts` reads it as
 /// the same system. Returns `NoMemory` if the text doesn't fit into memory.

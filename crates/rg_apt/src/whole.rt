@@ -11,8 +11,8 @@ use rg_grammar::read;
 use rg_lts::Lts;
 use std::alloc::Global;
 
-/// The system that a text of at most 16,777,216 bytes spells in the format of APT, or the text's first
-/// fault. By `one_answer` no other answer meets these clauses.
+/// Returns the system that a text of at most 16,777,216 bytes spells in the format of APT, or the text's first fault.
+/// By `one_answer` no other answer meets these clauses.
 ///
 /// Errors: `BadByte`, `OpenString`, `OpenComment` or `LongName`, the first in the text; else `Expected`
 /// or `WrongType` at the first token that can't continue the grammar; else the first fault of what is

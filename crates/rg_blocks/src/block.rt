@@ -23,8 +23,8 @@ use std::thread::Threads;
 // How many problems a block has at most.
 const LARGEST_BLOCK: u32 = 128;
 
-/// Returns the first 128 problems that no kept place separates, in order: of those after the problem `last`, or of all
-/// if it is None. Returns fewer if no more are left, and `NoMemory` if memory runs out.
+/// Returns the first 128 problems that no kept place separates, in order: of those after the problem `last`, or of
+/// all if it is None. Returns fewer if no more are left, and `NoMemory` if memory runs out.
 pub fn next_block<K: Keeping>(
     alloc: Global,
     lts: &Lts,
@@ -113,7 +113,8 @@ where
     }
 }
 
-// Returns the outcome of a problem as it waits until it is taken over. Notes what its place separates, and lets the tokens go.
+// Returns the outcome of a problem as it waits until it is taken over. Notes what its place separates, and lets the
+// tokens go.
 fn note<S: Solving, G>(
     search: &Search<'_, S, G>,
     separated: &mut Separated,
@@ -139,10 +140,10 @@ fn note<S: Solving, G>(
     }
 }
 
-/// Returns the outcomes of the problems of a block, in their order, computed by parts that run in parallel: number `i`
-/// is the problem at place `i` of the block. A problem is left unsolved, with the outcome None, if a kept place
-/// separates it or one that its part made before. Each part solves with a workspace of its own, and keeps no proof. The
-/// gate is entered before the work for each number and left after it. Returns `NoMemory` if memory runs out.
+/// Returns the outcomes of the problems of a block, in their order, computed by parts that run in parallel: number
+/// `i` is the problem at place `i` of the block. A problem is left unsolved, with the outcome None, if a kept place
+/// separates it or one that its part made before. Each part solves with a workspace of its own, and keeps no proof.
+/// The gate is entered before the work for each number and left after it. Returns `NoMemory` if memory runs out.
 pub fn solve_block<R: Threads + Sync, K: Keeping + Sync, S: Solving + Sync, G: Gate + Sync>(
     rt: &R,
     search: &Search<'_, S, G>,

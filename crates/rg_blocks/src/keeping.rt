@@ -27,13 +27,13 @@ pub trait Keeping {
     /// What is asked of a place that is kept without its tokens.
     ghost may_keep_compact: { System → Place → Type 0 };
 
-    /// Whether one of the places separates the problem of the system.
+    /// Returns whether one of the places separates the problem of the system.
     fn separates(&self, lts: &Lts, problem: Problem) -> bool
         requires system { keeps_for self.now lts.now }
         requires problem { IsProblem lts.now problem }
         ensures { IsTrue result ↔ IsSeparated lts.now (places self.now) problem };
 
-    /// Whether the places separate all state problems of the system.
+    /// Returns whether the places separate all state problems of the system.
     fn are_all_apart(&self, lts: &Lts) -> bool
         requires system { keeps_for self.now lts.now }
         ensures { IsTrue result ↔ AreAllApart lts.now (places self.now) };

@@ -10,7 +10,8 @@ use crate::keeping::Keeping;
 use rg_lts::Lts;
 use rg_theory::Problem;
 
-// The first event problem of state `s` that is left, of the labels from `from` on below `to`, none of which has an arc there.
+// The first event problem of state `s` that is left, of the labels from `from` on below `to`, none of which has an
+// arc there.
 fn event_between<K: Keeping>(lts: &Lts, kept: &K, s: u32, from: u32, to: u32) -> Option<Problem>
     requires kept { K.keeps_for kept.now lts.now }
     requires state { s < states lts.now }

@@ -29,9 +29,9 @@ pub enum SeparationOutcome {
     TooWide(Problem),
 }
 
-// Solves the problems of a block and takes over what they come to: with one job problem by problem. With more, the first one is solved in turn,
-// so that the parts know its place, and then all are solved by the parts. Where it is refuted, the block is gone through problem by problem, which
-// solves none after it.
+// Solves the problems of a block and takes over what they come to: with one job problem by problem. With more, the
+// first one is solved in turn, so that the parts know its place, and then all are solved by the parts. Where it is
+// refuted, the block is gone through problem by problem, which solves none after it.
 fn take_block<R: Threads + Sync, K: Keeping + Sync, S: Solving + Sync, G: Gate + Sync>(
     rt: &R,
     search: &Search<'_, S, G>,
@@ -60,8 +60,8 @@ where
     take_over(search, progress, solved)
 }
 
-// Takes all problems, block by block, as long as one is left after the last one. Returns the first problem that is refuted, which ends it, and
-// None if there is none.
+// Takes all problems, block by block, as long as one is left after the last one. Returns the first problem that is
+// refuted, which ends it, and None if there is none.
 fn solve_all<R: Threads + Sync, K: Keeping + Sync, S: Solving + Sync, G: Gate + Sync>(
     rt: &R,
     search: &Search<'_, S, G>,
@@ -91,8 +91,8 @@ where
     }
 }
 
-/// Solves the problems of the system that no kept place separates, block by block, and keeps the places that they come
-/// to, until one is refuted. It may begin with any regions. Returns the problem that is refuted, and None if no
+/// Solves the problems of the system that no kept place separates, block by block, and keeps the places that they
+/// come to, until one is refuted. It may begin with any regions. Returns the problem that is refuted, and None if no
 /// problem is. Returns `NoMemory` if memory runs out; nothing is known of the progress then.
 pub fn find_refuted<R: Threads + Sync, K: Keeping + Sync, S: Solving + Sync, G: Gate + Sync>(
     rt: &R,

@@ -21,8 +21,8 @@ pub enum ProblemOutcome {
     TooWide,
 }
 
-/// The outcome of a problem that waits until it is taken over. It is small, because many may wait: a place has neither
-/// its tokens nor weights of 0.
+/// The outcome of a problem that waits until it is taken over. It is small, because many may wait: a place has
+/// neither its tokens nor weights of 0.
 #[derive(Drop)]
 pub enum WaitingOutcome {
     /// A place that separates it.
@@ -38,7 +38,8 @@ pub enum WaitingOutcome {
 pub struct SolvedProblem {
     /// The problem.
     pub problem: Problem,
-    /// The outcome, or None if the problem isn't solved yet because a place separates it that is kept or that its part made.
+    /// The outcome, or None if the problem isn't solved yet because a place separates it that is kept or that its
+    /// part made.
     pub outcome: Option<WaitingOutcome>,
 }
 

@@ -13,8 +13,8 @@ use rg_memory::NoMemory;
 use rg_ports::Gate;
 use rg_theory::Problem;
 
-/// Solves a problem that no kept place separates, and takes over its outcome: its place is kept, if it has one. Returns
-/// the problem if it is refuted, and `NoMemory` if memory runs out.
+/// Solves a problem that no kept place separates, and takes over its outcome: its place is kept, if it has one.
+/// Returns the problem if it is refuted, and `NoMemory` if memory runs out.
 pub(crate) fn solve_left<K: Keeping, S: Solving, G>(
     search: &Search<'_, S, G>,
     progress: &mut Progress<K, S::Workspace, S::Proof>,
@@ -41,7 +41,8 @@ pub(crate) fn solve_left<K: Keeping, S: Solving, G>(
     }
 }
 
-// Takes over the outcome of a problem that no kept place separates, which has waited. Returns the problem if it is refuted.
+// Takes over the outcome of a problem that no kept place separates, which has waited. Returns the problem if it is
+// refuted.
 fn take_waiting<K: Keeping, S: Solving, G>(
     search: &Search<'_, S, G>,
     progress: &mut Progress<K, S::Workspace, S::Proof>,
@@ -66,7 +67,8 @@ fn take_waiting<K: Keeping, S: Solving, G>(
     }
 }
 
-// Takes over the outcome of a problem, and drops it if a kept place separates the problem. Returns the problem if it is refuted.
+// Takes over the outcome of a problem, and drops it if a kept place separates the problem. Returns the problem if it
+// is refuted.
 fn take<K: Keeping, S: Solving, G>(
     search: &Search<'_, S, G>,
     progress: &mut Progress<K, S::Workspace, S::Proof>,
@@ -119,9 +121,9 @@ pub fn take_over<K: Keeping, S: Solving, G>(
 }
 
 /// Solves the problems of a block one after the other, and takes over each outcome at once. A problem that a place
-/// kept meanwhile separates isn't solved. The first one that is refuted is returned, and none after it is solved; None
-/// is returned if there is no such problem. The gate is entered before the work for each number of the block and left
-/// after it, also where nothing is solved. Returns `NoMemory` if memory runs out.
+/// kept meanwhile separates isn't solved. The first one that is refuted is returned, and none after it is solved;
+/// None is returned if there is no such problem. The gate is entered before the work for each number of the block and
+/// left after it, also where nothing is solved. Returns `NoMemory` if memory runs out.
 pub fn solve_in_turn<K: Keeping, S: Solving, G: Gate>(
     search: &Search<'_, S, G>,
     progress: &mut Progress<K, S::Workspace, S::Proof>,

@@ -58,9 +58,9 @@ impl Gate for Counts {
     }
 }
 
-// One answer for each of the first labels, which have no arc; in any other problem a number passes. Kept are how many problems were solved,
-// how many of them while their number was inside the gate, and how many in turn; how many workspaces were made for parts, and in how many
-// workspaces a problem was solved.
+// One answer for each of the first labels, which have no arc; in any other problem a number passes. Kept are how many
+// problems were solved, how many of them while their number was inside the gate, and how many in turn; how many
+// workspaces were made for parts, and in how many workspaces a problem was solved.
 #[derive(Drop)]
 pub(crate) struct Answers<'a> {
     pub(crate) alloc: Global,

@@ -8,8 +8,8 @@ use std::sync::atomic::{AtomicU64, Ordering};
 // How often a number that waits looks for the others.
 const TURNS: u64 = 10_000_000_000;
 
-/// Holds the first numbers of a block until the last one is entered, and the last one until each of them is. None waits in vain where each of
-/// these numbers has a part of its own.
+/// Holds the first numbers of a block until the last one is entered, and the last one until each of them is. None
+/// waits in vain where each of these numbers has a part of its own.
 #[derive(Drop)]
 pub struct Meeting {
     last: u32,
@@ -21,7 +21,7 @@ pub struct Meeting {
 }
 
 impl Meeting {
-    /// The gate of a block of the numbers 0 to `last`, so many of which are the first ones.
+    /// Returns the gate of a block of the numbers 0 to `last`, so many of which are the first ones.
     pub fn new(alloc: Global, last: u32, first: u32) -> Result<Meeting, NoMemory> {
         Ok(Meeting {
             last,
@@ -33,12 +33,12 @@ impl Meeting {
         })
     }
 
-    /// Whether none of them gave up.
+    /// Returns whether none of them gave up.
     pub fn have_met(&self) -> bool {
         self.missed.load(Ordering::SeqCst) == 0
     }
 
-    /// Whether each number was entered once and left once, and no other one was.
+    /// Returns whether each number was entered once and left once, and no other one was.
     pub fn passed_once(&self) -> bool {
         self.passes.were_once()
     }

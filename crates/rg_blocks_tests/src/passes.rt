@@ -14,7 +14,7 @@ pub struct Passes {
 }
 
 impl Passes {
-    /// The gate of a block of so many numbers from `from` on.
+    /// Returns the gate of a block of so many numbers from `from` on.
     pub fn new(alloc: Global, from: u32, count: u32) -> Result<Passes, NoMemory> {
         Ok(Passes {
             from,
@@ -24,7 +24,7 @@ impl Passes {
         })
     }
 
-    /// Whether each number was entered once and left once, and no other one was.
+    /// Returns whether each number was entered once and left once, and no other one was.
     pub fn were_once(&self) -> bool {
         are_one(&self.entered) && are_one(&self.left) && self.others.load(Ordering::SeqCst) == 0
     }

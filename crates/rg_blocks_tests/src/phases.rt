@@ -125,8 +125,9 @@ impl Gate for Counts {
     }
 }
 
-// The part of number 4 does nothing after it, and the other parts do all of theirs. With one job and with two, no number after 4 is done: of
-// two parts the second one begins with it. Of three parts the second one has numbers 4 and 5.
+// The part of number 4 does nothing after it, and the other parts do all of theirs. With one job and with two, no
+// number after 4 is done: of two parts the second one begins with it. Of three parts the second one has numbers 4 and
+// 5.
 #[test]
 fn want_of_memory_leaves_the_gate(rt: HostRuntime) -> Result<(), Fail> {
     for (jobs, wanted) in [(1, 5), (2, 5), (3, 7), (8, 8)] {
@@ -176,9 +177,9 @@ impl PartTask for Counted {
     }
 }
 
-// What is answered for the numbers from 2 on below 9, with one job, two and so on, worked by hand: the jobs and the numbers are halved, and the
-// second half has one more where they are odd. So the parts have 7; 3 and 4; 3, 2 and 2; 1, 2, 2 and 2; 1, 2, 2, 1 and 1; 1, 1, 1, 2, 1 and 1; and
-// 1 each.
+// What is answered for the numbers from 2 on below 9, with one job, two and so on, worked by hand: the jobs and the
+// numbers are halved, and the second half has one more where they are odd. So the parts have 7; 3 and 4; 3, 2 and 2;
+// 1, 2, 2 and 2; 1, 2, 2, 1 and 1; 1, 1, 1, 2, 1 and 1; and 1 each.
 const PARTS: [[u32; 7]; 7] = [
     [0, 1, 2, 3, 4, 5, 6],
     [0, 1, 2, 0, 1, 2, 3],
@@ -232,8 +233,8 @@ fn has_enough<R: Threads + Sync>(
     }
 }
 
-// There is enough where each part has memory for its numbers. The largest part of four numbers has two of two jobs; that of seven has four of
-// two jobs, three of three, two of six and one of seven.
+// There is enough where each part has memory for its numbers. The largest part of four numbers has two of two jobs;
+// that of seven has four of two jobs, three of three, two of six and one of seven.
 #[test]
 fn want_of_memory_of_a_part(rt: HostRuntime) -> Result<(), Fail> {
     for (most, to, jobs, enough) in [

@@ -23,7 +23,8 @@ pub(crate) fn has_dead(lts: &Lts, labels: usize) -> bool
     labels <= lts.labels() as usize
 }
 
-// A weight for each label: one for `t`, one for the other label if it is among the first ones, and none for the others.
+// A weight for each label: one for `t`, one for the other label if it is among the first ones, and none for the
+// others.
 fn weights(
     alloc: Global,
     labels: usize,
@@ -45,7 +46,8 @@ fn weights(
     Ok(weights)
 }
 
-// The place without tokens that takes one with label `t`, and one with the other label if it is among the first ones, which have no arc.
+// The place without tokens that takes one with label `t`, and one with the other label if it is among the first ones,
+// which have no arc.
 pub(crate) fn stopping(
     alloc: Global,
     lts: &Lts,

@@ -39,8 +39,9 @@ const FIVE: [Given; 5] = [
     Given::Refuted,
 ];
 
-// One job solves nothing after the problem that is refuted. More jobs solve the first label that is left, and then, if it is refuted, the same once
-// more, else all that are left, the first one too where it has no place, but those that its place stops or one that their part made.
+// One job solves nothing after the problem that is refuted. More jobs solve the first label that is left, and then,
+// if it is refuted, the same once more, else all that are left, the first one too where it has no place, but those
+// that its place stops or one that their part made.
 const ROWS: [Row; 13] = [
     Row {
         given: &[Given::Refuted, Given::Stops(1)],

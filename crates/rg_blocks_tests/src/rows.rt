@@ -16,8 +16,8 @@ use std::sync::atomic::Ordering;
 use std::test::Fail;
 use std::thread::Threads;
 
-// The answers to the problems of labels, what all of them come to, the labels whose places are kept, and how many problems are solved: by one job,
-// by two and how many of these inside the gate, and the same by more.
+// The answers to the problems of labels, what all of them come to, the labels whose places are kept, and how many
+// problems are solved: by one job, by two and how many of these inside the gate, and the same by more.
 type Row = (
     &'static [Given],
     Option<SeparationOutcome>,
@@ -27,9 +27,10 @@ type Row = (
     (u64, u64),
 );
 
-// Each is one block of less than 128 problems. More jobs solve the first label in turn, before the gate is entered, and then the block by parts:
-// of four labels two jobs have two each. A part leaves what the place of the first label stops, or one of its own. At last those are solved that
-// were left for a place that isn't kept. Where the first label is refuted, it is solved again and no other one. One job solves each inside.
+// Each is one block of less than 128 problems. More jobs solve the first label in turn, before the gate is entered,
+// and then the block by parts: of four labels two jobs have two each. A part leaves what the place of the first label
+// stops, or one of its own. At last those are solved that were left for a place that isn't kept. Where the first
+// label is refuted, it is solved again and no other one. One job solves each inside.
 const ROWS: [Row; 17] = [
     (
         &[Given::Stops(1), Given::Stops(0), Given::Stops(2)],
@@ -142,8 +143,8 @@ const ROWS: [Row; 17] = [
         (3, 2),
         (3, 2),
     ),
-    // where one part does labels 2 and 3, label 3 is left for the place of label 2, which is dropped for that of label 1: then label 3 is solved at
-    // last; else label 3 is solved by its part
+    // where one part does labels 2 and 3, label 3 is left for the place of label 2, which is dropped for that of
+    // label 1: then label 3 is solved at last; else label 3 is solved by its part
     (
         &[
             Given::Stops(0),
@@ -272,8 +273,8 @@ pub(crate) fn are_places_of(places: &[RegionPlace], labels: &[usize]) -> bool {
     true
 }
 
-// How many problems were solved, how many of them inside the gate, and how many in turn; how many workspaces were made for parts, and in how
-// many workspaces a problem was solved; and how often the gate was entered and left.
+// How many problems were solved, how many of them inside the gate, and how many in turn; how many workspaces were
+// made for parts, and in how many workspaces a problem was solved; and how often the gate was entered and left.
 #[derive(Clone, Copy)]
 struct Counted {
     solved: u64,
@@ -285,7 +286,8 @@ struct Counted {
     left: u64,
 }
 
-// What is seen of a search: what all problems come to and the places kept, unless there is no memory, and what is counted.
+// What is seen of a search: what all problems come to and the places kept, unless there is no memory, and what is
+// counted.
 #[derive(Drop)]
 struct Seen {
     found: Option<(SeparationOutcome, Vec<RegionPlace>)>,
@@ -293,7 +295,8 @@ struct Seen {
 }
 
 impl Seen {
-    // Whether this is what all problems come to, and the places are those of these labels; or there is no memory, where nothing is wanted.
+    // Whether this is what all problems come to, and the places are those of these labels; or there is no memory,
+    // where nothing is wanted.
     fn is_wanted(&self, wanted: Option<SeparationOutcome>, labels: &[usize]) -> bool {
         match &self.found {
             Some((outcome, places)) => { Some(*outcome) == wanted && are_places_of(places, labels) }
@@ -334,7 +337,8 @@ fn see<R: Threads + Sync>(rt: &R, alloc: Global, lts: &Lts, given: &[Given], job
     see_through(rt, alloc, lts, given, jobs, &gate, &gate)
 }
 
-// How many workspaces are made for parts: one for each part with a label. No part begins where the first label is refuted or has no memory.
+// How many workspaces are made for parts: one for each part with a label. No part begins where the first label is
+// refuted or has no memory.
 fn count_made(jobs: u8, given: &[Given]) -> u64 {
     if jobs == 1 || matches!(given.first(), Some(Given::Refuted | Given::NoMemory)) {
         return 0;
@@ -387,7 +391,8 @@ impl Gate for Held<'_> {
     }
 }
 
-// What is seen of a search where so many of the first numbers of the only block wait until the last one is entered. None where that fails.
+// What is seen of a search where so many of the first numbers of the only block wait until the last one is entered.
+// None where that fails.
 fn see_held<R: Threads + Sync>(
     rt: &R,
     alloc: Global,
@@ -436,10 +441,11 @@ fn each_part_does_one(rt: HostRuntime) -> Result<(), Fail> {
     Ok(())
 }
 
-// The first block has labels 0 to 127: label 127 is in it, since the place of label 0 isn't kept before, and label 128 is in none, since the place
-// of label 1 is kept before the second block, which has labels 129 to 191. More jobs solve labels 0 and 129 in turn, and their places are kept
-// before the parts begin, so that no part solves these labels, 127 and 191. Label 131 is of the first part, also of sixteen, and that part leaves
-// it for the place of label 130. So labels 127, 128, 131 and 191 are never solved.
+// The first block has labels 0 to 127: label 127 is in it, since the place of label 0 isn't kept before, and label
+// 128 is in none, since the place of label 1 is kept before the second block, which has labels 129 to 191. More jobs
+// solve labels 0 and 129 in turn, and their places are kept before the parts begin, so that no part solves these
+// labels, 127 and 191. Label 131 is of the first part, also of sixteen, and that part leaves it for the place of
+// label 130. So labels 127, 128, 131 and 191 are never solved.
 #[test]
 fn blocks_of_128(rt: HostRuntime) -> Result<(), Fail> {
     let mut given = [Given::TooWide; 192];

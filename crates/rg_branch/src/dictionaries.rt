@@ -29,15 +29,16 @@ const MOST: usize = 64;
 pub(crate) struct Dictionaries {
     pub(crate) revised: Revised,
     pub(crate) full: Option<Dictionary>,
-    // Whether the revised dictionary is at the point of the node above, from which the descent of the next node goes on.
+    // Whether the revised dictionary is at the point of the node above, from which the descent of the next node goes
+    // on.
     pub(crate) at_point: bool,
-    // Copies of the revised dictionary for the high sides that are to come, the innermost one last: each is at the point of the
-    // split, or is None, where the revised dictionary wasn't. There may be fewer copies than such sides.
+    // Copies of the revised dictionary for the high sides that are to come, the innermost one last: each is at the
+    // point of the split, or is None, where the revised dictionary wasn't. There may be fewer copies than such sides.
     pub(crate) copies: Vec<Option<Saved>>,
 }
 
-// Makes the descent of the system with these rows after its own: from the point of the system without the last row, if the
-// dictionary is at it, and else from the start.
+// Makes the descent of the system with these rows after its own: from the point of the system without the last row,
+// if the dictionary is at it, and else from the start.
 fn descent(
     revised: &mut Revised,
     at_point: bool,

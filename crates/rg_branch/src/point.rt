@@ -16,7 +16,8 @@ use rg_fraction::Fraction;
 use rg_linear::JoinedSystem;
 use std::alloc::{AllocError, Global};
 
-// The first form without a whole value at the point, and its floor; `columns_whole` says that the values of all columns are whole.
+// The first form without a whole value at the point, and its floor; `columns_whole` says that the values of all
+// columns are whole.
 pub(crate) fn first_fraction(
     relations: Relations<'_>,
     system: &JoinedSystem<'_>,
@@ -40,7 +41,8 @@ pub(crate) fn first_fraction(
     None
 }
 
-// The floor of the form at the point, where it isn't whole. Where the columns are whole, so is a form whose scale is 1: its row isn't read.
+// The floor of the form at the point, where it isn't whole. Where the columns are whole, so is a form whose scale is
+// 1: its row isn't read.
 fn fraction_floor(
     relations: Relations<'_>,
     system: &JoinedSystem<'_>,

@@ -31,7 +31,7 @@ impl Model for Solver {
 }
 
 impl Solver {
-    /// One for systems of so many columns. Returns `NoMemory` if memory runs out.
+    /// Returns a solver for systems of so many columns. Returns `NoMemory` if memory runs out.
     pub fn new(alloc: Global, columns: u32) -> Result<Solver, NoMemory>
         ensures { IfOk result (λ solver. solver ≡ columns) }
     {
@@ -39,9 +39,9 @@ impl Solver {
         Ok(Solver { dictionaries })
     }
 
-    /// As `solve_whole`, for a system of two lists. The row that a form names is counted after the first `before` rows
-    /// of the system: where these are the rows of the first list, the form names a row of the second one. What was
-    /// solved earlier doesn't matter, nor whether it came to an end.
+    /// Solves as `solve_whole` does, for a system of two lists. The row that a form names is counted after the first
+    /// `before` rows of the system: where these are the rows of the first list, the form names a row of the second
+    /// one. What was solved earlier doesn't matter, nor whether it came to an end.
     pub fn solve_whole(
         &mut self,
         alloc: Global,

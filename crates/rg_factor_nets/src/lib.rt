@@ -1,7 +1,7 @@
 //! Nets of a class for the factors of a system, side by side.
 //!
-//! A product of systems has a net of the class exactly where each factor has one: nets of the factors side by side solve it, and a net of
-//! it, restricted to the labels of a factor, solves the factor.
+//! A product of systems has a net of the class exactly where each factor has one: nets of the factors side by side
+//! solve it, and a net of it, restricted to the labels of a factor, solves the factor.
 #![tactic(auto)]
 
 mod answer;

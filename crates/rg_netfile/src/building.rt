@@ -27,7 +27,7 @@ use std::collections::BTreeSet;
 // The most places.
 const PLACE_LIMIT: usize = 16_384;
 
-// Adds the name of a place, which stands at a position.
+// Adds the name of a place, which is at a position.
 fn add_place(alloc: Global, table: &mut NameList, name: &str, at: u32) -> Result<(), NetFault>
     ensures ok { OnOk result (table.new ≡ table.old ++ name.now ∷ []) }
     ensures absent { OnOk result (¬ Contains table.old name.now) }
@@ -63,7 +63,8 @@ fn place_table(alloc: Global, bytes: &[u8], places: &[Token]) -> Result<NameList
     Ok(table)
 }
 
-// Checks that no two transitions have the same name. There may be many, and of any names, so those that are seen are kept in order.
+// Checks that no two transitions have the same name. There may be many, and of any names, so those that are seen are
+// kept in order.
 fn check_transition_names(
     alloc: Global,
     bytes: &[u8],
@@ -118,9 +119,9 @@ fn known_names(alloc: Global, bytes: &[u8], lts: &Lts, found: &Found) -> Result<
     Ok(Known::new(places, transitions, labels))
 }
 
-/// The net of what is declared, or the first fault of it: `NoType`, then by place `TwicePlace` or
-/// `TooManyPlaces`, then by transition `TwiceTransition`, then `TransitionsDiffer`, then by flow
-/// `UnknownTransition` and by member `NumberPasses` or `UnknownPlace`, then by member of the markings.
+/// Returns the net of what is declared, or the first fault of it: `NoType`, then by place `TwicePlace` or
+/// `TooManyPlaces`, then by transition `TwiceTransition`, then `TransitionsDiffer`, then by flow `UnknownTransition`
+/// and by member `NumberPasses` or `UnknownPlace`, then by member of the markings.
 pub(crate) fn build(alloc: Global, bytes: &[u8], lts: &Lts, found: &Found) -> Result<Net, NetFault>
     requires { HoldsNames bytes.now found.now }
     ensures none { OnOk result (AreNone (faults lts.now (found_in bytes.now found.now))) }

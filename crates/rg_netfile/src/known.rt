@@ -22,7 +22,7 @@ impl Model for Known {
 }
 
 impl Known {
-    /// These names and numbers. Names differ, each transition has a label, and no two have the same.
+    /// Returns these names and numbers. Names differ, each transition has a label, and no two have the same.
     pub(crate) fn new(places: NameList, transitions: NameList, labels: Vec<u32>) -> Known
         requires { IsKnown (record { places = places; transitions = transitions; labels = labels.items }) }
         ensures { result ≡ record { places = places; transitions = transitions; labels = labels.items } }
@@ -34,7 +34,7 @@ impl Known {
         }
     }
 
-    /// The number of the place with the name.
+    /// Returns the number of the place with the name.
     pub(crate) fn place(&self, name: &str) -> Option<usize>
         ensures known { IsKnown self.now }
         ensures within { IfSome result (λ i. i < length self.now.places) }
@@ -44,7 +44,7 @@ impl Known {
         self.places.number_of(name)
     }
 
-    /// The label's number of the transition with the name.
+    /// Returns the label's number of the transition with the name.
     pub(crate) fn label(&self, name: &str) -> Option<u32>
         ensures known { IsKnown self.now }
         ensures found { IfSome result (HasLabel self.now name.now) }

@@ -11,9 +11,9 @@ use rg_memory::NoMemory;
 use rg_net::Net;
 use std::alloc::Global;
 
-/// The text of the net in the shape of APT's files of labelled nets: that of `print_net` for `system`, whose labels are
-/// the transitions, with `.type LPN`, and each transition is followed by its label, as `a_2[label="a"]`. Transition `t`
-/// has label number `old[t]` of `lts`. Returns `NoMemory` if the text doesn't fit into memory.
+/// Returns the text of the net in the shape of APT's files of labelled nets: that of `print_net` for `system`, whose
+/// labels are the transitions, with `.type LPN`, and each transition is followed by its label, as `a_2[label="a"]`.
+/// Transition `t` has label number `old[t]` of `lts`. Returns `NoMemory` if the text doesn't fit into memory.
 pub fn print_labelled(
     alloc: Global,
     net: &Net,

@@ -61,7 +61,7 @@ fn numbers(
     Ok(found)
 }
 
-// How often each of so many numbers stands in a list.
+// How often each of so many numbers is in a list.
 fn counts(alloc: Global, labels: u32, numbers: &[u32]) -> Result<Vec<usize>, NetFault>
     requires { All (λ t. t < labels) numbers.now }
     ensures ok { IfOk result (λ v. AreCounts labels numbers.now v.items) }
@@ -81,8 +81,8 @@ fn are_ones(numbers: &[usize]) -> bool
     numbers.iter().all(|n| *n == 1)
 }
 
-/// The number of each transition's label. Returns `TransitionsDiffer` if the transitions' labels aren't each label of
-/// the system once.
+/// Returns the number of each transition's label. Returns `TransitionsDiffer` if the transitions' labels aren't each
+/// label of the system once.
 pub(crate) fn label_numbers(
     alloc: Global,
     bytes: &[u8],

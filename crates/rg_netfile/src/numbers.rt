@@ -24,7 +24,7 @@ fn value_of(bytes: &[u8], number: Token) -> Option<u128>
     }
 }
 
-// Where a member stands.
+// Where a member is.
 pub(crate) fn member_at(member: FoundMember) -> u32
     ensures { (bytes : List ℕ) → result ≡ member_at (member_in bytes member) }
 {
@@ -34,7 +34,7 @@ pub(crate) fn member_at(member: FoundMember) -> u32
     }
 }
 
-// How many tokens a member stands for. `NumberPasses` where its number is over the greatest.
+// How many tokens a member is. `NumberPasses` where its number is over the greatest.
 pub(crate) fn count_of(bytes: &[u8], member: FoundMember) -> Result<u128, NetFault>
     requires { IsMemberOf bytes.now member }
     ensures { MatchResult result (λ n. (n ≡ count_of (member_in bytes.now member).number) × (n ≤ greatest))

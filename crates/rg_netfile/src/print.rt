@@ -15,10 +15,10 @@ use rg_memory::NoMemory;
 use rg_net::Net;
 use std::alloc::Global;
 
-/// The text of the net in the shape of APT's net files: the names of its places, its transitions (the system's labels,
-/// in order), the flow of each, and the initial marking. A place is named by a prefix and its number, and the prefix is
-/// the first of `p`, `p1_`, `p2_`, .. that followed by a number is no label. The net has a transition for each label of
-/// the system. Returns `NoMemory` if the text doesn't fit into memory.
+/// Returns the text of the net in the shape of APT's net files: the names of its places, its transitions (the
+/// system's labels, in order), the flow of each, and the initial marking. A place is named by a prefix and its
+/// number, and the prefix is the first of `p`, `p1_`, `p2_`, .. that followed by a number is no label. The net has a
+/// transition for each label of the system. Returns `NoMemory` if the text doesn't fit into memory.
 pub fn print_net(alloc: Global, net: &Net, lts: &Lts) -> Result<Vec<u8>, NoMemory>
     requires { net.now.labels ≡ labels lts.now }
     ensures { IfOk result (λ text. text.items ≡ net_text net.now lts.now) }

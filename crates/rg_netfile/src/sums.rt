@@ -33,7 +33,7 @@ impl Model for Sums {
 }
 
 impl Sums {
-    /// So many places for so many labels, all numbers 0.
+    /// Returns the sums of so many places for so many labels, all of them 0.
     pub(crate) fn new(alloc: Global, labels: u32, count: usize) -> Result<Sums, NetFault>
         requires { count < 4294967296 }
         ensures value { IfOk result (λ s. s ≡ record { labels = labels; places = replicate count (record { start = 0; pre = replicate labels 0; post = replicate labels 0 }) }) }
@@ -58,7 +58,7 @@ impl Sums {
         add_to(&mut self.places[i], slot, count, at)
     }
 
-    /// The net.
+    /// Returns the net.
     pub(crate) fn finish(self) -> Net
         ensures value { result ≡ self }
         ensures in_range { IsNetInRange self }

@@ -11,7 +11,7 @@ use rg_net::Net;
 use rg_net_grammar::read_items;
 use std::alloc::Global;
 
-/// The net that a text of at most 16,777,216 bytes spells for a system in the format of APT, or the text's
+/// Returns the net that a text of at most 16,777,216 bytes spells for a system in the format of APT, or the text's
 /// first fault. By `one_answer` no other answer meets these clauses.
 ///
 /// Errors: `BadByte`, `OpenString`, `OpenComment` or `LongName`, the first in the text; else `Expected`

@@ -3,7 +3,8 @@ ghost use Rattle.std.specs.Prelude.{◌≡◌, ℕ, IfOk, OnOk};
 
 use rg_memory::NoMemory;
 
-/// Work for each number by itself. What a result shows is a function of the task and the number, so a block has one list of answers.
+/// Work for each number by itself. What a result shows is a function of the task and the number, so a block has one
+/// list of answers.
 pub trait Task {
     /// The result for one number.
     type Out;
@@ -26,8 +27,8 @@ pub trait Task {
         ensures { IfOk result (λ v. show v ≡ answer self.now i) };
 }
 
-/// Work for each number, in parts that keep something from one number to the next. The answers are a relation: where it has one result for
-/// each number, so has a block, whatever its parts keep.
+/// Work for each number, in parts that keep something from one number to the next. The answers are a relation: where
+/// it has one result for each number, so has a block, whatever its parts keep.
 pub trait PartTask {
     /// What a part of a block keeps from one of its numbers to the next.
     type Part;

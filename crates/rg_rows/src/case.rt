@@ -5,7 +5,7 @@ ghost use Rattle.rg_cert_meaning.specs.Row.{cases_of};
 use rg_lts::Lts;
 use rg_theory::{Class, Problem};
 
-/// How many cases a problem has: one for an event problem, and for a state problem one for each of the two
+/// Returns how many cases a problem has: one for an event problem, and for a state problem one for each of the two
 /// orders of the states, in an output-nonbranching class for each label that alone may take tokens. At most 512.
 pub fn cases(lts: &Lts, class: Class, problem: Problem) -> u32
     ensures value { result ≡ cases_of lts.now class problem }

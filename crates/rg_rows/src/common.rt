@@ -24,9 +24,9 @@ use rg_fraction::FoldStop;
 use rg_integers::Wide;
 use std::alloc::{AllocError, Global};
 
-/// The rows and forms of a system and a class that don't depend on the problem: `tokens` and `cap` by state, `up`, `down`
-/// and `makes` by label, and the terms of the forms, each where the class has them. Each is written over the columns, or
-/// is the first step of that which is out of range.
+/// The rows and forms of a system and a class that don't depend on the problem: `tokens` and `cap` by state, `up`,
+/// `down` and `makes` by label, and the terms of the forms, each where the class has them. Each is written over the
+/// columns, or is the first step of that which is out of range.
 #[derive(Drop)]
 pub struct Common {
     pub(crate) columns: Columns,
@@ -41,8 +41,8 @@ pub struct Common {
 }
 
 impl Common {
-    /// The rows and forms of the class, by the way in the tree to each state and the relations of the basis. An error
-    /// where there is no memory.
+    /// Returns the rows and forms of the class, by the way in the tree to each state and the relations of the basis.
+    /// An error where there is no memory.
     pub fn new(alloc: Global, setting: Setting<'_>) -> Result<Common, AllocError>
         requires tree { IsTreeOf setting.lts.now setting.tree.now }
         requires labels { labels_of setting.basis.now ≡ labels setting.lts.now }
@@ -64,7 +64,7 @@ impl Common {
         Ok(common)
     }
 
-    /// How many columns the system of each case has, over this basis.
+    /// Returns how many columns the system of each case has, over this basis.
     pub fn column_count(&self, basis: &Basis) -> u32
         requires { (s : ShownSetting) × IsCommonOf s self.now × (labels_of basis.now ≡ labels s.lts) × (labels s.lts ≤ most_labels) }
         ensures { (s : ShownSetting) → IsCommonOf s self.now → cycle_of basis.now ≡ s.basis → result ≡ column_count s.lts s.basis s.class }
@@ -72,8 +72,8 @@ impl Common {
         self.columns.count(basis)
     }
 
-    /// The forms of the rows that all cases share, whose rows are counted from the first of these; none if there are no
-    /// such rows.
+    /// Returns the forms of the rows that all cases share, whose rows are counted from the first of these; none if
+    /// there are no such rows.
     pub fn shared_forms(&self) -> &[NamedForm]
         ensures { result.now ≡ shared_forms self.now }
     {

@@ -58,7 +58,8 @@ pub(crate) fn case_forms(
     Ok(forms)
 }
 
-// Whether the start has to be split on: a class that asks a marking is bounded, or is plain and the problem an event's.
+// Whether the start has to be split on: a class that asks a marking is bounded, or is plain and the problem an
+// event's.
 pub(crate) fn splits_start(class: Class, problem: Problem) -> bool
     ensures { result ≡ splits_start class problem }
 {
@@ -68,8 +69,8 @@ pub(crate) fn splits_start(class: Class, problem: Problem) -> bool
     }
 }
 
-// How many of so many forms of the class a case of the problem has: all but the start, which is the last one, if the case doesn't split on
-// it, though event problems of the class do.
+// How many of so many forms of the class a case of the problem has: all but the start, which is the last one, if the
+// case doesn't split on it, though event problems of the class do.
 pub(crate) fn form_count(class: Class, problem: Problem, all: usize) -> usize
     ensures value { result ≡ form_count class problem all }
     ensures within { result ≤ all }
@@ -140,8 +141,9 @@ fn index_of(names: &[RowName], name: RowName) -> usize
     unreachable!()
 }
 
-// The forms of the named rows, in order: in a bounded class the tokens of each state, else in a plain one the effect of each label with an
-// arc. Each is written over the columns as the row named `tokens` or `down` is, and not divided.
+// The forms of the named rows, in order: in a bounded class the tokens of each state, else in a plain one the effect
+// of each label with an arc. Each is written over the columns as the row named `tokens` or `down` is, and not
+// divided.
 pub(crate) fn forms(
     alloc: Global,
     common: &Common,

@@ -58,7 +58,7 @@ impl<'a> Model for NamedCase<'a> {
 }
 
 impl<'a> NamedCase<'a> {
-    /// The rows, as a system.
+    /// Returns the rows, as a system.
     pub fn system(&self) -> JoinedSystem<'_>
         ensures { result ≡ self.now.system }
     {
@@ -68,14 +68,14 @@ impl<'a> NamedCase<'a> {
         }
     }
 
-    /// How many rows there are.
+    /// Returns how many rows there are.
     pub fn count(&self) -> u32
         ensures { result ≡ length self.now.system.rows }
     {
         self.system().count()
     }
 
-    /// The name of a row, which is counted from 0.
+    /// Returns the name of a row, which is counted from 0.
     pub fn name(&self, row: u32) -> RowName
         requires { row < length self.now.system.rows }
         ensures { (d : RowName) → slice_index_or self.now.names row d ≡ result }
@@ -89,7 +89,7 @@ impl<'a> NamedCase<'a> {
         }
     }
 
-    /// The factor of a row: the row is its named row times this, which is positive.
+    /// Returns the factor of a row: the row is its named row times this, which is positive.
     pub fn factor(&self, row: u32) -> Fraction
         requires { row < length self.now.system.rows }
         ensures { (d : Fraction) → slice_index_or self.now.factors row d ≡ result }
@@ -103,7 +103,7 @@ impl<'a> NamedCase<'a> {
         }
     }
 
-    /// The forms. The rows that they name are counted after the first `before()` rows.
+    /// Returns the forms. The rows that they name are counted after the first `before()` rows.
     pub fn forms(&self) -> &[NamedForm]
         ensures { result.now ≡ self.now.forms }
     {
@@ -113,8 +113,8 @@ impl<'a> NamedCase<'a> {
         }
     }
 
-    /// How many rows come before the one from which the forms count theirs: those of the case, if all cases share the
-    /// others, and else none.
+    /// Returns how many rows come before the one from which the forms count theirs: those of the case, if all cases
+    /// share the others, and else none.
     pub fn before(&self) -> u32
         ensures { result ≡ self.now.before }
     {
@@ -124,7 +124,7 @@ impl<'a> NamedCase<'a> {
         }
     }
 
-    /// Whether the last rows are those that all cases share, and the forms the first ones of theirs.
+    /// Returns whether the last rows are those that all cases share, and the forms the first ones of theirs.
     pub fn has_shared_rows(&self) -> bool
         ensures { result ≡ self.now.joined }
     {

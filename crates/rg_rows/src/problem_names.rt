@@ -11,8 +11,8 @@ use rg_lts::Lts;
 use rg_theory::{Class, Problem};
 use std::alloc::{AllocError, Global};
 
-// The rows of the problem: `block` in a pure class, `empty`, `full` and `keep` in another plain one, else `stop`; of a
-// state problem `apart`.
+// The rows of the problem: `block` in a pure class, `empty`, `full` and `keep` in another plain one, else `stop`; of
+// a state problem `apart`.
 pub(crate) fn problem_rows(
     alloc: Global,
     lts: &Lts,

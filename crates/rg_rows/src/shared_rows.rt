@@ -24,8 +24,8 @@ use rg_theory::Problem;
 use std::alloc::{AllocError, Global};
 
 /// The rows that each case has after its own: those that are kept of them, and their forms, as they are in a case
-/// without rows of its own. The start is the last form, if some problem splits on it. A row whose hash isn't among the
-/// hashes is none of these rows.
+/// without rows of its own. The start is the last form, if some problem splits on it. A row whose hash isn't among
+/// the hashes is none of these rows.
 #[derive(Drop)]
 pub(crate) struct SharedRows {
     pub(crate) rows: RowList,
@@ -35,8 +35,8 @@ pub(crate) struct SharedRows {
     pub(crate) hashes: IndexSet<u64>,
 }
 
-// Returns the rows that each case of the class has after its own, if the class isn't output-nonbranching and each row is
-// in range.
+// Returns the rows that each case of the class has after its own, if the class isn't output-nonbranching and each row
+// is in range.
 pub(crate) fn shared_rows(
     alloc: Global,
     setting: Setting<'_>,
@@ -57,8 +57,9 @@ pub(crate) fn shared_rows(
     }
 }
 
-// The rows that each case of the class has after its own, and their forms, with the start if some problem splits on it. They
-// are written for a case of an event problem: no row speaks of the problem, and event problems split on the start if any do.
+// The rows that each case of the class has after its own, and their forms, with the start if some problem splits on
+// it. They are written for a case of an event problem: no row speaks of the problem, and event problems split on the
+// start if any do.
 fn rows_in_range(
     alloc: Global,
     setting: Setting<'_>,

@@ -13,8 +13,9 @@ use rg_net::Place;
 use rg_theory::{Arc, Problem};
 use std::alloc::Global;
 
-// Places of a system that are kept, for each the problems that it is the first to separate, and what they separate. Their tokens are let go.
-// Those of a place that comes without them are written into `tokens`, along the arcs of a spanning tree of the system.
+// Places of a system that are kept, for each the problems that it is the first to separate, and what they separate.
+// Their tokens are let go. Those of a place that comes without them are written into `tokens`, along the arcs of a
+// spanning tree of the system.
 #[derive(Drop)]
 pub(crate) struct Kept<'a> {
     alloc: Global,

@@ -38,8 +38,8 @@ struct Tried {
     passed: Option<WideAt>,
 }
 
-// What a problem comes to: that of a label without an arc to the place that alone stops it, and each other one to what
-// its cases do.
+// What a problem comes to: that of a label without an arc to the place that alone stops it, and each other one to
+// what its cases do.
 pub(crate) fn solve_problem(
     problems: Problems<'_>,
     solver: &mut Solver,

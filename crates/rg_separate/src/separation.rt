@@ -53,7 +53,7 @@ pub enum SeparationWithFirsts {
     TooWide(WideAt),
 }
 
-/// Places of the class that together separate all separation problems of the system, each of whose states is
+/// Returns places of the class that together separate all separation problems of the system, each of whose states is
 /// reachable (Badouel, Bernardinello and Darondeau, *Petri Net Synthesis*).
 ///
 /// The cycle equations are solved first, and the rows that all problems share are written. Event problems are taken
@@ -86,8 +86,8 @@ pub fn separate<R: Threads + Sync, G: Gate + Sync>(
     Ok(separation.without_firsts(alloc)?)
 }
 
-/// What `separate` returns, and for each place the problems that it is the first to separate, which the search finds in any case.
-/// Returns `NoMemory` if memory runs out.
+/// Returns what `separate` returns, and for each place the problems that it is the first to separate, which the
+/// search finds in any case. Returns `NoMemory` if memory runs out.
 pub fn separate_with_firsts<R: Threads + Sync, G: Gate + Sync>(
     rt: &R,
     alloc: Global,

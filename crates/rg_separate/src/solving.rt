@@ -17,8 +17,8 @@ use rg_rows::Common;
 use rg_theory::Problem;
 use std::alloc::Global;
 
-// The problems of a system and a class, how many columns their systems have, and what all of them share: rows and forms, and
-// the forms of the shared rows as a branching takes them.
+// The problems of a system and a class, how many columns their systems have, and what all of them share: rows and
+// forms, and the forms of the shared rows as a branching takes them.
 #[derive(Clone, Copy)]
 pub(crate) struct Problems<'a> {
     pub(crate) alloc: Global,

@@ -51,7 +51,7 @@ pub(crate) const TWO_BOUNDED_TWO_MARKING: Class = Class {
     ..TWO_MARKING
 };
 
-/// Whether the problem is one of the system.
+/// Returns whether the problem is one of the system.
 pub(crate) fn is_asked(lts: &Lts, problem: Problem) -> bool
     ensures { IsTrue result → IsSeparationProblem lts.now problem }
 {

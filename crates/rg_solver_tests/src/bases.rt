@@ -11,7 +11,7 @@ use rg_samples::system;
 use rg_spanning::Tree;
 use std::alloc::Global;
 
-/// The basis of the system's chords.
+/// Returns the basis of the system's chords.
 pub(crate) fn basis(alloc: Global, lts: &Lts, tree: &Tree) -> Result<Basis, Stop>
     requires { IsTreeOf lts.now tree.now }
     ensures { IfOk result (λ b. labels_of b ≡ labels lts.now) }

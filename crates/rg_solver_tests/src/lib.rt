@@ -1,4 +1,5 @@
-//! Calls of the solver's crates on small systems that are worked by hand: rows and what counts in them, places, and whole separations.
+//! Calls of the solver's crates on small systems that are worked by hand: rows and what counts in them, places, and
+//! whole separations.
 #![tactic(auto)]
 
 #[cfg(test)]

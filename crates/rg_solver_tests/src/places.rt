@@ -32,7 +32,7 @@ pub(crate) const GET_AND_PUT: &str =
 const TWO_A_OR_ONE_B: &str =
     ".type LTS .states s0[initial] s1 s2 .labels a b .arcs s0 a s1 s1 a s2 s0 b s2";
 
-/// Whether the point has one number for each column.
+/// Returns whether the point has one number for each column.
 pub(crate) fn is_point(
     alloc: Global,
     setting: Setting<'_>,
@@ -87,7 +87,7 @@ fn place_of_text(
     place_over(alloc, setting, problem, &point)
 }
 
-/// Fractions of numbers in range.
+/// Returns fractions of numbers in range.
 pub(crate) fn point(alloc: Global, numbers: &[(i128, i128)]) -> Result<Vec<Fraction>, AllocError> {
     let mut point = Vec::new(alloc);
     for &(n, d) in numbers {
@@ -96,8 +96,8 @@ pub(crate) fn point(alloc: Global, numbers: &[(i128, i128)]) -> Result<Vec<Fract
     Ok(point)
 }
 
-// A problem of the system that a text spells, the numbers of a point, and its place: the start, what each label takes and gives, and
-// the tokens of the states, where they are given.
+// A problem of the system that a text spells, the numbers of a point, and its place: the start, what each label takes
+// and gives, and the tokens of the states, where they are given.
 #[derive(Clone, Copy)]
 struct Worked {
     text: &'static str,

@@ -13,7 +13,8 @@ use rg_theory::Problem::{self, Event, States};
 use std::alloc::Global;
 use std::thread::Threads;
 
-// The word a b b a a. The tokens of a region at s0 and s4 add up to twice those at s2. Label a occurs at s0 and s4, so no region stops it at s2.
+// The word a b b a a. The tokens of a region at s0 and s4 add up to twice those at s2. Label a occurs at s0 and s4,
+// so no region stops it at s2.
 const ABBAA: &str =
     ".type LTS .states s0[initial] s1 s2 s3 s4 s5 .labels a b .arcs s0 a s1 s1 b s2 s2 b s3 s3 a s4 s4 a s5";
 
@@ -44,8 +45,8 @@ fn certificate_of<R: Threads + Sync>(
     }
 }
 
-// Whether the problem is the refused one and so many places are found, and the search from these places on has the same certificate, that of the
-// whole separation. Known places leave fewer problems to the blocks.
+// Whether the problem is the refused one and so many places are found, and the search from these places on has the
+// same certificate, that of the whole separation. Known places leave fewer problems to the blocks.
 fn is_refused<R: Threads + Sync>(
     rt: &R,
     alloc: Global,

@@ -23,7 +23,8 @@ use rg_theory::{ALL_NETS, Class};
 use std::alloc::{AllocError, Global};
 use std::test::Fail;
 
-/// Each of two users is idle, asks for the lock, gets it and puts it back. States and labels are in the order in which the arcs name them.
+/// Each of two users is idle, asks for the lock, gets it and puts it back. States and labels are in the order in
+/// which the arcs name them.
 pub(crate) const LOCK_BY_ARCS: &str =
     ".type LTS .states ii[initial] wi iw ww ic wc ci cw .labels ask1 ask2 get2 put2 get1 put1 .arcs ii ask1 wi ii ask2 iw iw ask1 ww iw get2 ic ic ask1 wc ic put2 ii wi get1 ci wi ask2 ww ww get1 cw ww get2 wc wc put2 wi ci put1 ii ci ask2 cw cw put1 iw";
 
@@ -98,8 +99,8 @@ pub(crate) fn write_row(
     )
 }
 
-/// Writes a form as its name, its scale, its coefficients, its bounds, the row of this number and how many times that it
-/// is.
+/// Writes a form as its name, its scale, its coefficients, its bounds, the row of this number and how many times that
+/// it is.
 pub(crate) fn write_form(text: &mut String, form: &NamedForm, row: u64) -> Result<(), AllocError> {
     write!(
         text,
@@ -206,7 +207,8 @@ const SYSTEMS: [(&str, Class, Problem, u32, &str); 19] = [
         0,
         "1 2; Block [-1, -2] -1 1/1; Tokens(0) [1, 0] 0 1/1; Tokens(1) [1, 1] 0 1/1; Up(0) [0, -1] 1 1/1; Down(0) [0, 1] 1 1/1; Effect(0) 1 [0, 1] -1 1 4 1",
     ),
-    // a class that asks a marking counts the start by its steps: in the event problems of a plain class, and in all of a bounded one
+    // a class that asks a marking counts the start by its steps: in the event problems of a plain class, and in all
+    // of a bounded one
     (
         STEP,
         PLAIN_TWO_MARKING,

@@ -74,8 +74,8 @@ fn is_of_problem(name: RowName) -> bool {
     }
 }
 
-// Whether the rows that come before the shared ones are those that speak of the problem; where there are no shared rows,
-// whether none come before.
+// Whether the rows that come before the shared ones are those that speak of the problem; where there are no shared
+// rows, whether none come before.
 fn has_own_rows_first(named: &NamedCase<'_>) -> bool {
     let before = named.before();
     for i in 0..named.count() {

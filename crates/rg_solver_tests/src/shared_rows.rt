@@ -25,7 +25,8 @@ use rg_theory::{ALL_NETS, Class};
 use std::alloc::{AllocError, Global};
 use std::test::Fail;
 
-/// The number of a form's row among all rows, if so many rows come before that from which the forms count theirs.
+/// Returns the number of a form's row among all rows, if so many rows come before that from which the forms count
+/// theirs.
 pub(crate) fn row_of(form: &NamedForm, before: u32) -> u64 {
     if form.times == 0 {
         return u64::from(form.row);
@@ -52,8 +53,8 @@ fn write_forms(text: &mut String, named: &NamedCase<'_>) -> Result<(), AllocErro
     Ok(())
 }
 
-/// The system of a case with the rows that all cases share; None where the case isn't one of the system, or a step is out
-/// of range.
+/// Returns the system of a case with the rows that all cases share; None where the case isn't one of the system, or a
+/// step is out of range.
 pub(crate) fn named_case<'a>(
     alloc: Global,
     common: &'a Common,
@@ -290,7 +291,8 @@ fn are_named(named: &[NamedForm], forms: &[Form]) -> bool {
     named.len() == forms.len()
 }
 
-// Texts, classes, and their shared forms: in a bounded class one for each state, and in one that asks a marking the start.
+// Texts, classes, and their shared forms: in a bounded class one for each state, and in one that asks a marking the
+// start.
 const SHARED_FORMS: [(&str, Class, &[Form]); 13] = [
     (CYCLE, SAFE, &[Tokens(0), Tokens(1), Tokens(2)]),
     (CYCLE, TWO_BOUNDED, &[Tokens(0), Tokens(1), Tokens(2)]),

@@ -1,7 +1,7 @@
 //! The one answer for a system and a class: a net whose reachability graph is the system, or why there is none.
 //!
-//! A net of the class exists exactly where every state is reachable, no label leads from a state to two, and regions of the
-//! class separate all separation problems (Badouel, Bernardinello and Darondeau, *Petri Net Synthesis*).
+//! A net of the class exists exactly where every state is reachable, no label leads from a state to two, and regions
+//! of the class separate all separation problems (Badouel, Bernardinello and Darondeau, *Petri Net Synthesis*).
 #![tactic(auto)]
 
 mod answer;

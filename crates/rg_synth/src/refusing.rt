@@ -15,10 +15,10 @@ use rg_theory::ALL_NETS;
 use std::alloc::Global;
 use std::thread::Threads;
 
-/// Returns why no net has the system as its reachability graph, if that is the answer of `synthesize` for the class of
-/// all nets, with regions of the system: if there is no flaw, those that are known and those that were found. Returns
-/// None if the answer is another one. Known regions save work and change nothing else. Returns `NoMemory` if memory runs
-/// out.
+/// Returns why no net has the system as its reachability graph, if that is the answer of `synthesize` for the class
+/// of all nets, with regions of the system: if there is no flaw, those that are known and those that were found.
+/// Returns None if the answer is another one. Known regions save work and change nothing else. Returns `NoMemory` if
+/// memory runs out.
 pub fn refuse<R: Threads + Sync, G: Gate + Sync>(
     rt: &R,
     alloc: Global,

@@ -27,7 +27,8 @@ use rg_ports::{Gate, Shelf};
 use std::alloc::Global;
 use std::thread::Threads;
 
-// How a command ends: its yes or its no, with the text for out; why the words or a file are refused; or the number that is out of range.
+// How a command ends: its yes or its no, with the text for out; why the words or a file are refused; or the number
+// that is out of range.
 #[derive(Drop)]
 pub(crate) enum Answer {
     Yes(Vec<u8>),

@@ -133,11 +133,11 @@ pub fn self_test_ends_once()
     outcome_is_one();
 }
 
-/// Law: words and files have one answer. If the files are known, there is one end: it has one status, or the term that
-/// a status shows, and writes the same bytes to the same sink. So two runs over them in which there is memory and no
-/// call fails end alike and write the same, with any numbers of jobs and any gates. The status is the expected one,
-/// and if the answer for the system and the class is a term that is out of range, the end shows that term. If the
-/// files are known, all words have an expected status, or a term that is out of range decides.
+/// Law: words and files have one answer. If the files are known, there is one end: it has one status, or the term
+/// that a status shows, and writes the same bytes to the same sink. So two runs over them in which there is memory
+/// and no call fails end alike and write the same, with any numbers of jobs and any gates. The status is the expected
+/// one, and if the answer for the system and the class is a term that is out of range, the end shows that term. If
+/// the files are known, all words have an expected status, or a term that is out of range decides.
 pub fn answers_are_one()
     ensures { OneAnswer }
 {

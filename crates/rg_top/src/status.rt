@@ -8,17 +8,20 @@ use rg_messages::{FileFault, WideCause};
 /// How a run ends.
 #[derive(Drop)]
 pub enum Status {
-    /// The command's yes. Its text is written to out: a net, a net with labels, a system, factors, a map of states, a report, that a
-    /// certificate is accepted, that a net is right, or the lines of a self test.
+    /// The command's yes. Its text is written to out: a net, a net with labels, a system, factors, a map of states, a
+    /// report, that a certificate is accepted, that a net is right, or the lines of a self test.
     Done,
-    /// The command's no. Its text is written to out: a certificate, why a certificate is refused or a net isn't right, why a system has no
-    /// factors or is not split, the first difference of two systems, or what a form can't hold.
+    /// The command's no. Its text is written to out: a certificate, why a certificate is refused or a net isn't
+    /// right, why a system has no factors or is not split, the first difference of two systems, or what a form can't
+    /// hold.
     No,
     /// The words are refused; a line is written to err.
     Usage(Usage),
-    /// A file is missing or too long, or a file other than a certificate has a fault of its text; a line is written to err.
+    /// A file is missing or too long, or a file other than a certificate has a fault of its text; a line is written
+    /// to err.
     File(FileFault),
-    /// A number that the stated order of work forms, or a marking of a net, is out of range; a line with it is written to err.
+    /// A number that the stated order of work forms, or a marking of a net, is out of range; a line with it is
+    /// written to err.
     TooWide(WideCause),
     /// A call of the shelf failed; nothing is written.
     ReadFault,

@@ -16,7 +16,7 @@ pub struct Due<'a> {
 }
 
 impl<'a> Due<'a> {
-    /// As the case says.
+    /// Returns the end that the case names.
     pub fn of(case: &'a Case) -> Due<'a> {
         Due {
             status: case.status.unwrap_or(0),

@@ -74,8 +74,8 @@ fn read_fails<R: Threads + Sync>(
     difference_from(alloc, status, &outside, Due::of(case))
 }
 
-/// Returns a description of the first wrong run where a call of the sink that is written to fails, each in turn and then one
-/// that isn't made, and where each smaller room is full.
+/// Returns a description of the first wrong run where a call of the sink that is written to fails, each in turn and
+/// then one that isn't made, and where each smaller room is full.
 pub fn each_write<R: Threads + Sync>(
     rt: &R,
     alloc: Global,
@@ -118,8 +118,8 @@ fn written(case: &Case) -> &[u8] {
     }
 }
 
-// Only the first k bytes of the output are taken, since there is no more room, or since this call fails. In the second way the same run
-// again writes the whole output after them.
+// Only the first k bytes of the output are taken, since there is no more room, or since this call fails. In the
+// second way the same run again writes the whole output after them.
 fn write_fails<R: Threads + Sync>(
     rt: &R,
     alloc: Global,

@@ -32,7 +32,7 @@ fn word_and_rest(line: &str) -> (&str, &str) {
 }
 
 impl Reader {
-    /// A reader of a first line.
+    /// Returns a reader of a first line.
     pub fn new(alloc: Global) -> Reader {
         Reader {
             texts: Vec::new(alloc),
@@ -41,13 +41,13 @@ impl Reader {
         }
     }
 
-    /// Whether the line ends the case before it.
+    /// Returns whether the line ends the case before it.
     pub fn ends_case(&self, line: &str) -> bool {
         let (word, _) = word_and_rest(line);
         word == "case" || word == "text"
     }
 
-    /// The case whose lines were read, which is then no longer here; None where there was none.
+    /// Returns the case whose lines were read, which is then no longer here; None where there was none.
     pub fn take_case(&mut self) -> Result<Option<Case>, Stop> {
         self.place = Place::Nowhere;
         let Some(case) = self.case.take() else {

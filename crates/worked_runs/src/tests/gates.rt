@@ -1,4 +1,5 @@
-//! How many numbers of a block are at work in parallel, each inside the gate while it is, and how many problems the rounds of `split` have.
+//! How many numbers of a block are at work in parallel, each inside the gate while it is, and how many problems the
+//! rounds of `split` have.
 use crate::case::{Case, Fails};
 use crate::outside::Outside;
 use crate::stop::Stop;
@@ -23,8 +24,8 @@ const RING_AND_LABEL: &str =
 // The first problems of the parts, where the ring's block is halved for sixteen jobs.
 const OF_SIXTEEN: [u32; 16] = [0, 3, 7, 11, 15, 19, 23, 27, 31, 35, 39, 43, 47, 51, 55, 59];
 
-// Words and files of a run, and the problems of its block that are inside at once: the first one of each part. Of the word's eleven problems one
-// part has 0 to 4, and the other 5 to 10; two pairs of them are held.
+// Words and files of a run, and the problems of its block that are inside at once: the first one of each part. Of the
+// word's eleven problems one part has 0 to 4, and the other 5 to 10; two pairs of them are held.
 const RUNS: [(&str, &str, &[u32]); 11] = [
     ("words synthesize none f\n", RING, &[0]),
     ("words synthesize none f --jobs 2\n", RING, &[0, 31]),
@@ -89,8 +90,9 @@ fn so_many_numbers_are_at_work(rt: HostRuntime) -> Result<(), Stop> {
     Ok(())
 }
 
-// Six states and the labels a and b have 22 problems, and one of them is refused. With three labels there are 28, of which two regions of the
-// first round separate 20. No problem of these 28 is refused, and then all of them are solved for the net.
+// Six states and the labels a and b have 22 problems, and one of them is refused. With three labels there are 28, of
+// which two regions of the first round separate 20. No problem of these 28 is refused, and then all of them are
+// solved for the net.
 #[test]
 fn rounds_of_split_begin_with_known_regions(rt: HostRuntime) -> Result<(), Stop> {
     for words in [

@@ -8,8 +8,9 @@ const TURNS: u64 = 1_000_000_000;
 // How often it looks after that whether one more has come.
 const FURTHER_TURNS: u64 = 5_000_000;
 
-/// Holds some numbers, each the first time it is entered, until all of them are inside, and then until one more is or for some million
-/// turns. It counts how many are inside at once, how often numbers are entered and left, and keeps which ones.
+/// Holds some numbers, each the first time it is entered, until all of them are inside, and then until one more is or
+/// for some million turns. It counts how many are inside at once, how often numbers are entered and left, and keeps
+/// which ones.
 #[derive(Drop)]
 pub struct Holding<'a> {
     held: &'a [u32],
@@ -23,7 +24,7 @@ pub struct Holding<'a> {
 }
 
 impl<'a> Holding<'a> {
-    /// A gate that holds these numbers.
+    /// Returns a gate that holds these numbers.
     pub fn new(held: &'a [u32]) -> Holding<'a> {
         Holding {
             held,
@@ -37,12 +38,12 @@ impl<'a> Holding<'a> {
         }
     }
 
-    /// Whether all of the numbers that are held were inside at once, and no other number with them.
+    /// Returns whether all of the numbers that are held were inside at once, and no other number with them.
     pub fn were_alone(&self) -> bool {
         self.most.load(Ordering::SeqCst) == self.held.len() as u64
     }
 
-    /// Whether each number below `count` was entered once and left once, and no other was.
+    /// Returns whether each number below `count` was entered once and left once, and no other was.
     pub fn has_passed_once(&self, count: u32) -> bool {
         let all = 1u64.checked_shl(count).unwrap_or(0).wrapping_sub(1);
         self.entered.load(Ordering::SeqCst) == u64::from(count)

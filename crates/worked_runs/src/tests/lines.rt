@@ -72,7 +72,7 @@ fn last_case(alloc: Global, text: &str, line: &mut u64) -> Result<Option<Case>, 
     reader.take_case()
 }
 
-/// The case that the text has.
+/// Returns the case that the text has.
 pub fn case_of(alloc: Global, text: &str) -> Result<Case, Stop> {
     match last_case(alloc, text, &mut 0)? {
         Some(case) => Ok(case),

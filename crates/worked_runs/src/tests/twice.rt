@@ -17,8 +17,8 @@ const NET: &str =
 const CERTIFICATE: &str =
     "certificate 1\nclass safe\nevent s0 b\ncase\nsplit tokens s1 0\nleaf\n1 stop s2\n2 tokens s0\n2 above 0\n-1 arc s0 a s1\n1 arc s1 a s2\nleaf\n1 stop s2\n2 cap s2\n2 above 0\n1 arc s0 a s1\n-1 arc s1 a s2\nend\n";
 
-// Runs the words twice, one run after the other, over one shelf and the same sinks. The second status is that of the first, but for a
-// fault or lack of memory: the shelf's files are as before, so both runs have one answer.
+// Runs the words twice, one run after the other, over one shelf and the same sinks. The second status is that of the
+// first, but for a fault or lack of memory: the shelf's files are as before, so both runs have one answer.
 fn two_ends<R: Threads + Sync, H: Shelf, O: Sink, E: Sink>(
     rt: &R,
     alloc: Global,
