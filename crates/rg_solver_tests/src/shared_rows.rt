@@ -298,7 +298,11 @@ const SHARED_FORMS: [(&str, Class, &[Form]); 13] = [
     (CYCLE, TWO_BOUNDED, &[Tokens(0), Tokens(1), Tokens(2)]),
     (ABA, SAFE, &[Tokens(0), Tokens(1), Tokens(2), Tokens(3)]),
     (DEAD, SAFE, &[Tokens(0)]),
-    (STEP, TWO_BOUNDED_TWO_MARKING, &[Tokens(0), Tokens(1), Start]),
+    (
+        STEP,
+        TWO_BOUNDED_TWO_MARKING,
+        &[Tokens(0), Tokens(1), Start],
+    ),
     (CYCLE, PLAIN, &[Effect(0), Effect(1)]),
     (STEP, PLAIN_TWO_MARKING, &[Effect(0), Start]),
     (CYCLE, ALL_NETS, &[]),
