@@ -12,7 +12,7 @@
 # The last line is `N passed, M failed`. The status is 0 if nothing failed and at least `least` lines were tried.
 set -u
 top=$(cd "$(dirname "$0")/.." && pwd)
-program=$(readlink -f "${1:-$top/crates/regions/out/regions}")
+program=$(readlink -m "${1:-$top/crates/regions/out/regions}")
 [ -x "$program" ] || { echo "no program at $program: build it first (README.md)"; exit 2; }
 room=$(mktemp -d)
 trap 'rm -rf "$room"' EXIT

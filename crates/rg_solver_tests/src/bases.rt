@@ -2,7 +2,8 @@
 ghost use Rattle.std.specs.Prelude.{◌≡◌, IfOk};
 ghost use Rattle.rg_theory.specs.System.{labels};
 ghost use Rattle.rg_spanning.specs.Spanning.{IsTreeOf};
-ghost use Rattle.rg_cycles.specs.View.{labels_of};
+ghost use Rattle.rg_case_folds.specs.Chords.{IsBasis};
+ghost use Rattle.rg_cycles.specs.View.{labels_of, cycle_of};
 
 use rg_case_parts::TreeChords;
 use rg_cycles::{Basis, ChordRows, Stop, reduce_rows};
@@ -14,7 +15,8 @@ use std::alloc::Global;
 /// Returns the basis of the system's chords.
 pub(crate) fn basis(alloc: Global, lts: &Lts, tree: &Tree) -> Result<Basis, Stop>
     requires { IsTreeOf lts.now tree.now }
-    ensures { IfOk result (λ b. labels_of b ≡ labels lts.now) }
+    ensures labels { IfOk result (λ b. labels_of b ≡ labels lts.now) }
+    ensures is_basis { IfOk result (λ b. IsBasis lts.now tree.now.arcs (cycle_of b)) }
 {
     reduce_rows(alloc, lts.labels(), &TreeChords::new(lts, tree))
 }

@@ -11,6 +11,8 @@ mod calls;
 #[cfg(test)]
 mod expressions;
 #[cfg(test)]
+mod leaves;
+#[cfg(test)]
 mod places;
 #[cfg(test)]
 mod refusals;
