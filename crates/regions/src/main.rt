@@ -1,7 +1,7 @@
 //! The program `regions`.
 #![tactic(auto)]
 
-use rg_program::run_program;
+use rg_top::run_program;
 use std::process::ExitCode;
 
 fn main(rt: HostRuntime) -> ExitCode {

@@ -1,7 +1,7 @@
 //! The program `regions` again, with another stored run: one whose file is missing, which ends with status 3.
 #![tactic(auto)]
 
-use rg_program::run_program;
+use rg_top::run_program;
 use std::process::ExitCode;
 
 fn main(rt: HostRuntime) -> ExitCode {

@@ -2,7 +2,7 @@
 //! status 4.
 #![tactic(auto)]
 
-use rg_program::run_program;
+use rg_top::run_program;
 use std::process::ExitCode;
 
 fn main(rt: HostRuntime) -> ExitCode {

@@ -19,7 +19,7 @@ use Rattle.rg_product.specs.Factoring.{Factoring, factors, one_block, fewer, IsF
 use Rattle.rg_product.specs.Beside.{net_beside}
 use Rattle.rg_messages.specs.FlawTexts.{flaw_line}
 use Rattle.rg_messages.specs.FactorTexts.{one_block_text, sizes_line, factors_text, unsolvable_factor_line}
-use Rattle.rg_factor_nets.specs.Answer.{IsBehindNets, HasNet, IsNetOf}
+use Rattle.rg_top.specs.FactorsAnswer.{IsBehindNets, HasNet, IsNetOf}
 use Rattle.rg_top.specs.End.{End, says_yes, says_no, shows_term, HasStatus}
 use Rattle.rg_top.specs.Factor.{HasFactors, FactorEnds, a_flaw, no_blocks, no_product, all_factors, a_net, a_certificate, a_term}
 use Rattle.rg_top.specs.Factor.{FactorIsDue, for_a_flaw, for_one_block, for_sizes, for_factors, for_nets, for_a_reason, for_a_term}

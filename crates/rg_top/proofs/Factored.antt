@@ -27,7 +27,7 @@ use Rattle.rg_product.specs.Product.{Factor, IsFactorAt, Product}
 use Rattle.rg_product.specs.Factoring.{factors, one_block, IsFactoring, IsFactoring.of_one_block, IsFactoring.of_factors}
 use Rattle.rg_product.specs.Beside.{net_beside, IsIrredundant}
 use Rattle.rg_product.proofs.ProductSquares.{joined_is_one_block, one_block_no_product}
-use Rattle.rg_factor_nets.specs.Answer.{IsNetBeside as IsMadeOfNets, IsCertificateOfFactor, IsTermOfFactor}
+use Rattle.rg_top.specs.FactorsAnswer.{IsNetBeside as IsMadeOfNets, IsCertificateOfFactor, IsTermOfFactor}
 use Rattle.rg_cert_data.specs.declared.wide_at.WideAt.{WideAt}
 use Rattle.rg_separate.specs.View.{shown_of}
 use Rattle.rg_synth.specs.Answer.{IsOpen}

@@ -8,6 +8,7 @@ pub mod VerifyOnce
 pub mod CheckOnce
 pub mod ConvertOnce
 pub mod FactorOnce
+pub mod NetsBeside
 pub mod Factored
 pub mod SplitOnce
 pub mod IsomorphicOnce

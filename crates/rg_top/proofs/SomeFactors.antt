@@ -15,7 +15,7 @@ use Rattle.rg_product.specs.Product.{Factor, IsFactorAt, AreInRange}
 use Rattle.rg_product.specs.Factoring.{Factoring, factors, one_block, fewer, IsFactoring, IsFactoring.of_factors}
 use Rattle.rg_product.proofs.OneFactoring.{factors_in_range}
 use Rattle.rg_synth.specs.Answer.{IsOpen}
-use Rattle.rg_factor_nets.specs.Answer.{HasNet}
+use Rattle.rg_top.specs.FactorsAnswer.{HasNet}
 use Rattle.rg_commands.specs.declared.request.Work.TheVariants as work
 use Rattle.rg_top.specs.Factor.{HasFactors, for_a_flaw, for_one_block, for_sizes, for_factors, for_nets, for_a_reason}
 use Rattle.rg_top.specs.Due.{for_factors as term_for_factors}

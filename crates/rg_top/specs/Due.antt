@@ -20,7 +20,7 @@ use Rattle.rg_top.specs.Verify.{VerifyIsDue}
 use Rattle.rg_top.specs.Check.{CheckIsDue}
 use Rattle.rg_top.specs.Convert.{ConvertIsDue}
 use Rattle.rg_product.specs.Product as product
-use Rattle.rg_factor_nets.specs.Answer.{IsBehindNets}
+use Rattle.rg_top.specs.FactorsAnswer.{IsBehindNets}
 use Rattle.rg_top.specs.Factor.{FactorIsDue, HasFactors}
 use Rattle.rg_top.specs.Split.{SplitIsDue}
 use Rattle.rg_split.specs.Rounds.{labelling, Splitting.too_wide as passes, SplitsTo}

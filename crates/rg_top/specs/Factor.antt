@@ -20,7 +20,7 @@ use Rattle.rg_product.specs.declared.Broken.{Broken}
 use Rattle.rg_product.specs.Product.{Factor, IsFactorAt, Product, IsIndivisible}
 use Rattle.rg_product.specs.Factoring.{factors, one_block, fewer, IsFactoring}
 use Rattle.rg_product.specs.Beside.{net_beside, IsIrredundant}
-use Rattle.rg_factor_nets.specs.Answer.{HasNet, IsBehindNets, IsNetOf}
+use Rattle.rg_top.specs.FactorsAnswer.{HasNet, IsBehindNets, IsNetOf}
 use Rattle.rg_separate.specs.View.{shown_of}
 use Rattle.rg_cert_data.specs.declared.wide_at.WideAt.{WideAt}
 use Rattle.rg_synth.specs.Answer.{IsOpen}

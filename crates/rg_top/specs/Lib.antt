@@ -11,6 +11,7 @@ pub mod Isomorphic
 pub mod Examine
 pub mod Generate
 pub mod SelfTest
+pub mod FactorsAnswer
 pub mod Factor
 pub mod Split
 pub mod Ends
@@ -18,3 +19,4 @@ pub mod Due
 pub mod Run
 pub mod One
 pub mod Requests
+pub mod Exit

@@ -11,11 +11,11 @@ ghost use Rattle.rg_top.specs.Factor.{AreFactorsOf, FactorEnds};
 ghost use Rattle.rg_top.specs.Requests.{end_of};
 
 use crate::answer::Answer;
+use crate::factor_nets::{FactorsAnswer, synthesize_factors};
 use rg_cert::print;
 use rg_cert_data::Certificate;
 use rg_checks::first_flaw;
 use rg_factor::{Factor, Factoring, factor};
-use rg_factor_nets::{FactorsAnswer, synthesize_factors};
 use rg_lts::Lts;
 use rg_memory::NoMemory;
 use rg_messages::{

@@ -6,12 +6,14 @@ mod checking;
 mod comparing;
 mod converting;
 mod examining;
+mod factor_nets;
 mod factoring;
 mod files;
 mod generating;
 mod laws;
 mod net_laws;
 mod output;
+mod program;
 mod run_whole;
 mod splitting;
 mod status;
@@ -25,6 +27,7 @@ pub use laws::{
     synthesize_ends_once, verify_ends_once, written_is_accepted,
 };
 pub use net_laws::written_net_gets_yes;
+pub use program::{ProgramEnd, exit_code, run_program};
 pub use rg_cert_data::{Stage, WideAt};
 pub use rg_commands::Usage;
 pub use rg_families::{Kind, generate, is_family_number};

@@ -3,8 +3,8 @@ use Rattle.rg_cert_data.specs.Certificates.{claim_of}
 use Rattle.rg_cert.specs.Text.{cert_text}
 use Rattle.rg_product.specs.Product.{Factor}
 use Rattle.rg_factor.specs.View.{shown_factor}
-use Rattle.rg_factor_nets.specs.Answer.{IfNet, IfUnsolvable, IfTooWide, IsNetBeside, IsCertificateOfFactor, IsTermOfFactor}
-use Rattle.rg_factor_nets.specs.declared.answer.FactorsAnswer.{FactorsAnswer}
+use Rattle.rg_top.specs.FactorsAnswer.{IfNet, IfUnsolvable, IfTooWide, IsNetBeside, IsCertificateOfFactor, IsTermOfFactor}
+use Rattle.rg_top.specs.declared.factor_nets.FactorsAnswer.{FactorsAnswer}
 use Rattle.rg_messages.specs.FactorTexts.{unsolvable_factor_line}
 use Rattle.rg_top.proofs.Factored.{nets_end, certificate_end, term_end, factor_here}
 use Rattle.rg_top.proofs.factoring.nets_answer.Goals as goal

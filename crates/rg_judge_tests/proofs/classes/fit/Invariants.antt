@@ -1,6 +1,0 @@
-use Rattle.rg_judge_tests.proofs.Fitting.{FirstFit}
-use Rattle.rg_judge_tests.proofs.classes.fit.Given as goal
-
--- the markings before this one fit
-abbrev pub invariant-loop-marking : goal.invariant-loop-marking
-invariant-loop-marking l = FirstFit l.markings l.places l.marking-index

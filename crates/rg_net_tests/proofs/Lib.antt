@@ -1,0 +1,3 @@
+mod Narrowing
+mod ByTokens
+mod Fitting

@@ -1,0 +1,5 @@
+use Rattle.rg_marks.specs.Separated.{AreSome}
+use Rattle.rg_net_tests.proofs.separated.all_added.Given as goal
+
+abbrev pub invariant-loop-one : goal.invariant-loop-one
+invariant-loop-one l = AreSome l.lts l.separated

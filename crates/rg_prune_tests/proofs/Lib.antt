@@ -1,2 +1,0 @@
-mod Narrowing
-mod ByTokens

@@ -1,5 +1,0 @@
-use Rattle.rg_marks.specs.Separated.{AreSome}
-use Rattle.rg_prune_tests.proofs.separated.all_added.Given as goal
-
-abbrev pub invariant-loop-one : goal.invariant-loop-one
-invariant-loop-one l = AreSome l.lts l.separated
