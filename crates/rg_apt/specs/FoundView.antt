@@ -3,24 +3,22 @@ use Rattle.std.specs.Prelude.{ℕ, List, map, All}
 use Rattle.rg_lexer.specs.declared.token.Token.{Token}
 use Rattle.rg_lexer.specs.Lexeme.{Lexeme, lexeme}
 use Rattle.rg_grammar.specs.Entry.{IsNameOf}
-use Rattle.rg_apt.specs.declared.found.FoundState.{FoundState}
-use Rattle.rg_apt.specs.declared.found.FoundArc.{FoundArc}
 use Rattle.rg_apt.specs.declared.found.Found.{Found}
 use Rattle.rg_apt.specs.Contents.{StateEntry, ArcNames, Declared}
 
-abbrev pub state_in : List ℕ → FoundState → StateEntry
+abbrev pub state_in : List ℕ → StateEntry Token → StateEntry Lexeme
 state_in bytes s = record { name = lexeme bytes s.name; initial = s.initial }
 
-abbrev pub arc_in : List ℕ → FoundArc → ArcNames
+abbrev pub arc_in : List ℕ → ArcNames Token → ArcNames Lexeme
 arc_in bytes a = record { from = lexeme bytes a.from; label = lexeme bytes a.label; to = lexeme bytes a.to }
 
-abbrev pub states_in : List ℕ → List FoundState → List StateEntry
+abbrev pub states_in : List ℕ → List (StateEntry Token) → List (StateEntry Lexeme)
 states_in bytes states = map (state_in bytes) states
 
 abbrev pub labels_in : List ℕ → List Token → List Lexeme
 labels_in bytes labels = map (lexeme bytes) labels
 
-abbrev pub arcs_in : List ℕ → List FoundArc → List ArcNames
+abbrev pub arcs_in : List ℕ → List (ArcNames Token) → List (ArcNames Lexeme)
 arcs_in bytes arcs = map (arc_in bytes) arcs
 
 -- what is found, with the bytes that its tokens have in the text
@@ -33,10 +31,10 @@ found_in bytes f = record {
 }
 
 -- the names of what is found are names of the text
-abbrev pub IsStateOf : List ℕ → FoundState → Type 0
+abbrev pub IsStateOf : List ℕ → StateEntry Token → Type 0
 IsStateOf bytes s = IsNameOf bytes s.name
 
-abbrev pub IsArcOf : List ℕ → FoundArc → Type 0
+abbrev pub IsArcOf : List ℕ → ArcNames Token → Type 0
 IsArcOf bytes a = IsNameOf bytes a.from × IsNameOf bytes a.label × IsNameOf bytes a.to
 
 pub record HoldsNames (bytes : List ℕ) (f : Found) : Type 0 where

@@ -8,7 +8,7 @@ use Rattle.rg_lexer.specs.Lexeme.{Lexeme}
 use Rattle.rg_lexer.specs.declared.token.Kind.{Kind}
 use Rattle.rg_lexer.specs.declared.token.Kind.TheVariants.{Name, Word, Text, LeftBracket, LeftBrace, RightBrace, Comma, Colon, Star, Arrow}
 use Rattle.rg_grammar.specs.Entry.{IsEntry, IsWord}
-use Rattle.rg_grammar.specs.ListPosition.{first_key}
+use Rattle.rg_grammar.specs.declared.list_position.ListPosition.TheVariants.{FirstKey}
 use Rattle.rg_grammar.specs.Grammar.{leads_all}
 use Rattle.rg_grammar.proofs.Complete.{Tail, tail_of_more, tail_more, Things, SomeThings, no_things, some_things, close_more, comma_more, Enclosed, enclosed, After, after_of_more, after_of_list, entry_more, ListCompletes, list_token_in, same_bytes, other_bytes}
 use Rattle.rg_grammar.proofs.Complete as complete
@@ -187,7 +187,7 @@ token_more (in_section s) x xs Word q kind lead go = tail_of_more IsEntry Items 
 token_more (after_entry s) x xs Name q kind lead go = after_of_more Entries (x ∷ xs) (entry_more Items x xs kind (led (after_entry s) q xs lead go))
 token_more (after_entry s) x xs Word q kind lead go =
     after_of_more Entries (x ∷ xs) (tail_of_more IsEntry Items (x ∷ xs) (word_items x xs kind (led (after_word x.text) q xs lead go)))
-token_more (after_entry s) x xs LeftBracket q kind lead go = after_of_list Entries x xs kind (led (in_list s first_key) q xs lead go)
+token_more (after_entry s) x xs LeftBracket q kind lead go = after_of_list Entries x xs kind (led (in_list s FirstKey) q xs lead go)
 token_more (in_list s position) x xs k q kind lead go =
     list_token_in (in_list s) (in_section s) Completes Entries (λ position xs h. h) (λ xs h. h) position x xs k q kind lead go
 token_more in_flows x xs Name q kind lead go = led after_flow_name q xs lead go x kind

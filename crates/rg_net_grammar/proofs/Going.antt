@@ -3,7 +3,7 @@ use Rattle.std.proofs.Common.{◌≡◌, List, [], ◌∷◌, ◌++◌, Some, co
 use Rattle.rg_lexer.specs.Lexeme.{Lexeme}
 use Rattle.rg_lexer.specs.declared.token.Kind.TheVariants.{Name, Text, LeftBrace, RightBrace, Colon, Arrow}
 use Rattle.rg_grammar.specs.Grammar.{leads_all}
-use Rattle.rg_grammar.specs.ListPosition.{first_key, next_key, after_key, value, after_value}
+use Rattle.rg_grammar.specs.declared.list_position.ListPosition.TheVariants.{FirstKey, NextKey, AfterKey, Value, AfterValue}
 use Rattle.rg_grammar.proofs.Going.{token, name, close, CanEnd, leads_on}
 use Rattle.rg_net_grammar.specs.Item.{Item, AreItems}
 use Rattle.rg_net_grammar.specs.Table.{Side, pre, post, marking, SetPosition, first_member, next_member, after_name, after_star, after_member, Position, section, type_name, passed_text, in_section, after_entry, in_list, in_flows, after_flow_name, before_set, in_set, after_pre, after_set}
@@ -48,11 +48,11 @@ can_end type_name = record { more = token Name (codes "PN") ∷ []; position = s
 can_end passed_text = record { more = token Text (codes "\"\"") ∷ []; position = section; lead = refl; may = refl }
 can_end (in_section s) = record { more = []; position = in_section s; lead = refl; may = refl }
 can_end (after_entry s) = record { more = []; position = after_entry s; lead = refl; may = refl }
-can_end (in_list s first_key) = record { more = close ∷ []; position = in_section s; lead = refl; may = refl }
-can_end (in_list s next_key) = record { more = name ∷ close ∷ []; position = in_section s; lead = refl; may = refl }
-can_end (in_list s (after_key key)) = record { more = close ∷ []; position = in_section s; lead = refl; may = refl }
-can_end (in_list s (value key)) = record { more = name ∷ close ∷ []; position = in_section s; lead = refl; may = refl }
-can_end (in_list s after_value) = record { more = close ∷ []; position = in_section s; lead = refl; may = refl }
+can_end (in_list s FirstKey) = record { more = close ∷ []; position = in_section s; lead = refl; may = refl }
+can_end (in_list s NextKey) = record { more = name ∷ close ∷ []; position = in_section s; lead = refl; may = refl }
+can_end (in_list s (AfterKey key)) = record { more = close ∷ []; position = in_section s; lead = refl; may = refl }
+can_end (in_list s (Value key)) = record { more = name ∷ close ∷ []; position = in_section s; lead = refl; may = refl }
+can_end (in_list s AfterValue) = record { more = close ∷ []; position = in_section s; lead = refl; may = refl }
 can_end in_flows = record { more = []; position = in_flows; lead = refl; may = refl }
 can_end after_flow_name = after after_flow_name (after_set pre) (token Colon (codes ":") ∷ left ∷ right ∷ []) refl (set_can_end pre)
 can_end (before_set side) = after (before_set side) (after_set side) (left ∷ right ∷ []) refl (set_can_end side)

@@ -7,8 +7,9 @@ use Rattle.std.proofs.lemmas.List.Sums.{list_all-from_AllPass}
 use Rattle.rg_lexer.specs.Lexeme.{Lexeme}
 use Rattle.rg_lexer.specs.declared.token.Kind.{Kind}
 use Rattle.rg_lexer.specs.declared.token.Kind.TheVariants.{Name, LeftBracket, LeftBrace, RightBrace, Comma, Colon, Star, Arrow}
-use Rattle.rg_grammar.specs.Entry.{Setting, Entry, IsEntry, AreEach}
-use Rattle.rg_grammar.specs.ListPosition.{first_key}
+use Rattle.rg_grammar.specs.declared.list_position.Setting.{Setting}
+use Rattle.rg_grammar.specs.Entry.{Entry, IsEntry, AreEach}
+use Rattle.rg_grammar.specs.declared.list_position.ListPosition.TheVariants.{FirstKey}
 use Rattle.rg_grammar.proofs.Last.{change_push}
 use Rattle.rg_grammar.proofs.Moves.{moves_both, moves_same, step, take_all, each_move, thing_position, Encloses, enclosed_move}
 use Rattle.rg_grammar.proofs.Moves as moves
@@ -32,7 +33,7 @@ both p q r d e f xs ys one two = moves_both net_grammar p q r d e f xs ys one tw
 
 lists : (s : Section) → HasLists Position Progress ItemFault net_grammar (in_list s) (after_entry s) (in_section s) (with_setting s)
 lists s = record {
-  opens = λ d x bracket. kind_step (after_entry s) (in_list s first_key) d d x LeftBracket bracket refl refl;
+  opens = λ d x bracket. kind_step (after_entry s) (in_list s FirstKey) d d x LeftBracket bracket refl refl;
   leads = λ position x. refl;
   adds = λ position x d. refl;
 }
@@ -66,7 +67,7 @@ entries_move : (s : Section) (d : Progress) (es : List Entry) (xs : List Lexeme)
 entries_move s d es xs is = each_move net_grammar (free s) IsEntry (with_entry s) (entry_moves s) true d es xs is
 
 -- places: their options are passed over
-no_settings : (settings : List Setting) (d : Progress) → take_all (with_setting places) settings d ≡ d
+no_settings : (settings : List (Setting Lexeme)) (d : Progress) → take_all (with_setting places) settings d ≡ d
 no_settings [] d = refl
 no_settings (setting ∷ more) d = no_settings more d
 
@@ -96,7 +97,7 @@ or_none : (a : Option Lexeme) → a ≡ option_or a None
 or_none None = refl
 or_none (Some x) = refl
 
-all_values : (settings : List Setting) (name : Lexeme) (value : Option Lexeme) (d : Progress)
+all_values : (settings : List (Setting Lexeme)) (name : Lexeme) (value : Option Lexeme) (d : Progress)
     → take_all (with_setting transitions) settings (with_transition (record { name = name; value = value }) d)
     ≡ with_transition (record { name = name; value = option_or value (first_label settings) }) d
 all_values [] name value d = ap (λ o. with_transition (record { name = name; value = o }) d) (or_none value)

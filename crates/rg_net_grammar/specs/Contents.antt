@@ -4,7 +4,9 @@ use Rattle.std.specs.List.{list_any, flat_map}
 use Rattle.std.specs.Option.{option_or}
 use Rattle.std.specs.Str.{bytes_eq}
 use Rattle.rg_lexer.specs.Lexeme.{Lexeme}
-use Rattle.rg_grammar.specs.Entry.{Setting, alone, valued, Entry, value_text}
+use Rattle.rg_grammar.specs.declared.list_position.Setting.{Setting}
+use Rattle.rg_grammar.specs.declared.list_position.Setting.TheVariants.{Alone, Valued}
+use Rattle.rg_grammar.specs.Entry.{Entry, value_text}
 use Rattle.rg_net_grammar.specs.Item.{Member, Flow, Item, type, places, transitions, flows, marking}
 
 -- a transition and its label
@@ -21,12 +23,12 @@ pub record Declared : Type 0 where
   pub marking : List Member
 
 -- the value that an option gives to a label, if it gives one
-abbrev pub label_in : Setting → Option Lexeme
-label_in (alone key) = None
-label_in (valued key value) = if bytes_eq key.text (codes "label") then Some value else None
+abbrev pub label_in : Setting Lexeme → Option Lexeme
+label_in (Alone key) = None
+label_in (Valued key value) = if bytes_eq key.text (codes "label") then Some value else None
 
 -- the first value that options give to a label
-abbrev pub first_label : List Setting → Option Lexeme
+abbrev pub first_label : List (Setting Lexeme) → Option Lexeme
 first_label [] = None
 first_label (setting ∷ more) = option_or (label_in setting) (first_label more)
 

@@ -4,7 +4,7 @@ use Rattle.std.specs.Option.{option_or}
 use Rattle.rg_lexer.specs.Lexeme.{Lexeme}
 use Rattle.rg_lexer.specs.declared.token.Kind.{Kind}
 use Rattle.rg_lexer.specs.declared.token.Kind.TheVariants.{Name, RightBrace, Comma}
-use Rattle.rg_grammar.specs.Entry.{Setting}
+use Rattle.rg_grammar.specs.declared.list_position.Setting.{Setting}
 use Rattle.rg_grammar.specs.ListPosition.{completed_by, with_completed}
 use Rattle.rg_grammar.specs.Grammar.{Grammar}
 use Rattle.rg_grammar.specs.Last.{change_last}
@@ -38,11 +38,11 @@ abbrev pub declared_by : Progress → Declared
 declared_by d = record { typed = d.typed; places = d.places; transitions = map transition_of d.transitions; flows = d.flows; marking = d.marking }
 
 -- a transition gets the value of an option, if the option gives one and none came before
-abbrev pub with_value : Setting → Labelled → Labelled
+abbrev pub with_value : Setting Lexeme → Labelled → Labelled
 with_value setting t = record t { value = option_or t.value (label_in setting) }
 
 -- an option of the last entry of a section
-abbrev pub with_setting : Section → Setting → Progress → Progress
+abbrev pub with_setting : Section → Setting Lexeme → Progress → Progress
 with_setting places setting d = d
 with_setting transitions setting d = record d { transitions = change_last (with_value setting) d.transitions }
 

@@ -9,7 +9,9 @@ use Rattle.rg_lexer.specs.declared.token.Kind.{Kind}
 use Rattle.rg_lexer.specs.declared.token.Kind.TheVariants.{Name, Word, Text, LeftBracket, LeftBrace, RightBrace, Comma, Colon, Star, Arrow}
 use Rattle.rg_lexer.specs.declared.token.Want.{Want}
 use Rattle.rg_lexer.specs.declared.token.Want.TheVariants as want
-use Rattle.rg_grammar.specs.ListPosition.{ListPosition, first_key, list_wanted, list_leads_by, list_to}
+use Rattle.rg_grammar.specs.declared.list_position.ListPosition.{ListPosition}
+use Rattle.rg_grammar.specs.declared.list_position.ListPosition.TheVariants.{FirstKey}
+use Rattle.rg_grammar.specs.ListPosition.{list_wanted, list_leads_by, list_to}
 use Rattle.rg_grammar.specs.declared.fault.ItemFault.{ItemFault}
 use Rattle.rg_grammar.specs.declared.fault.ItemFault.TheVariants.{Expected, WrongType}
 
@@ -39,7 +41,7 @@ pub data Position : Type 0 where
   passed_text : Position  -- after another word
   in_section : Section → Position  -- after the section's word or an option list
   after_entry : Section → Position  -- directly after an entry
-  in_list : Section → ListPosition → Position
+  in_list : Section → ListPosition Lexeme → Position
   in_flows : Position  -- where a flow may begin
   after_flow_name : Position
   before_set : Side → Position  -- where a set is due
@@ -120,7 +122,7 @@ leads_by (in_section s) Name x = Some (after_entry s)
 leads_by (in_section s) Word x = Some (after_word x.text)
 leads_by (after_entry s) Name x = Some (after_entry s)
 leads_by (after_entry s) Word x = Some (after_word x.text)
-leads_by (after_entry s) LeftBracket x = Some (in_list s first_key)
+leads_by (after_entry s) LeftBracket x = Some (in_list s FirstKey)
 leads_by (in_list s position) kind x = option_map (list_to (in_list s) (in_section s)) (list_leads_by position kind x)
 leads_by in_flows Name x = Some after_flow_name
 leads_by in_flows Word x = Some (after_word x.text)

@@ -2,7 +2,8 @@
 ghost use Rattle.std.specs.Prelude.{◌≡◌, ◌≤◌, ◌++◌, ◌∷◌, [], ℕ, List, Option, length, map, option_map, All, IfSome, IfErr, OnOk};
 ghost use Rattle.rg_lexer.specs.Lexeme.{Lexeme, lexeme};
 ghost use Rattle.rg_lexer.specs.Tokens.{IsTokenOf};
-ghost use Rattle.rg_grammar.specs.Entry.{Setting, IsNameOf, IsValueOf};
+ghost use Rattle.rg_grammar.specs.declared.list_position.Setting.{Setting};
+ghost use Rattle.rg_grammar.specs.Entry.{IsNameOf, IsValueOf};
 ghost use Rattle.rg_grammar.specs.Last.{change_last};
 ghost use Rattle.rg_grammar.specs.ListView.{list_position_in, setting_in, HoldsKey, HoldsSetting};
 ghost use Rattle.rg_net_grammar.specs.Contents.{label_in};
@@ -17,7 +18,7 @@ use crate::position::{
     from_pre, from_section, from_start, from_type, from_word, want_at,
 };
 use crate::set_position::{SetPosition, Side, from_set, set_refusal};
-use rg_grammar::{FoundSetting, ItemFault, ListPosition, Reader, setting_of, text_of};
+use rg_grammar::{ItemFault, ListPosition, Reader, Setting, setting_of, text_of};
 use rg_lexer::{Kind, Token, Want};
 use std::alloc::Global;
 
@@ -55,14 +56,14 @@ pub struct Found {
 }
 
 // The value that an option gives to a label, if it gives one.
-fn label_in(bytes: &[u8], setting: FoundSetting) -> Option<Token>
+fn label_in(bytes: &[u8], setting: Setting<Token>) -> Option<Token>
     requires { HoldsSetting bytes.now setting }
     ensures label { option_map (lexeme bytes.now) result ≡ label_in (setting_in bytes.now setting) }
     ensures value { IfSome result (IsValueOf bytes.now) }
 {
     match setting {
-        FoundSetting::Alone(_) => None,
-        FoundSetting::Valued(key, value) => {
+        Setting::Alone(_) => None,
+        Setting::Valued(key, value) => {
             if text_of(bytes, key) == b"label".as_slice() {
                 Some(value)
             } else {
@@ -74,7 +75,7 @@ fn label_in(bytes: &[u8], setting: FoundSetting) -> Option<Token>
 
 // Gives the last transition a label, if there is one and it has none yet.
 fn label_last(transitions: &mut Vec<FoundTransition>, label: Option<Token>)
-    ensures found { (bytes : List ℕ) (setting : Setting) → option_map (lexeme bytes) label ≡ label_in setting
+    ensures found { (bytes : List ℕ) (setting : Setting Lexeme) → option_map (lexeme bytes) label ≡ label_in setting
         → map (labelled_in bytes) transitions.new.items ≡ change_last (with_value setting) (map (labelled_in bytes) transitions.old.items) }
     ensures names { (bytes : List ℕ) → IfSome label (IsValueOf bytes)
         → All (IsTransitionOf bytes) transitions.old.items → All (IsTransitionOf bytes) transitions.new.items }
@@ -171,7 +172,7 @@ impl Found {
     }
 
     // An option of the last entry is read.
-    fn option(&mut self, bytes: &[u8], section: Section, setting: FoundSetting)
+    fn option(&mut self, bytes: &[u8], section: Section, setting: Setting<Token>)
         requires { HoldsSetting bytes.now setting }
         ensures found { progress_in bytes.now self.new ≡ with_setting (section_in section) (setting_in bytes.now setting) (progress_in bytes.now self.old) }
         ensures names { HoldsNames bytes.now self.old → HoldsNames bytes.now self.new }
@@ -225,7 +226,13 @@ impl Found {
     }
 
     // A token comes in an option list.
-    fn at_option(&mut self, bytes: &[u8], section: Section, position: ListPosition, token: Token)
+    fn at_option(
+        &mut self,
+        bytes: &[u8],
+        section: Section,
+        position: ListPosition<Token>,
+        token: Token,
+    )
         requires token { IsTokenOf bytes.now token }
         requires key { HoldsKey bytes.now position }
         ensures found { progress_in bytes.now self.new

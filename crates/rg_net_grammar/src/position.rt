@@ -27,7 +27,7 @@ pub enum Position {
     PassedText,
     InSection(Section),
     AfterEntry(Section),
-    InList(Section, ListPosition),
+    InList(Section, ListPosition<Token>),
     InFlows,
     AfterFlowName,
     BeforeSet(Side),
@@ -148,7 +148,7 @@ pub fn from_entry(section: Section, token: Token, text: &[u8]) -> Option<Positio
 }
 
 /// Returns where a token leads in an option list.
-pub fn from_list(section: Section, position: ListPosition, token: Token) -> Option<Position>
+pub fn from_list(section: Section, position: ListPosition<Token>, token: Token) -> Option<Position>
     ensures leads { (bytes : List ℕ) → option_map (position_in bytes) result
         ≡ leads (table.in_list (section_in section) (list_position_in bytes position)) (lexeme bytes token) }
     ensures holds { (bytes : List ℕ) → IsTokenOf bytes token → HoldsKey bytes position → IfSome result (HoldsTokens bytes) }
