@@ -11,7 +11,8 @@ use crate::numbers::{count_of, member_at};
 use crate::slot::Slot;
 use crate::sums::Sums;
 use rg_grammar::name_of;
-use rg_net_grammar::{Found, FoundFlow, FoundMember};
+use rg_lexer::Token;
+use rg_net_grammar::{Found, FoundFlow, Member};
 
 // Adds a member to a number of its place.
 fn add_member(
@@ -19,7 +20,7 @@ fn add_member(
     known: &Known,
     bytes: &[u8],
     slot: Slot,
-    member: FoundMember,
+    member: Member<Token>,
 ) -> Result<(), NetFault>
     requires member { IsMemberOf bytes.now member }
     requires fits { Fits known.now sums.old }
@@ -41,7 +42,7 @@ fn add_members(
     known: &Known,
     bytes: &[u8],
     slot: Slot,
-    members: &[FoundMember],
+    members: &[Member<Token>],
 ) -> Result<(), NetFault>
     requires members { All (IsMemberOf bytes.now) members.now }
     requires fits { Fits known.now sums.old }
