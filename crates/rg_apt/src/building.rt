@@ -8,7 +8,7 @@ ghost use Rattle.rg_theory.specs.Limits.{most_states, most_labels};
 ghost use Rattle.rg_lts.specs.Draft.{Draft, blank, IsArcNamed, IsOtherInitial, IsStateNamed, AddsArc, IsWellFormedDraft};
 ghost use Rattle.rg_apt.specs.Contents.{StateEntry, ArcNames, Declared, state_fault, label_fault, arc_fault, faults, IsSystemOf};
 ghost use Rattle.rg_text.specs.Faults.{faults_after, IsFirst, AreNone};
-ghost use Rattle.rg_apt.specs.FoundView.{state_in, states_in, labels_in, arc_in, arcs_in, found_in, IsStateOf, IsArcOf, HoldsNames};
+ghost use Rattle.rg_apt.specs.View.{state_in, states_in, labels_in, arc_in, arcs_in, found_in, IsStateOf, IsArcOf, HoldsNames};
 ghost use Rattle.rg_apt.specs.Built.{label_text, HasStates, HasLabels, HasArcs, IsArcOfNames, IsNewName, IsNameFault, IsUnknown, IsUnknownOf, HasNamesOf, IsOverLimit};
 ghost use Rattle.rg_apt.specs.declared.fault.TextFault.TheVariants as fault;
 

@@ -4,11 +4,10 @@ ghost use Rattle.rg_lexer.specs.Lexeme.{Lexeme, lexeme};
 ghost use Rattle.rg_lexer.specs.Tokens.{IsTokenOf};
 ghost use Rattle.rg_grammar.specs.Entry.{IsNameOf};
 ghost use Rattle.rg_apt.specs.Contents.{Declared, is_initial, is_true, marks};
-ghost use Rattle.rg_grammar.specs.ListView.{list_position_in, setting_in, HoldsKey, HoldsSetting};
+ghost use Rattle.rg_grammar.specs.ListPosition.{list_position_in, setting_in, HoldsKey, HoldsSetting};
 ghost use Rattle.rg_apt.specs.Reading.{marked, with_name, adds, mark_last, system_grammar};
-ghost use Rattle.rg_apt.specs.View.{position_in, HoldsTokens};
+ghost use Rattle.rg_apt.specs.View.{position_in, HoldsTokens, state_in, states_in, labels_in, arcs_in, found_in, IsStateOf, HoldsNames};
 ghost use Rattle.rg_apt.specs.Table.{Position, TypeName, InSection, AfterEntry, Third, InList};
-ghost use Rattle.rg_apt.specs.FoundView.{state_in, states_in, labels_in, arcs_in, found_in, IsStateOf, HoldsNames};
 ghost use Rattle.rg_grammar.specs.declared.fault.ItemFault.TheVariants.{NoMemory};
 
 use crate::position::{

@@ -5,7 +5,7 @@ ghost use Rattle.rg_apt.specs.Table.{Start, TypeName, PassedText, InSection, Aft
 ghost use Rattle.rg_apt.specs.View.{position_in, HoldsTokens};
 ghost use Rattle.rg_lexer.specs.Tokens.{IsTokenOf};
 ghost use Rattle.rg_grammar.specs.Entry.{IsNameOf};
-ghost use Rattle.rg_grammar.specs.ListView.{list_position_in, HoldsKey};
+ghost use Rattle.rg_grammar.specs.ListPosition.{list_position_in, HoldsKey};
 
 use rg_grammar::{ListPosition, ListStep, list_lead, list_wanted};
 use rg_lexer::{Kind, Token, Want};

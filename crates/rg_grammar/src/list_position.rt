@@ -3,8 +3,7 @@ ghost use Rattle.std.specs.Prelude.{◌≡◌, ℕ, List, option_map, IfSome};
 ghost use Rattle.rg_lexer.specs.Lexeme.{lexeme};
 ghost use Rattle.rg_lexer.specs.Tokens.{IsTokenOf};
 ghost use Rattle.rg_grammar.specs.Entry.{IsNameOf};
-ghost use Rattle.rg_grammar.specs.ListPosition.{FirstKey, NextKey, AfterKey, Value, AfterValue, list_wanted, list_leads, completed};
-ghost use Rattle.rg_grammar.specs.ListView.{list_position_in, list_step_in, setting_in, HoldsKey, StepHoldsKey, HoldsSetting};
+ghost use Rattle.rg_grammar.specs.ListPosition.{FirstKey, NextKey, AfterKey, Value, AfterValue, list_wanted, list_leads, completed, list_position_in, list_step_in, setting_in, HoldsKey, StepHoldsKey, HoldsSetting};
 
 use rg_lexer::{Kind, Token, Want};
 

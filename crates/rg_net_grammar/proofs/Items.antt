@@ -1,10 +1,8 @@
 -- Whole files: items lead to a position where the file may end, and what is found is what they declare.
 use Rattle.std.proofs.Common.{◌≡◌, ◌⊎◌, inl, inr, Bool, true, false, cond, ◌||◌, ℕ, List, [], ◌∷◌, ◌++◌, map, Option, None, Some, codes, refl, sym, ap, ◌∙◌, append_assoc, append-nil, flat_map}
 use Rattle.std.specs.List.{list_any}
-use Rattle.std.proofs.lemmas.List.{map-append}
 use Rattle.rg_lexer.specs.Lexeme.{Lexeme}
 use Rattle.rg_lexer.specs.declared.token.Kind.TheVariants.{Name, Word, Text}
-use Rattle.rg_grammar.specs.Entry.{Entry}
 use Rattle.rg_grammar.specs.Grammar.{Finds, read_on}
 use Rattle.rg_grammar.proofs.Moves.{take_all, each_move}
 use Rattle.rg_grammar.proofs.Words.{ItemPosition, word_moves, differ, or_false, or_true, or_assoc}

@@ -5,12 +5,11 @@ ghost use Rattle.rg_lexer.specs.Tokens.{IsTokenOf};
 ghost use Rattle.rg_grammar.specs.declared.list_position.Setting.{Setting};
 ghost use Rattle.rg_grammar.specs.Entry.{IsNameOf, IsValueOf};
 ghost use Rattle.rg_grammar.specs.Last.{change_last};
-ghost use Rattle.rg_grammar.specs.ListView.{list_position_in, setting_in, HoldsKey, HoldsSetting};
+ghost use Rattle.rg_grammar.specs.ListPosition.{list_position_in, setting_in, HoldsKey, HoldsSetting};
 ghost use Rattle.rg_net_grammar.specs.Contents.{Declared, label_in};
 ghost use Rattle.rg_net_grammar.specs.Reading.{with_value, with_setting, with_name, with_pre, with_post, with_member, member_by, adds, net_grammar};
 ghost use Rattle.rg_net_grammar.specs.Table.{Position, TypeName, InSection, AfterEntry, InList, InFlows, InSet, AfterName, AfterStar};
-ghost use Rattle.rg_net_grammar.specs.View.{set_position_in, position_in, HoldsMember, HoldsTokens};
-ghost use Rattle.rg_net_grammar.specs.FoundView.{member_in, members_in, flows_in, transition_in, found_in, IsNumberOf, IsMemberOf, IsFlowOf, IsTransitionOf, HoldsNames};
+ghost use Rattle.rg_net_grammar.specs.View.{set_position_in, position_in, HoldsMember, HoldsTokens, member_in, members_in, flows_in, transition_in, found_in, IsNumberOf, IsMemberOf, IsFlowOf, IsTransitionOf, HoldsNames};
 ghost use Rattle.rg_grammar.specs.declared.fault.ItemFault.TheVariants.{NoMemory};
 
 use crate::position::{

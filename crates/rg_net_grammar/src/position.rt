@@ -2,7 +2,7 @@
 ghost use Rattle.std.specs.Prelude.{◌≡◌, ◌≤◌, ℕ, List, length, option_map, slice_range, IfSome};
 ghost use Rattle.rg_lexer.specs.Lexeme.{lexeme};
 ghost use Rattle.rg_lexer.specs.Tokens.{IsTokenOf};
-ghost use Rattle.rg_grammar.specs.ListView.{list_position_in, HoldsKey};
+ghost use Rattle.rg_grammar.specs.ListPosition.{list_position_in, HoldsKey};
 ghost use Rattle.rg_net_grammar.specs.Table.{Start, TypeName, PassedText, InSection, AfterEntry, InList, InFlows, AfterFlowName, BeforeSet, AfterPre, wanted, after_word, is_type_name};
 ghost use Rattle.rg_net_grammar.specs.Reading.{leads};
 ghost use Rattle.rg_net_grammar.specs.View.{position_in, HoldsTokens};

@@ -4,9 +4,8 @@ ghost use Rattle.rg_lexer.specs.Lexeme.{lexeme};
 ghost use Rattle.rg_lexer.specs.Tokens.{IsTokenOf};
 ghost use Rattle.rg_lexer.specs.declared.token.Kind.TheVariants.{Star};
 ghost use Rattle.rg_grammar.specs.Entry.{IsNameOf};
-ghost use Rattle.rg_net_grammar.specs.FoundView.{IsNumberOf};
+ghost use Rattle.rg_net_grammar.specs.View.{IsNumberOf, set_position_in, position_in, HoldsMember, HoldsTokens};
 ghost use Rattle.rg_net_grammar.specs.Table.{Side, FirstMember, NextMember, AfterName, AfterStar, AfterMember, InSet, set_wanted, is_digits, after_set, set_leads_by, refusal_by};
-ghost use Rattle.rg_net_grammar.specs.View.{set_position_in, position_in, HoldsMember, HoldsTokens};
 
 use crate::position::Position;
 use rg_grammar::{ItemFault, text_of};

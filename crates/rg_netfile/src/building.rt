@@ -5,7 +5,7 @@ ghost use Rattle.rg_theory.specs.System.{labels};
 ghost use Rattle.rg_grammar.specs.Entry.{IsNameOf};
 ghost use Rattle.rg_text.specs.Faults.{faults_after, IsFirst, AreNone};
 ghost use Rattle.rg_net_grammar.specs.declared.found.Transition.{Transition};
-ghost use Rattle.rg_net_grammar.specs.FoundView.{places_in, transitions_in, found_in, IsTransitionOf, HoldsNames};
+ghost use Rattle.rg_net_grammar.specs.View.{places_in, transitions_in, found_in, IsTransitionOf, HoldsNames};
 ghost use Rattle.rg_netfile.specs.Contents.{most_places, place_fault, transition_fault, name_faults, faults, IsNetOf};
 ghost use Rattle.rg_netfile.specs.Built.{AreApart, IsKnownOf, IsKnown};
 ghost use Rattle.rg_netfile.specs.declared.fault.NetFault.TheVariants as fault;

@@ -1,7 +1,7 @@
 //! The numbers of a net, flow by flow and member by member.
 ghost use Rattle.std.specs.Prelude.{◌≡◌, ◌∷◌, [], ◌++◌, map, All, IfErr, OnOk};
 ghost use Rattle.std.specs.List.{flat_map};
-ghost use Rattle.rg_net_grammar.specs.FoundView.{member_in, members_in, flow_in, flows_in, found_in, IsMemberOf, IsFlowOf, HoldsNames};
+ghost use Rattle.rg_net_grammar.specs.View.{member_in, members_in, flow_in, flows_in, found_in, IsMemberOf, IsFlowOf, HoldsNames};
 ghost use Rattle.rg_netfile.specs.Contents.{Cell, adds, steps_of_flow, steps};
 ghost use Rattle.rg_netfile.specs.Built.{IsSlotIn, IsSlotFor, SameSize, Fits, Passes, Stops};
 

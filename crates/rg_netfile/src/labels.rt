@@ -3,7 +3,7 @@ ghost use Rattle.std.specs.Prelude.{◌≡◌, ◌==◌, ◌≢◌, ◌<◌, len
 ghost use Rattle.std.specs.List.{list_all};
 ghost use Rattle.rg_theory.specs.System.{labels};
 ghost use Rattle.rg_net_grammar.specs.Contents.{label_of};
-ghost use Rattle.rg_net_grammar.specs.FoundView.{transition_in, transitions_in, IsTransitionOf};
+ghost use Rattle.rg_net_grammar.specs.View.{transition_in, transitions_in, IsTransitionOf};
 ghost use Rattle.rg_netfile.specs.Contents.{have_each_once};
 ghost use Rattle.rg_netfile.specs.Built.{AreApart, AreNumbers, AreCounts};
 ghost use Rattle.rg_netfile.specs.declared.fault.NetFault.TheVariants as fault;

@@ -3,7 +3,7 @@ ghost use Rattle.std.specs.Prelude.{◌≡◌, ℕ, List, ◌<◌, ◌≤◌, Ma
 ghost use Rattle.std.specs.Str.Parse.{digits_value};
 ghost use Rattle.rg_lexer.specs.Lexeme.{lexeme};
 ghost use Rattle.rg_integers.specs.Range.{greatest};
-ghost use Rattle.rg_net_grammar.specs.FoundView.{IsNumberOf, IsMemberOf, member_in};
+ghost use Rattle.rg_net_grammar.specs.View.{IsNumberOf, IsMemberOf, member_in};
 ghost use Rattle.rg_netfile.specs.Contents.{count_of, member_at};
 ghost use Rattle.rg_netfile.specs.declared.fault.NetFault.TheVariants as fault;
 

@@ -4,7 +4,7 @@ use Rattle.std.proofs.lemmas.Result.{err_from_is_err_and}
 use Rattle.rg_lexer.specs.declared.token.Kind.TheVariants.{Name}
 use Rattle.rg_lexer.specs.declared.token.Token.{Token}
 use Rattle.rg_apt.specs.Contents.{ArcNames, arc_fault}
-use Rattle.rg_apt.specs.FoundView.{arc_in, arcs_in}
+use Rattle.rg_apt.specs.View.{arc_in, arcs_in}
 use Rattle.rg_apt.specs.Built.{HasArcs}
 use Rattle.rg_text.proofs.Left.{left_start, left_more, left_first, left_end, before_is, all_before}
 use Rattle.rg_apt.proofs.ArcSteps.{unknown_fault, limit_fault, arc_step}

@@ -3,7 +3,7 @@ use Rattle.rg_lexer.specs.declared.token.Token.{Token}
 use Rattle.rg_grammar.proofs.Last.{last_set}
 use Rattle.rg_apt.specs.Contents.{StateEntry}
 use Rattle.rg_apt.specs.Reading.{marked_entry}
-use Rattle.rg_apt.specs.FoundView.{state_in}
+use Rattle.rg_apt.specs.View.{state_in}
 use Rattle.rg_apt.proofs.found.mark_last.Goals as goal
 
 pub returns-then-n-gt0-clause-found : goal.returns-then-n-gt0-clause-found

@@ -5,7 +5,7 @@ use Rattle.rg_lexer.specs.declared.token.Token.{Token}
 use Rattle.rg_lexer.specs.Lexeme.{Lexeme, lexeme}
 use Rattle.rg_net_grammar.specs.Contents.{Transition}
 use Rattle.rg_net_grammar.specs.Reading.{with_value}
-use Rattle.rg_net_grammar.specs.FoundView.{transition_in}
+use Rattle.rg_net_grammar.specs.View.{transition_in}
 use Rattle.rg_grammar.proofs.Last.{last_set}
 use Rattle.rg_net_grammar.proofs.found.label_last.Goals as goal
 

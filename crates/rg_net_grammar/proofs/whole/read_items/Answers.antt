@@ -8,7 +8,7 @@ use Rattle.rg_net_grammar.specs.Item.{Item, AreItems}
 use Rattle.rg_net_grammar.specs.Contents.{declared}
 use Rattle.rg_net_grammar.specs.Reading.{net_grammar}
 use Rattle.rg_net_grammar.specs.Text.{AreItemsOf}
-use Rattle.rg_net_grammar.specs.FoundView.{found_in}
+use Rattle.rg_net_grammar.specs.View.{found_in}
 use Rattle.rg_net_grammar.proofs.WholeTexts.{describes}
 use Rattle.rg_net_grammar.proofs.whole.read_items.Goals as goal
 

@@ -5,7 +5,7 @@ use Rattle.rg_lexer.specs.declared.token.Token.{Token}
 use Rattle.rg_lexer.specs.declared.token.Kind.TheVariants.{Name}
 use Rattle.rg_net_grammar.specs.declared.found.Transition.{Transition}
 use Rattle.rg_text.proofs.Left.{left_start, left_more, left_first, left_end, before_is, all_before}
-use Rattle.rg_net_grammar.specs.FoundView.{transition_in, transitions_in}
+use Rattle.rg_net_grammar.specs.View.{transition_in, transitions_in}
 use Rattle.rg_netfile.specs.Contents.{transition_fault}
 use Rattle.rg_netfile.proofs.Apart.{apart_from, apart_none, apart_more, seen_more}
 use Rattle.rg_netfile.proofs.EntryFaults.{name_of, transition_twice, transition_fine, transition_names_more}

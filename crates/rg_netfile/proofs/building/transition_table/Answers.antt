@@ -4,7 +4,7 @@ use Rattle.rg_lexer.specs.declared.token.Token.{Token}
 use Rattle.rg_lexer.specs.declared.token.Kind.TheVariants.{Name}
 use Rattle.rg_net_grammar.specs.declared.found.Transition.{Transition}
 use Rattle.rg_text.proofs.Left.{before_is, all_before}
-use Rattle.rg_net_grammar.specs.FoundView.{transition_in, transitions_in}
+use Rattle.rg_net_grammar.specs.View.{transition_in, transitions_in}
 use Rattle.rg_netfile.proofs.EntryFaults.{name_of, transition_names_more}
 use Rattle.rg_netfile.proofs.building.transition_table.Goals as goal
 

@@ -4,7 +4,7 @@ use Rattle.std.proofs.lemmas.Result.{err_from_is_err_and}
 use Rattle.rg_lexer.specs.declared.token.Token.{Token}
 use Rattle.rg_lexer.specs.declared.token.Kind.TheVariants.{Name}
 use Rattle.rg_net_grammar.specs.declared.found.Member.{Member}
-use Rattle.rg_net_grammar.specs.FoundView.{member_in}
+use Rattle.rg_net_grammar.specs.View.{member_in}
 use Rattle.rg_netfile.specs.Contents.{adds}
 use Rattle.rg_netfile.proofs.Segments.{one_passes, one_stops}
 use Rattle.rg_netfile.proofs.Steps.{passes_none}

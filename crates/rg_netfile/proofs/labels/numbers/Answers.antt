@@ -6,7 +6,7 @@ use Rattle.rg_lexer.specs.declared.token.Kind.TheVariants.{Name}
 use Rattle.rg_theory.specs.System.{labels}
 use Rattle.rg_text.proofs.Left.{before_is}
 use Rattle.rg_net_grammar.specs.declared.found.Transition.{Transition}
-use Rattle.rg_net_grammar.specs.FoundView.{transition_in, transitions_in}
+use Rattle.rg_net_grammar.specs.View.{transition_in, transitions_in}
 use Rattle.rg_netfile.specs.Built.{AreNumbers}
 use Rattle.rg_netfile.proofs.Counts.{numbers_more, not_each_once}
 use Rattle.rg_netfile.proofs.labels.numbers.Goals as goal

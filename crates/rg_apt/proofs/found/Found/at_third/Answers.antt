@@ -3,7 +3,7 @@ use Rattle.std.specs.List.{All}
 use Rattle.std.proofs.lemmas.List.Elements.{All-push}
 use Rattle.rg_lexer.specs.declared.token.Token.{Token}
 use Rattle.rg_apt.specs.Contents.{ArcNames}
-use Rattle.rg_apt.specs.FoundView.{IsArcOf}
+use Rattle.rg_apt.specs.View.{IsArcOf}
 use Rattle.rg_apt.proofs.found.Found.at_third.Goals as goal
 
 pub returns-in_ok-push-in-Name-clause-names : goal.returns-in_ok-push-in-Name-clause-names

@@ -4,7 +4,7 @@ use Rattle.std.proofs.lemmas.List.Elements.{All-push}
 use Rattle.rg_lexer.specs.declared.token.Token.{Token}
 use Rattle.rg_net_grammar.specs.Item.{Member}
 use Rattle.rg_net_grammar.specs.declared.found.FoundFlow.{FoundFlow}
-use Rattle.rg_net_grammar.specs.FoundView.{IsMemberOf, IsFlowOf}
+use Rattle.rg_net_grammar.specs.View.{IsMemberOf, IsFlowOf}
 use Rattle.rg_net_grammar.proofs.found.Found.at_flow.Goals as goal
 
 no_members : (bytes : List ℕ) (members : List (Member Token)) → members ≡ [] → All (IsMemberOf bytes) members
