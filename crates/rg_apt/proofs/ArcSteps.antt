@@ -38,19 +38,19 @@ pub any_from : {X : Type 0} (P : X → Type 0) (xs : List X) (x : X) → Among x
 any_from P xs x h p = let at = index_of xs x h in (at.0, x, at.1, at.2, p)
 
 -- two triples with the same names
-pub record AreSame (a b : ArcNames) : Type 0 where
+pub record AreSame (a b : ArcNames Lexeme) : Type 0 where
   pub from : a.from.text ≡ b.from.text
   pub label : a.label.text ≡ b.label.text
   pub to : a.to.text ≡ b.to.text
 
-same_true : (a b : ArcNames) → AreSame a b → same_arc a b ≡ true
+same_true : (a b : ArcNames Lexeme) → AreSame a b → same_arc a b ≡ true
 same_true a b s =
     let p = (bytes_eq-Decides a.from.text b.from.text).1 s.from in
     let q = (bytes_eq-Decides a.label.text b.label.text).1 s.label in
     let r = (bytes_eq-Decides a.to.text b.to.text).1 s.to in
     rw (p, q, r) refl
 
-same_says : (a b : ArcNames) → same_arc a b ≡ true → AreSame a b
+same_says : (a b : ArcNames Lexeme) → same_arc a b ≡ true → AreSame a b
 same_says a b e =
     by (bytes_eq a.from.text b.from.text) (bytes_eq a.label.text b.label.text) (bytes_eq a.to.text b.to.text) refl refl refl e
   where
@@ -68,18 +68,18 @@ some_text : (a b : List ℕ) → Some a ≡ Some b → a ≡ b
 some_text a b e = cc
 
 -- an arc has one triple of names
-one_names : (d : Draft) (x y : ArcNames) (a : Arc) → IsArcOfNames d x a → IsArcOfNames d y a → AreSame x y
+one_names : (d : Draft) (x y : ArcNames Lexeme) (a : Arc) → IsArcOfNames d x a → IsArcOfNames d y a → AreSame x y
 one_names d x y a n m = record {
   from = some_text x.from.text y.from.text (sym n.from ∙ m.from);
   label = some_text x.label.text y.label.text (sym n.label ∙ m.label);
   to = some_text x.to.text y.to.text (sym n.to ∙ m.to);
 }
 
-named_too : (d : Draft) (x y : ArcNames) (a : Arc) → AreSame x y → IsArcOfNames d x a → IsArcOfNames d y a
+named_too : (d : Draft) (x y : ArcNames Lexeme) (a : Arc) → AreSame x y → IsArcOfNames d x a → IsArcOfNames d y a
 named_too d x y a s n = record { from = n.from ∙ ap Some s.from; label = n.label ∙ ap Some s.label; to = n.to ∙ ap Some s.to }
 
 -- a triple of names has one arc
-pub one_arc : (d : Draft) (x : ArcNames) (a b : Arc) → IsWellFormedDraft d → IsArcOfNames d x a → IsArcOfNames d x b → a ≡ b
+pub one_arc : (d : Draft) (x : ArcNames Lexeme) (a b : Arc) → IsWellFormedDraft d → IsArcOfNames d x a → IsArcOfNames d x b → a ≡ b
 one_arc d x a b formed n m =
     let from = one_index d.state_names a.from b.from x.from.text formed.state_names.differ n.from m.from in
     let label = one_index d.label_names a.label b.label x.label.text formed.label_names.differ n.label m.label in
@@ -87,13 +87,13 @@ one_arc d x a b formed n m =
     λ i. record { from = from i; label = label i; to = to i }
 
 -- the arcs of triples, in order
-pub record Counted (d : Draft) (names : List ArcNames) (zs : List Arc) : Type 0 where
+pub record Counted (d : Draft) (names : List (ArcNames Lexeme)) (zs : List Arc) : Type 0 where
   pub ordered : Ordered zs
-  pub to : (c : Arc) → Has zs c → (x : ArcNames) × Among x names × IsArcOfNames d x c
-  pub from : (c : Arc) (x : ArcNames) → Among x names → IsArcOfNames d x c → Has zs c
+  pub to : (c : Arc) → Has zs c → (x : ArcNames Lexeme) × Among x names × IsArcOfNames d x c
+  pub from : (c : Arc) (x : ArcNames Lexeme) → Among x names → IsArcOfNames d x c → Has zs c
   pub size : length zs ≡ different names
 
-pub counted : (d : Draft) (names : List ArcNames) → IsWellFormedDraft d → ((x : ArcNames) → Among x names → (a : Arc) × IsArcOfNames d x a) → (zs : List Arc) × Counted d names zs
+pub counted : (d : Draft) (names : List (ArcNames Lexeme)) → IsWellFormedDraft d → ((x : ArcNames Lexeme) → Among x names → (a : Arc) × IsArcOfNames d x a) → (zs : List Arc) × Counted d names zs
 counted d [] formed named = ([], record { ordered = tt; to = λ c h. absurd h; from = λ c x h n. absurd h; size = refl })
 counted d (x ∷ names) formed named = by (list_any (same_arc x) names) refl (named x (inl refl)) (counted d names formed (λ y h. named y (inr h)))
   where
@@ -128,7 +128,7 @@ counted d (x ∷ names) formed named = by (list_any (same_arc x) names) refl (na
         )
 
 -- there are as many arcs as different triples
-how_many : (d : Declared) (before : List ArcNames) (draft : Draft) → IsWellFormedDraft draft → HasArcs d before draft → length draft.arcs ≡ different before
+how_many : (d : Declared) (before : List (ArcNames Lexeme)) (draft : Draft) → IsWellFormedDraft draft → HasArcs d before draft → length draft.arcs ≡ different before
 how_many d before draft formed h =
     let all = counted draft before formed
     (λ x among. let at = index_of before x among in subst (λ y. (a : Arc) × IsArcOfNames draft y a) at.2 (h.named at.0 x at.1)) in
@@ -139,37 +139,37 @@ how_many d before draft formed h =
     ap length same ∙ all.1.size
 
 -- the tests of a triple's fault
-abbrev pub full : List ArcNames → ArcNames → Bool
+abbrev pub full : List (ArcNames Lexeme) → ArcNames Lexeme → Bool
 full before x = nat_le most_arcs (different before) && not (list_any (same_arc x) before)
 
-abbrev pub last_test : List ArcNames → ArcNames → Option TextFault
+abbrev pub last_test : List (ArcNames Lexeme) → ArcNames Lexeme → Option TextFault
 last_test before x = cond (full before x) (Some (TooManyArcs x.from.at)) None
 
-abbrev to_test : Declared → List ArcNames → ArcNames → Option TextFault
+abbrev to_test : Declared → List (ArcNames Lexeme) → ArcNames Lexeme → Option TextFault
 to_test d before x = cond (not (is_state d x.to)) (Some (UnknownState x.to.at)) (last_test before x)
 
-abbrev label_test : Declared → List ArcNames → ArcNames → Option TextFault
+abbrev label_test : Declared → List (ArcNames Lexeme) → ArcNames Lexeme → Option TextFault
 label_test d before x = cond (not (is_label d x.label)) (Some (UnknownLabel x.label.at)) (to_test d before x)
 
-no_from : (d : Declared) (before : List ArcNames) (x : ArcNames) → is_state d x.from ≡ false → arc_fault d before x ≡ Some (UnknownState x.from.at)
+no_from : (d : Declared) (before : List (ArcNames Lexeme)) (x : ArcNames Lexeme) → is_state d x.from ≡ false → arc_fault d before x ≡ Some (UnknownState x.from.at)
 no_from d before x e = ap (λ b. cond (not b) (Some (UnknownState x.from.at)) (label_test d before x)) e
 
-to_label : (d : Declared) (before : List ArcNames) (x : ArcNames) → is_state d x.from ≡ true → arc_fault d before x ≡ label_test d before x
+to_label : (d : Declared) (before : List (ArcNames Lexeme)) (x : ArcNames Lexeme) → is_state d x.from ≡ true → arc_fault d before x ≡ label_test d before x
 to_label d before x e = ap (λ b. cond (not b) (Some (UnknownState x.from.at)) (label_test d before x)) e
 
-no_label : (d : Declared) (before : List ArcNames) (x : ArcNames) → is_state d x.from ≡ true → is_label d x.label ≡ false → arc_fault d before x ≡ Some (UnknownLabel x.label.at)
+no_label : (d : Declared) (before : List (ArcNames Lexeme)) (x : ArcNames Lexeme) → is_state d x.from ≡ true → is_label d x.label ≡ false → arc_fault d before x ≡ Some (UnknownLabel x.label.at)
 no_label d before x e f = to_label d before x e ∙ ap (λ b. cond (not b) (Some (UnknownLabel x.label.at)) (to_test d before x)) f
 
-to_to : (d : Declared) (before : List ArcNames) (x : ArcNames) → is_state d x.from ≡ true → is_label d x.label ≡ true → arc_fault d before x ≡ to_test d before x
+to_to : (d : Declared) (before : List (ArcNames Lexeme)) (x : ArcNames Lexeme) → is_state d x.from ≡ true → is_label d x.label ≡ true → arc_fault d before x ≡ to_test d before x
 to_to d before x e f = to_label d before x e ∙ ap (λ b. cond (not b) (Some (UnknownLabel x.label.at)) (to_test d before x)) f
 
-no_to : (d : Declared) (before : List ArcNames) (x : ArcNames) → is_state d x.from ≡ true → is_label d x.label ≡ true → is_state d x.to ≡ false → arc_fault d before x ≡ Some (UnknownState x.to.at)
+no_to : (d : Declared) (before : List (ArcNames Lexeme)) (x : ArcNames Lexeme) → is_state d x.from ≡ true → is_label d x.label ≡ true → is_state d x.to ≡ false → arc_fault d before x ≡ Some (UnknownState x.to.at)
 no_to d before x e f g = to_to d before x e f ∙ ap (λ b. cond (not b) (Some (UnknownState x.to.at)) (last_test before x)) g
 
-pub to_last : (d : Declared) (before : List ArcNames) (x : ArcNames) → is_state d x.from ≡ true → is_label d x.label ≡ true → is_state d x.to ≡ true → arc_fault d before x ≡ last_test before x
+pub to_last : (d : Declared) (before : List (ArcNames Lexeme)) (x : ArcNames Lexeme) → is_state d x.from ≡ true → is_label d x.label ≡ true → is_state d x.to ≡ true → arc_fault d before x ≡ last_test before x
 to_last d before x e f g = to_to d before x e f ∙ ap (λ b. cond (not b) (Some (UnknownState x.to.at)) (last_test before x)) g
 
-module _ (d : Declared) (before : List ArcNames) (x : ArcNames) (draft : Draft) (h : HasArcs d before draft) where
+module _ (d : Declared) (before : List (ArcNames Lexeme)) (x : ArcNames Lexeme) (draft : Draft) (h : HasArcs d before draft) where
   state_there : (y : Lexeme) → Contains draft.state_names y.text → is_state d y ≡ true
   state_there y has = contains_any state_text y.text d.states (subst (λ l. Contains l y.text) h.state_names has)
 
@@ -238,9 +238,9 @@ module _ (d : Declared) (before : List ArcNames) (x : ArcNames) (draft : Draft) 
       let states : new.state_names ≡ draft.state_names = ap (λ (v : Draft). v.state_names) adds.rest in
       let labels : new.label_names ≡ draft.label_names = ap (λ (v : Draft). v.label_names) adds.rest in
       let initial : new.initial ≡ draft.initial = ap (λ (v : Draft). v.initial) adds.rest in
-      let to_new : (y : ArcNames) (c : Arc) → IsArcOfNames draft y c → IsArcOfNames new y c =
+      let to_new : (y : ArcNames Lexeme) (c : Arc) → IsArcOfNames draft y c → IsArcOfNames new y c =
       λ y c n. record { from = ap (λ l. slice_get l c.from) states ∙ n.from; label = ap (λ l. slice_get l c.label) labels ∙ n.label; to = ap (λ l. slice_get l c.to) states ∙ n.to } in
-      let to_old : (y : ArcNames) (c : Arc) → IsArcOfNames new y c → IsArcOfNames draft y c =
+      let to_old : (y : ArcNames Lexeme) (c : Arc) → IsArcOfNames new y c → IsArcOfNames draft y c =
       λ y c n. record {
         from = ap (λ l. slice_get l c.from) (sym states) ∙ n.from;
         label = ap (λ l. slice_get l c.label) (sym labels) ∙ n.label;
@@ -251,17 +251,17 @@ module _ (d : Declared) (before : List ArcNames) (x : ArcNames) (draft : Draft) 
           state_names = states ∙ h.state_names;
           initial = initial ∙ h.initial;
           label_names = labels ∙ h.label_names;
-          named = All-push (λ (y : ArcNames). (c : Arc) × IsArcOfNames new y c) before x
+          named = All-push (λ (y : ArcNames Lexeme). (c : Arc) × IsArcOfNames new y c) before x
               (λ k y lt. let one = h.named k y lt in (one.0, to_new (get_or before k y) one.0 one.1)) (a, to_new x a named);
           members = λ c. (
             λ there. ⊎_elim
                 (λ old. let any = (h.members c).0 old in
-                any_from (λ (y : ArcNames). IsArcOfNames new y c) (before ++ x ∷ []) any.1
+                any_from (λ (y : ArcNames Lexeme). IsArcOfNames new y c) (before ++ x ∷ []) any.1
                 (among-append any.1 before (x ∷ []) (among_at before any.0 any.1 any.2 any.3)) (to_new any.1 c any.4))
-                (λ same. any_from (λ (y : ArcNames). IsArcOfNames new y c) (before ++ x ∷ []) x (among-last x before)
+                (λ same. any_from (λ (y : ArcNames Lexeme). IsArcOfNames new y c) (before ++ x ∷ []) x (among-last x before)
                 (to_new x c (subst (IsArcOfNames draft x) (sym same) named))) ((adds.members c).0 there),
             λ any. (adds.members c).1 (⊎_elim
-                (λ old. inl ((h.members c).1 (any_from (λ (y : ArcNames). IsArcOfNames draft y c) before any.1 old (to_old any.1 c any.4))))
+                (λ old. inl ((h.members c).1 (any_from (λ (y : ArcNames Lexeme). IsArcOfNames draft y c) before any.1 old (to_old any.1 c any.4))))
                 (λ last. inr (one_arc draft x c a formed (to_old x c (subst (λ z. IsArcOfNames new z c) (sym last) any.4)) named))
                 (among_parts any.1 x before (among_at (before ++ x ∷ []) any.0 any.1 any.2 any.3))),
           );

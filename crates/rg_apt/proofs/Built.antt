@@ -1,6 +1,7 @@
 -- The whole of what is declared: its first fault, or its system.
 use Rattle.std.proofs.Common.{◌≡◌, ℕ, Bool, true, false, List, [], ◌++◌, map, position, slice_get, Contains, Option, None, Some, refl, sym, ap, subst, ◌∙◌, arith}
 use Rattle.std.specs.List.{list_any}
+use Rattle.rg_lexer.specs.Lexeme.{Lexeme}
 use Rattle.rg_theory.specs.System.{System}
 use Rattle.rg_lts.specs.WellFormed.{IsWellFormed}
 use Rattle.rg_lts.specs.Draft.{Draft, finished}
@@ -25,7 +26,7 @@ abbrev arc_part : Declared → List (Option TextFault)
 arc_part d = faults_after (arc_fault d) [] d.arcs
 
 abbrev mark_part : Declared → List (Option TextFault)
-mark_part d = if_not (list_any (λ (e : StateEntry). e.initial) d.states) NoInitial
+mark_part d = if_not (list_any (λ (e : StateEntry Lexeme). e.initial) d.states) NoInitial
 
 if_none : (b : Bool) (f : TextFault) → b ≡ true → AreNone (if_not b f)
 if_none true f e = tt

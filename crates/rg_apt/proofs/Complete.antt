@@ -6,13 +6,13 @@ use Rattle.rg_lexer.specs.Lexeme.{Lexeme}
 use Rattle.rg_lexer.specs.declared.token.Kind.{Kind}
 use Rattle.rg_lexer.specs.declared.token.Kind.TheVariants.{Name, Word, Text, LeftBracket}
 use Rattle.rg_grammar.specs.Entry.{IsEntry, IsWord}
-use Rattle.rg_grammar.specs.ListPosition.{first_key}
+use Rattle.rg_grammar.specs.declared.list_position.ListPosition.TheVariants.{FirstKey}
 use Rattle.rg_grammar.specs.Grammar.{leads_all}
 use Rattle.rg_grammar.proofs.Complete.{Tail, tail_of_more, tail_more, After, after_of_more, after_of_list, entry_more, ListCompletes, list_token_in, same_bytes, other_bytes}
 use Rattle.rg_grammar.proofs.Complete as complete
 use Rattle.rg_apt.specs.Item.{Triple, Item, IsTriple, AreItems, IsOtherWord, IsTypeName}
 use Rattle.rg_apt.specs.Item as item
-use Rattle.rg_apt.specs.Table.{Section, states, labels, arcs, Position, section, type_name, passed_text, in_section, after_entry, second, third, in_list, leads_by, after_word, after_name, is_type_name, may_end}
+use Rattle.rg_apt.specs.Table.{Section, States, Labels, Arcs, Position, Start, TypeName, PassedText, InSection, AfterEntry, Second, Third, InList, leads_by, after_word, after_name, is_type_name, may_end}
 use Rattle.rg_apt.specs.Reading.{system_grammar}
 
 -- items, to the end
@@ -21,35 +21,35 @@ Items xs = (items : List Item) × AreItems items xs
 
 -- the rest of a section, and items
 abbrev TailOf : Section → List Lexeme → Type 0
-TailOf states xs = Tail IsEntry Items xs
-TailOf labels xs = Tail IsEntry Items xs
-TailOf arcs xs = Tail IsTriple Items xs
+TailOf States xs = Tail IsEntry Items xs
+TailOf Labels xs = Tail IsEntry Items xs
+TailOf Arcs xs = Tail IsTriple Items xs
 
 -- with what came before at the position, the tokens go on as the grammar wants
-abbrev Completes : Position → List Lexeme → Type 0
-Completes section xs = Items xs
-Completes type_name xs = (word : Lexeme) → IsWord (codes ".type") word → Items (word ∷ xs)
-Completes passed_text xs = (word : Lexeme) → IsOtherWord word → Items (word ∷ xs)
-Completes (in_section s) xs = TailOf s xs
-Completes (after_entry s) xs = After (TailOf s) xs
-Completes (second from) xs = from.kind ≡ Name → TailOf arcs (from ∷ xs)
-Completes (third from label) xs = from.kind ≡ Name → label.kind ≡ Name → TailOf arcs (from ∷ label ∷ xs)
-Completes (in_list s position) xs = ListCompletes (TailOf s) position xs
+abbrev Completes : Position Lexeme → List Lexeme → Type 0
+Completes Start xs = Items xs
+Completes TypeName xs = (word : Lexeme) → IsWord (codes ".type") word → Items (word ∷ xs)
+Completes PassedText xs = (word : Lexeme) → IsOtherWord word → Items (word ∷ xs)
+Completes (InSection s) xs = TailOf s xs
+Completes (AfterEntry s) xs = After (TailOf s) xs
+Completes (Second from) xs = from.kind ≡ Name → TailOf Arcs (from ∷ xs)
+Completes (Third from label) xs = from.kind ≡ Name → label.kind ≡ Name → TailOf Arcs (from ∷ label ∷ xs)
+Completes (InList s position) xs = ListCompletes (TailOf s) position xs
 
 tail_of_items : (s : Section) (xs : List Lexeme) → Items xs → TailOf s xs
-tail_of_items states xs items = tail_of_more IsEntry Items xs items
-tail_of_items labels xs items = tail_of_more IsEntry Items xs items
-tail_of_items arcs xs items = tail_of_more IsTriple Items xs items
+tail_of_items States xs items = tail_of_more IsEntry Items xs items
+tail_of_items Labels xs items = tail_of_more IsEntry Items xs items
+tail_of_items Arcs xs items = tail_of_more IsTriple Items xs items
 
-triple_more : (from label to : Lexeme) (xs : List Lexeme) → After (TailOf arcs) xs → from.kind ≡ Name → label.kind ≡ Name → to.kind ≡ Name → TailOf arcs (from ∷ label ∷ to ∷ xs)
+triple_more : (from label to : Lexeme) (xs : List Lexeme) → After (TailOf Arcs) xs → from.kind ≡ Name → label.kind ≡ Name → to.kind ≡ Name → TailOf Arcs (from ∷ label ∷ to ∷ xs)
 triple_more from label to xs a f l t =
     let triple : Triple = record { from = from; label = label; to = to; settings = a.0 } in
     tail_more IsTriple Items triple (from ∷ label ∷ to ∷ a.1) a.2 (from ∷ label ∷ to ∷ xs) (f, l, t, (a.1, a.3, refl)) (ap (λ l. from ∷ label ∷ to ∷ l) a.5) a.4
 
 name_more : (s : Section) (x : Lexeme) (xs : List Lexeme) → x.kind ≡ Name → Completes (after_name s x) xs → TailOf s (x ∷ xs)
-name_more states x xs kind go = entry_more Items x xs kind go
-name_more labels x xs kind go = entry_more Items x xs kind go
-name_more arcs x xs kind go = go kind
+name_more States x xs kind go = entry_more Items x xs kind go
+name_more Labels x xs kind go = entry_more Items x xs kind go
+name_more Arcs x xs kind go = go kind
 
 -- words
 typed_items : (word name : Lexeme) (xs : List Lexeme) → IsWord (codes ".type") word → IsTypeName name → Items xs → Items (word ∷ name ∷ xs)
@@ -58,13 +58,13 @@ typed_items word name xs w n items = (item.type name ∷ items.0, (word ∷ name
 other_items : (word text : Lexeme) (xs : List Lexeme) → IsOtherWord word → text.kind ≡ Text → Items xs → Items (word ∷ text ∷ xs)
 other_items word text xs w t items = (item.other ∷ items.0, (word ∷ text ∷ [], xs, (word, text, w, t, refl), items.1, refl))
 
-states_items : (word : Lexeme) (xs : List Lexeme) → IsWord (codes ".states") word → TailOf states xs → Items (word ∷ xs)
+states_items : (word : Lexeme) (xs : List Lexeme) → IsWord (codes ".states") word → TailOf States xs → Items (word ∷ xs)
 states_items word xs w tail = (item.states tail.2.0 ∷ tail.3.0, (word ∷ tail.0, tail.1, (word, tail.0, w, tail.2.1, refl), tail.3.1, ap (λ l. word ∷ l) tail.4))
 
-labels_items : (word : Lexeme) (xs : List Lexeme) → IsWord (codes ".labels") word → TailOf labels xs → Items (word ∷ xs)
+labels_items : (word : Lexeme) (xs : List Lexeme) → IsWord (codes ".labels") word → TailOf Labels xs → Items (word ∷ xs)
 labels_items word xs w tail = (item.labels tail.2.0 ∷ tail.3.0, (word ∷ tail.0, tail.1, (word, tail.0, w, tail.2.1, refl), tail.3.1, ap (λ l. word ∷ l) tail.4))
 
-arcs_items : (word : Lexeme) (xs : List Lexeme) → IsWord (codes ".arcs") word → TailOf arcs xs → Items (word ∷ xs)
+arcs_items : (word : Lexeme) (xs : List Lexeme) → IsWord (codes ".arcs") word → TailOf Arcs xs → Items (word ∷ xs)
 arcs_items word xs w tail = (item.arcs tail.2.0 ∷ tail.3.0, (word ∷ tail.0, tail.1, (word, tail.0, w, tail.2.1, refl), tail.3.1, ap (λ l. word ∷ l) tail.4))
 
 word_items : (word : Lexeme) (xs : List Lexeme) → word.kind ≡ Word → Completes (after_word word.text) xs → Items (word ∷ xs)
@@ -74,7 +74,7 @@ word_items word xs kind = by (bytes_eq t (codes ".type")) (bytes_eq t (codes ".s
     t = word.text
 
     by : (a b c d : Bool) → bytes_eq t (codes ".type") ≡ a → bytes_eq t (codes ".states") ≡ b → bytes_eq t (codes ".labels") ≡ c → bytes_eq t (codes ".arcs") ≡ d
-        → Completes (cond a type_name (cond b (in_section states) (cond c (in_section labels) (cond d (in_section arcs) passed_text)))) xs → Items (word ∷ xs)
+        → Completes (cond a TypeName (cond b (InSection States) (cond c (InSection Labels) (cond d (InSection Arcs) PassedText)))) xs → Items (word ∷ xs)
     by true b c d e f g h go = go word (kind, same_bytes t (codes ".type") e)
     by false true c d e f g h go = states_items word xs (kind, same_bytes t (codes ".states") f) go
     by false false true d e f g h go = labels_items word xs (kind, same_bytes t (codes ".labels") g) go
@@ -95,38 +95,38 @@ type_name_is name kind e = (
 )
 
 -- the position that a token leads to
-led : (to q : Position) (xs : List Lexeme) → Some to ≡ Some q → Completes q xs → Completes to xs
+led : (to q : Position Lexeme) (xs : List Lexeme) → Some to ≡ Some q → Completes q xs → Completes to xs
 led to q xs e go = let same : to ≡ q = cc in subst (λ p. Completes p xs) (sym same) go
 
-type_more : (x : Lexeme) (xs : List Lexeme) (q : Position) (b : Bool) → is_type_name x.text ≡ b → x.kind ≡ Name → cond b (Some section) None ≡ Some q → Completes q xs → Completes type_name (x ∷ xs)
-type_more x xs q true e kind lead go = λ word w. typed_items word x xs w (type_name_is x kind e) (led section q xs lead go)
+type_more : (x : Lexeme) (xs : List Lexeme) (q : Position Lexeme) (b : Bool) → is_type_name x.text ≡ b → x.kind ≡ Name → cond b (Some Start) None ≡ Some q → Completes q xs → Completes TypeName (x ∷ xs)
+type_more x xs q true e kind lead go = λ word w. typed_items word x xs w (type_name_is x kind e) (led Start q xs lead go)
 type_more x xs q false e kind lead go = absurd cc
 
 -- one token and what completes the position after it
-token_more : (p : Position) (x : Lexeme) (xs : List Lexeme) (k : Kind) (q : Position) → x.kind ≡ k → leads_by p k x ≡ Some q → Completes q xs → Completes p (x ∷ xs)
-token_more section x xs Word q kind lead go = word_items x xs kind (led (after_word x.text) q xs lead go)
-token_more type_name x xs Name q kind lead go = type_more x xs q (is_type_name x.text) refl kind lead go
-token_more passed_text x xs Text q kind lead go = λ word w. other_items word x xs w kind (led section q xs lead go)
-token_more (in_section s) x xs Name q kind lead go = name_more s x xs kind (led (after_name s x) q xs lead go)
-token_more (in_section s) x xs Word q kind lead go = tail_of_items s (x ∷ xs) (word_items x xs kind (led (after_word x.text) q xs lead go))
-token_more (after_entry s) x xs Name q kind lead go = after_of_more (TailOf s) (x ∷ xs) (name_more s x xs kind (led (after_name s x) q xs lead go))
-token_more (after_entry s) x xs Word q kind lead go =
+token_more : (p : Position Lexeme) (x : Lexeme) (xs : List Lexeme) (k : Kind) (q : Position Lexeme) → x.kind ≡ k → leads_by p k x ≡ Some q → Completes q xs → Completes p (x ∷ xs)
+token_more Start x xs Word q kind lead go = word_items x xs kind (led (after_word x.text) q xs lead go)
+token_more TypeName x xs Name q kind lead go = type_more x xs q (is_type_name x.text) refl kind lead go
+token_more PassedText x xs Text q kind lead go = λ word w. other_items word x xs w kind (led Start q xs lead go)
+token_more (InSection s) x xs Name q kind lead go = name_more s x xs kind (led (after_name s x) q xs lead go)
+token_more (InSection s) x xs Word q kind lead go = tail_of_items s (x ∷ xs) (word_items x xs kind (led (after_word x.text) q xs lead go))
+token_more (AfterEntry s) x xs Name q kind lead go = after_of_more (TailOf s) (x ∷ xs) (name_more s x xs kind (led (after_name s x) q xs lead go))
+token_more (AfterEntry s) x xs Word q kind lead go =
     after_of_more (TailOf s) (x ∷ xs) (tail_of_items s (x ∷ xs) (word_items x xs kind (led (after_word x.text) q xs lead go)))
-token_more (after_entry s) x xs LeftBracket q kind lead go = after_of_list (TailOf s) x xs kind (led (in_list s first_key) q xs lead go)
-token_more (second from) x xs Name q kind lead go = λ f. led (third from x) q xs lead go f kind
-token_more (third from label) x xs Name q kind lead go = λ f l. triple_more from label x xs (led (after_entry arcs) q xs lead go) f l kind
-token_more (in_list s position) x xs k q kind lead go =
-    list_token_in (in_list s) (in_section s) Completes (TailOf s) (λ position xs h. h) (λ xs h. h) position x xs k q kind lead go
+token_more (AfterEntry s) x xs LeftBracket q kind lead go = after_of_list (TailOf s) x xs kind (led (InList s FirstKey) q xs lead go)
+token_more (Second from) x xs Name q kind lead go = λ f. led (Third from x) q xs lead go f kind
+token_more (Third from label) x xs Name q kind lead go = λ f l. triple_more from label x xs (led (AfterEntry Arcs) q xs lead go) f l kind
+token_more (InList s position) x xs k q kind lead go =
+    list_token_in (InList s) (InSection s) Completes (TailOf s) (λ position xs h. h) (λ xs h. h) position x xs k q kind lead go
 token_more p x xs k q kind lead go = absurd cc
 
 -- the end
-ended : (p : Position) → may_end p ≡ true → Completes p []
-ended section e = ([], refl)
-ended (in_section s) e = tail_of_items s [] ([], refl)
-ended (after_entry s) e = after_of_more (TailOf s) [] (tail_of_items s [] ([], refl))
+ended : (p : Position Lexeme) → may_end p ≡ true → Completes p []
+ended Start e = ([], refl)
+ended (InSection s) e = tail_of_items s [] ([], refl)
+ended (AfterEntry s) e = after_of_more (TailOf s) [] (tail_of_items s [] ([], refl))
 ended p e = absurd cc
 
 -- tokens that lead to a position where the file may end are items
-pub items_from : (q : Position) (xs : List Lexeme) → leads_all system_grammar section xs ≡ Some q → may_end q ≡ true → Items xs
+pub items_from : (q : Position Lexeme) (xs : List Lexeme) → leads_all system_grammar Start xs ≡ Some q → may_end q ≡ true → Items xs
 items_from q xs lead ends =
-    complete.completes system_grammar Completes (λ p x xs q lead go. token_more p x xs x.kind q refl lead go) ended section q xs lead ends
+    complete.completes system_grammar Completes (λ p x xs q lead go. token_more p x xs x.kind q refl lead go) ended Start q xs lead ends

@@ -24,13 +24,13 @@ use Rattle.rg_apt.proofs.StateSteps.{is_fine, label_fine}
 use Rattle.rg_apt.proofs.ArcSteps.{counted, one_arc, to_last, last_test, among_parts, any_from}
 
 -- the entries of these states, of which one is marked
-abbrev pub AreStatesOf : ℕ → ℕ → List (List ℕ) → List StateEntry → Type 0
+abbrev pub AreStatesOf : ℕ → ℕ → List (List ℕ) → List (StateEntry Lexeme) → Type 0
 AreStatesOf initial s [] [] = Unit {0}
 AreStatesOf initial s (name ∷ names) (e ∷ es) = (e.name.text ≡ name) × (e.initial ≡ eqb s initial) × AreStatesOf initial (s + 1) names es
 AreStatesOf initial s _ _ = ⊥
 
 -- the triples of names of these arcs
-abbrev pub AreArcsOf : System → List Arc → List ArcNames → Type 0
+abbrev pub AreArcsOf : System → List Arc → List (ArcNames Lexeme) → Type 0
 AreArcsOf lts [] [] = Unit {0}
 AreArcsOf lts (a ∷ arcs) (x ∷ xs) = HasNames lts a x × AreArcsOf lts arcs xs
 AreArcsOf lts _ _ = ⊥
@@ -61,16 +61,16 @@ fresh_from before (name ∷ names) differ = (
 
 -- states
 
-same_text_name : (before : List StateEntry) (e : StateEntry) (name : List ℕ) → e.name.text ≡ name → (Contains (map state_text before) name → ⊥)
-    → list_any (λ (b : StateEntry). same_text e.name b.name) before ≡ false
+same_text_name : (before : List (StateEntry Lexeme)) (e : StateEntry Lexeme) (name : List ℕ) → e.name.text ≡ name → (Contains (map state_text before) name → ⊥)
+    → list_any (λ (b : StateEntry Lexeme). same_text e.name b.name) before ≡ false
 same_text_name before e name is new = absent_none state_text e.name.text before (λ has. new (subst (Contains (map state_text before)) is has))
 
-any-push : (p : StateEntry → Bool) (xs : List StateEntry) (x : StateEntry) → list_any p xs ≡ false → p x ≡ false → list_any p (xs ++ x ∷ []) ≡ false
+any-push : (p : StateEntry Lexeme → Bool) (xs : List (StateEntry Lexeme)) (x : StateEntry Lexeme) → list_any p xs ≡ false → p x ≡ false → list_any p (xs ++ x ∷ []) ≡ false
 any-push p [] x none e = rw e refl
 any-push p (y ∷ xs) x none e =
     let parts = or_parts (p y) (list_any p xs) none in rw parts.0 (any-push p xs x parts.1 e)
 
-one_mark : (s initial : ℕ) (before : List StateEntry) (e : StateEntry) → e.initial ≡ eqb s initial → (s ≤ initial → list_any is_marked before ≡ false)
+one_mark : (s initial : ℕ) (before : List (StateEntry Lexeme)) (e : StateEntry Lexeme) → e.initial ≡ eqb s initial → (s ≤ initial → list_any is_marked before ≡ false)
     → (e.initial && list_any is_marked before) ≡ false
 one_mark s initial before e is none = by (eqb s initial) refl
   where
@@ -78,7 +78,7 @@ one_mark s initial before e is none = by (eqb s initial) refl
     by false h = rw (is ∙ h) refl
     by true h = let same = eqb-true s initial h in rw (is ∙ h) (none (omega arith))
 
-later_mark : (s initial : ℕ) (before : List StateEntry) (e : StateEntry) → e.initial ≡ eqb s initial → (s ≤ initial → list_any is_marked before ≡ false)
+later_mark : (s initial : ℕ) (before : List (StateEntry Lexeme)) (e : StateEntry Lexeme) → e.initial ≡ eqb s initial → (s ≤ initial → list_any is_marked before ≡ false)
     → s + 1 ≤ initial → list_any is_marked (before ++ e ∷ []) ≡ false
 later_mark s initial before e is none le =
     any-push is_marked before e (none (omega arith)) (is ∙ not_same s initial (omega arith))
@@ -86,7 +86,7 @@ later_mark s initial before e is none le =
     not_same : (m n : ℕ) → m < n → eqb m n ≡ false
     not_same m n lt = grind (arith, nat_tests)
 
-states_none : (initial s : ℕ) (before : List StateEntry) (names : List (List ℕ)) (es : List StateEntry) → s ≡ length before
+states_none : (initial s : ℕ) (before : List (StateEntry Lexeme)) (names : List (List ℕ)) (es : List (StateEntry Lexeme)) → s ≡ length before
     → AreStatesOf initial s names es → AreFresh (map state_text before) names → length before + length names ≤ most_states
     → (s ≤ initial → list_any is_marked before ≡ false) → AreNone (faults_after state_fault before es)
 states_none initial s before [] [] at are fresh few none = tt
@@ -101,13 +101,13 @@ states_none initial s before (name ∷ names) (e ∷ es) at are fresh few none =
     (subst (λ l. AreFresh l names) texts fresh.1) (omega (arith, length-append before (e ∷ [])))
     (later_mark s initial before e are.1 none))
 
-states_texts : (initial s : ℕ) (names : List (List ℕ)) (es : List StateEntry) → AreStatesOf initial s names es → names ≡ map state_text es
+states_texts : (initial s : ℕ) (names : List (List ℕ)) (es : List (StateEntry Lexeme)) → AreStatesOf initial s names es → names ≡ map state_text es
 states_texts initial s [] [] are = refl
 states_texts initial s [] (e ∷ es) are = absurd are
 states_texts initial s (name ∷ names) [] are = absurd are
 states_texts initial s (name ∷ names) (e ∷ es) are = ap₂ (λ n ns. n ∷ ns) (sym are.0) (states_texts initial (s + 1) names es are.2)
 
-mark_at : (initial s k : ℕ) (names : List (List ℕ)) (es : List StateEntry) → AreStatesOf initial s names es → initial ≡ s + k → k < length names
+mark_at : (initial s k : ℕ) (names : List (List ℕ)) (es : List (StateEntry Lexeme)) → AreStatesOf initial s names es → initial ≡ s + k → k < length names
     → (position_or_len is_marked es ≡ k) × (k < length es)
 mark_at initial s k [] es are at lt = absurd (omega arith)
 mark_at initial s k (name ∷ names) [] are at lt = absurd are
@@ -125,7 +125,7 @@ mark_at initial s (suc k) (name ∷ names) (e ∷ es) are at lt =
     differ : (m n : ℕ) → m < n → eqb m n ≡ false
     differ m n h = grind (arith, nat_tests)
 
-marked_state : (initial : ℕ) (names : List (List ℕ)) (es : List StateEntry) → AreStatesOf initial 0 names es → initial < length names
+marked_state : (initial : ℕ) (names : List (List ℕ)) (es : List (StateEntry Lexeme)) → AreStatesOf initial 0 names es → initial < length names
     → position is_marked es ≡ Some initial
 marked_state initial names es are lt =
     let at = mark_at initial 0 initial names es are (omega arith) lt in
@@ -164,23 +164,23 @@ draft_formed lts formed = record {
   few_arcs = formed.few_arcs;
 }
 
-named : (lts : System) (x : ArcNames) (a : Arc) → HasNames lts a x → IsArcOfNames (draft_from lts) x a
+named : (lts : System) (x : ArcNames Lexeme) (a : Arc) → HasNames lts a x → IsArcOfNames (draft_from lts) x a
 named lts x a h = record { from = h.0; label = h.1; to = h.2 }
 
-one_here : (lts : System) (x : ArcNames) (a b : Arc) → IsWellFormed lts → HasNames lts a x → HasNames lts b x → a ≡ b
+one_here : (lts : System) (x : ArcNames Lexeme) (a b : Arc) → IsWellFormed lts → HasNames lts a x → HasNames lts b x → a ≡ b
 one_here lts x a b formed h k = one_arc (draft_from lts) x a b (draft_formed lts formed) (named lts x a h) (named lts x b k)
 
 -- the triple is one of an arc of these
-abbrev IsOneOf : System → List Arc → ArcNames → Type 0
+abbrev IsOneOf : System → List Arc → ArcNames Lexeme → Type 0
 IsOneOf lts arcs x = (a : Arc) × Has arcs a × HasNames lts a x
 
-triple_of : (lts : System) (arcs : List Arc) (xs : List ArcNames) → AreArcsOf lts arcs xs → (a : Arc) → Has arcs a → (x : ArcNames) × Among x xs × HasNames lts a x
+triple_of : (lts : System) (arcs : List Arc) (xs : List (ArcNames Lexeme)) → AreArcsOf lts arcs xs → (a : Arc) → Has arcs a → (x : ArcNames Lexeme) × Among x xs × HasNames lts a x
 triple_of lts [] xs are a has = absurd has
 triple_of lts (b ∷ arcs) [] are a has = absurd are
 triple_of lts (b ∷ arcs) (x ∷ xs) are a (inl e) = (x, inl refl, subst (λ c. HasNames lts c x) e are.0)
 triple_of lts (b ∷ arcs) (x ∷ xs) are a (inr h) = let r = triple_of lts arcs xs are.1 a h in (r.0, inr r.1, r.2)
 
-arc_of : (lts : System) (arcs : List Arc) (xs : List ArcNames) → AreArcsOf lts arcs xs → (x : ArcNames) → Among x xs → IsOneOf lts arcs x
+arc_of : (lts : System) (arcs : List Arc) (xs : List (ArcNames Lexeme)) → AreArcsOf lts arcs xs → (x : ArcNames Lexeme) → Among x xs → IsOneOf lts arcs x
 arc_of lts arcs [] are x among = absurd among
 arc_of lts [] (y ∷ xs) are x among = absurd are
 arc_of lts (b ∷ arcs) (y ∷ xs) are x (inl e) = (b, inl refl, subst (HasNames lts b) e are.0)
@@ -210,7 +210,7 @@ fewer (z ∷ zs) (a ∷ arcs) x y to = by (to z (inl refl)) (fewer zs arcs x.1 y
         before c same (inr h) = before_back a z (after_has a z arcs y.0 later) (subst (IsArcBefore z) (sym same) (after_has z c zs x.0 h))
 
 -- there are no more different triples than arcs
-few_different : (lts : System) (xs : List ArcNames) → IsWellFormed lts → ((x : ArcNames) → Among x xs → IsOneOf lts lts.arcs x)
+few_different : (lts : System) (xs : List (ArcNames Lexeme)) → IsWellFormed lts → ((x : ArcNames Lexeme) → Among x xs → IsOneOf lts lts.arcs x)
     → different xs ≤ length lts.arcs
 few_different lts xs formed here =
     let all = counted (draft_from lts) xs (draft_formed lts formed) (λ x among. let r = here x among in (r.0, named lts x r.0 r.2)) in
@@ -229,7 +229,7 @@ module _ (lts : System) (formed : IsWellFormed lts) (d : Declared) (state_texts 
   label_there : (i : ℕ) (x : Lexeme) → slice_get lts.label_names i ≡ Some x.text → is_label d x ≡ true
   label_there i x at = contains_any label_text x.text d.labels (subst (λ l. Contains l x.text) (sym label_texts) (there lts.label_names i x.text at))
 
-  arc_fine : (before : List ArcNames) (x : ArcNames) → ((y : ArcNames) → Among y (x ∷ before) → IsOneOf lts lts.arcs y) → arc_fault d before x ≡ None
+  arc_fine : (before : List (ArcNames Lexeme)) (x : ArcNames Lexeme) → ((y : ArcNames Lexeme) → Among y (x ∷ before) → IsOneOf lts lts.arcs y) → arc_fault d before x ≡ None
   arc_fine before x here =
       let a = here x (inl refl) in
       to_last d before x (state_there a.0.from x.from a.2.0) (label_there a.0.label x.label a.2.1) (state_there a.0.to x.to a.2.2)
@@ -244,7 +244,7 @@ module _ (lts : System) (formed : IsWellFormed lts) (d : Declared) (state_texts 
           let more = cond-false (list_any (same_arc x) before) (different before) (different before + 1) f in
           absurd (omega (arith, few, more, many, formed.few_arcs))
 
-  arcs_none : (before xs : List ArcNames) → ((y : ArcNames) → Among y before → IsOneOf lts lts.arcs y) → ((y : ArcNames) → Among y xs → IsOneOf lts lts.arcs y)
+  arcs_none : (before xs : List (ArcNames Lexeme)) → ((y : ArcNames Lexeme) → Among y before → IsOneOf lts lts.arcs y) → ((y : ArcNames Lexeme) → Among y xs → IsOneOf lts lts.arcs y)
       → AreNone (faults_after (arc_fault d) before xs)
   arcs_none before [] had here = tt
   arcs_none before (x ∷ xs) had here =

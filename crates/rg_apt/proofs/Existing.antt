@@ -85,13 +85,13 @@ one_number text fault fresh before (x ∷ xs) none name (suc i) (suc j) at at' =
     let head = none_head (fault before x) (faults_after fault (before ++ x ∷ []) xs) none in
     ap suc (one_number text fault fresh (before ++ x ∷ []) xs head.1 name i j at at')
 
-pub state_fresh : IsFresh (λ (e : StateEntry). e.name.text) state_fault
-state_fresh before x none = by (list_any (λ (b : StateEntry). same_text x.name b.name) before) refl none
+pub state_fresh : IsFresh (λ (e : StateEntry Lexeme). e.name.text) state_fault
+state_fresh before x none = by (list_any (λ (b : StateEntry Lexeme). same_text x.name b.name) before) refl none
   where
-    by : (t : Bool) → list_any (λ (b : StateEntry). same_text x.name b.name) before ≡ t
+    by : (t : Bool) → list_any (λ (b : StateEntry Lexeme). same_text x.name b.name) before ≡ t
         → cond t (Some (TwiceState x.name.at)) (cond (nat_le most_states (length before)) (Some (TooManyStates x.name.at))
-        (cond (x.initial && list_any (λ (b : StateEntry). b.initial) before) (Some (TwoInitial x.name.at)) None)) ≡ None
-        → list_any (λ (b : StateEntry). same_text x.name b.name) before ≡ false
+        (cond (x.initial && list_any (λ (b : StateEntry Lexeme). b.initial) before) (Some (TwoInitial x.name.at)) None)) ≡ None
+        → list_any (λ (b : StateEntry Lexeme). same_text x.name b.name) before ≡ false
     by true e none = absurd cc
     by false e none = e
 
@@ -104,12 +104,12 @@ label_fresh before x none = by (list_any (same_text x) before) refl none
     by false e none = e
 
 -- the names of a triple without a fault are known
-pub record Known (d : Declared) (a : ArcNames) : Type 0 where
+pub record Known (d : Declared) (a : ArcNames Lexeme) : Type 0 where
   pub from : is_state d a.from ≡ true
   pub label : is_label d a.label ≡ true
   pub to : is_state d a.to ≡ true
 
-pub known : (d : Declared) (before : List ArcNames) (a : ArcNames) → arc_fault d before a ≡ None → Known d a
+pub known : (d : Declared) (before : List (ArcNames Lexeme)) (a : ArcNames Lexeme) → arc_fault d before a ≡ None → Known d a
 known d before a none = by (is_state d a.from) (is_label d a.label) (is_state d a.to) refl refl refl none
   where
     rest : Option TextFault
@@ -125,27 +125,27 @@ known d before a none = by (is_state d a.from) (is_label d a.label) (is_state d 
 
 -- the numbers of the names
 abbrev state_names : Declared → List (List ℕ)
-state_names d = map (λ (e : StateEntry). e.name.text) d.states
+state_names d = map (λ (e : StateEntry Lexeme). e.name.text) d.states
 
 abbrev label_names : Declared → List (List ℕ)
 label_names d = map (λ (x : Lexeme). x.text) d.labels
 
-abbrev Names : Declared → Arc → ArcNames → Type 0
+abbrev Names : Declared → Arc → ArcNames Lexeme → Type 0
 Names d n a = (slice_get (state_names d) n.from ≡ Some a.from.text) × (slice_get (label_names d) n.label ≡ Some a.label.text) × (slice_get (state_names d) n.to ≡ Some a.to.text)
 
-pub arc_of : (d : Declared) (a : ArcNames) → Known d a → (n : Arc) × Names d n a
+pub arc_of : (d : Declared) (a : ArcNames Lexeme) → Known d a → (n : Arc) × Names d n a
 arc_of d a k =
-    let from = numbered (λ (e : StateEntry). e.name.text) a.from.text d.states k.from in
+    let from = numbered (λ (e : StateEntry Lexeme). e.name.text) a.from.text d.states k.from in
     let label = numbered (λ (x : Lexeme). x.text) a.label.text d.labels k.label in
-    let to = numbered (λ (e : StateEntry). e.name.text) a.to.text d.states k.to in
+    let to = numbered (λ (e : StateEntry Lexeme). e.name.text) a.to.text d.states k.to in
     (record { from = from.0; label = label.0; to = to.0 }, (from.1, label.1, to.1))
 
 -- the arcs of the triples
-pub record ArcsOf (d : Declared) (names : List ArcNames) (arcs : List Arc) : Type 0 where
-  pub named : (n : Arc) → Has arcs n → (a : ArcNames) × Among a names × Names d n a
-  pub all : (a : ArcNames) → Among a names → (n : Arc) × Has arcs n × Names d n a
+pub record ArcsOf (d : Declared) (names : List (ArcNames Lexeme)) (arcs : List Arc) : Type 0 where
+  pub named : (n : Arc) → Has arcs n → (a : ArcNames Lexeme) × Among a names × Names d n a
+  pub all : (a : ArcNames Lexeme) → Among a names → (n : Arc) × Has arcs n × Names d n a
 
-pub arcs_of : (d : Declared) (before names : List ArcNames) → AreNone (faults_after (arc_fault d) before names) → (arcs : List Arc) × ArcsOf d names arcs
+pub arcs_of : (d : Declared) (before names : List (ArcNames Lexeme)) → AreNone (faults_after (arc_fault d) before names) → (arcs : List Arc) × ArcsOf d names arcs
 arcs_of d before [] none = ([], record { named = λ n h. absurd h; all = λ a h. absurd h })
 arcs_of d before (a ∷ names) none =
     let head = none_head (arc_fault d before a) (faults_after (arc_fault d) (before ++ a ∷ []) names) none in
@@ -183,7 +183,7 @@ pub record Faultless (d : Declared) : Type 0 where
   pub states : AreNone (faults_after state_fault [] d.states)
   pub labels : AreNone (faults_after label_fault [] d.labels)
   pub arcs : AreNone (faults_after (arc_fault d) [] d.arcs)
-  pub initial : list_any (λ (e : StateEntry). e.initial) d.states ≡ true
+  pub initial : list_any (λ (e : StateEntry Lexeme). e.initial) d.states ≡ true
 
 pub faultless : (d : Declared) → AreNone (faults d) → Faultless d
 faultless d none =
@@ -191,22 +191,22 @@ faultless d none =
     let b = faults_after state_fault [] d.states in
     let c = faults_after label_fault [] d.labels in
     let e = faults_after (arc_fault d) [] d.arcs in
-    let f = if_not (list_any (λ (e : StateEntry). e.initial) d.states) NoInitial in
+    let f = if_not (list_any (λ (e : StateEntry Lexeme). e.initial) d.states) NoInitial in
     let last = none_both (a ++ b ++ c ++ e) f none in
     let third = none_both (a ++ b ++ c) e last.0 in
     let second = none_both (a ++ b) c third.0 in
     let first = none_both a b second.0 in
-    record { states = first.1; labels = second.1; arcs = third.1; initial = marked (list_any (λ (e : StateEntry). e.initial) d.states) last.1 }
+    record { states = first.1; labels = second.1; arcs = third.1; initial = marked (list_any (λ (e : StateEntry Lexeme). e.initial) d.states) last.1 }
   where
     marked : (b : Bool) → AreNone (if_not b NoInitial) → b ≡ true
     marked true none = refl
     marked false none = absurd none
 
-same_arc_names : (d : Declared) → Faultless d → (m n : Arc) (a : ArcNames) → Names d m a → Names d n a → m ≡ n
+same_arc_names : (d : Declared) → Faultless d → (m n : Arc) (a : ArcNames Lexeme) → Names d m a → Names d n a → m ≡ n
 same_arc_names d none m n a x y =
-    let from = one_number (λ (e : StateEntry). e.name.text) state_fault state_fresh [] d.states none.states a.from.text m.from n.from x.0 y.0 in
+    let from = one_number (λ (e : StateEntry Lexeme). e.name.text) state_fault state_fresh [] d.states none.states a.from.text m.from n.from x.0 y.0 in
     let label = one_number (λ (e : Lexeme). e.text) label_fault label_fresh [] d.labels none.labels a.label.text m.label n.label x.1 y.1 in
-    let to = one_number (λ (e : StateEntry). e.name.text) state_fault state_fresh [] d.states none.states a.to.text m.to n.to x.2 y.2 in
+    let to = one_number (λ (e : StateEntry Lexeme). e.name.text) state_fault state_fresh [] d.states none.states a.to.text m.to n.to x.2 y.2 in
     λ i. record { from = from i; label = label i; to = to i }
 
 pub system_exists : (d : Declared) → AreNone (faults d) → (lts : System) × IsSystemOf d lts
@@ -214,7 +214,7 @@ system_exists d none =
     let parts = faultless d none in
     let numbers = arcs_of d [] d.arcs parts.arcs in
     let sorted = sorted_of numbers.0 in
-    let mark : StateEntry → Bool = λ e. e.initial in
+    let mark : StateEntry Lexeme → Bool = λ e. e.initial in
     let initial = position_or_len mark d.states in
     let lts : System = record { state_names = state_names d; label_names = label_names d; arcs = sorted.0; initial = initial } in (
       lts,

@@ -11,7 +11,7 @@ use Rattle.rg_apt.specs.Reading.{system_grammar, FirstRefusal}
 use Rattle.rg_apt.proofs.Items.{items_read}
 use Rattle.rg_apt.proofs.Complete.{items_from}
 
-pub describes : Describes Position Declared ItemFault (List Item) system_grammar AreItems declared
+pub describes : Describes (Position Lexeme) Declared ItemFault (List Item) system_grammar AreItems declared
 describes = record { read = items_read; complete = items_from }
 
 -- the tokens of items are not refused

@@ -13,7 +13,7 @@ use Rattle.rg_grammar.specs.declared.fault.ItemFault.{ItemFault}
 use Rattle.rg_grammar.specs.declared.fault.ItemFault.TheVariants as item
 use Rattle.rg_grammar.specs.Text.{FirstItemFault, of_lexer, in_tokens, in_grammar}
 use Rattle.rg_grammar.specs.Grammar.{IsRefused}
-use Rattle.rg_apt.specs.Table.{Position, section, type_name, passed_text, in_section, after_entry, second, third, in_list, refusal_by}
+use Rattle.rg_apt.specs.Table.{Position, Start, TypeName, PassedText, InSection, AfterEntry, Second, Third, InList, refusal_by}
 use Rattle.rg_apt.specs.Reading.{system_grammar}
 use Rattle.rg_apt.specs.declared.fault.TextFault.{TextFault}
 use Rattle.rg_apt.specs.declared.fault.TextFault.TheVariants.{NoType, TwiceState, TwiceLabel, UnknownState, UnknownLabel, TwoInitial, NoInitial, TooManyStates, TooManyLabels, TooManyArcs, NoMemory}
@@ -29,18 +29,18 @@ no_lex_fault bytes (lex.LongName at) first e = absurd cc
 no_lex_fault bytes lex.NoMemory (pieces, rest, begins, is) e = is
 
 -- the grammar
-no_refusal : (position : Position) (kind : Kind) (at : ℕ) → refusal_by position kind at ≡ item.NoMemory → ⊥
-no_refusal section kind at e = absurd cc
-no_refusal type_name Name at e = absurd cc
-no_refusal type_name _ at e = absurd cc
-no_refusal passed_text kind at e = absurd cc
-no_refusal (in_section s) kind at e = absurd cc
-no_refusal (after_entry s) kind at e = absurd cc
-no_refusal (second from) kind at e = absurd cc
-no_refusal (third from label) kind at e = absurd cc
-no_refusal (in_list s p) kind at e = absurd cc
+no_refusal : (position : Position Lexeme) (kind : Kind) (at : ℕ) → refusal_by position kind at ≡ item.NoMemory → ⊥
+no_refusal Start kind at e = absurd cc
+no_refusal TypeName Name at e = absurd cc
+no_refusal TypeName _ at e = absurd cc
+no_refusal PassedText kind at e = absurd cc
+no_refusal (InSection s) kind at e = absurd cc
+no_refusal (AfterEntry s) kind at e = absurd cc
+no_refusal (Second from) kind at e = absurd cc
+no_refusal (Third from label) kind at e = absurd cc
+no_refusal (InList s p) kind at e = absurd cc
 
-not_refused : (position : Position) (rest : List Lexeme) (end : ℕ) (fault : ItemFault) → IsRefused system_grammar position rest end fault → fault ≡ item.NoMemory → ⊥
+not_refused : (position : Position Lexeme) (rest : List Lexeme) (end : ℕ) (fault : ItemFault) → IsRefused system_grammar position rest end fault → fault ≡ item.NoMemory → ⊥
 not_refused position [] end fault (ends, is) e = let same = sym is ∙ e in absurd cc
 not_refused position (x ∷ rest) end fault (leads, is) e = no_refusal position x.kind x.at (sym is ∙ e)
 
@@ -79,9 +79,9 @@ each_other {X} fault other before (x ∷ xs) is = by (fault before x) refl is (e
     by None e is more = more is
     by (Some f) e is more = let same : fault before x ≡ Some NoMemory = rw is e in other before x same
 
-state_other : (before : List StateEntry) (x : StateEntry) → state_fault before x ≡ Some NoMemory → ⊥
+state_other : (before : List (StateEntry Lexeme)) (x : StateEntry Lexeme) → state_fault before x ≡ Some NoMemory → ⊥
 state_other before x e =
-    by (list_any (λ (b : StateEntry). same_text x.name b.name) before) (nat_le most_states (length before)) (x.initial && list_any (λ (b : StateEntry). b.initial) before) e
+    by (list_any (λ (b : StateEntry Lexeme). same_text x.name b.name) before) (nat_le most_states (length before)) (x.initial && list_any (λ (b : StateEntry Lexeme). b.initial) before) e
   where
     by : (p q r : Bool) → cond p (Some (TwiceState x.name.at)) (cond q (Some (TooManyStates x.name.at)) (cond r (Some (TwoInitial x.name.at)) None)) ≡ Some NoMemory → ⊥
     by true q r e = absurd cc
@@ -97,7 +97,7 @@ label_other before x e = by (list_any (same_text x) before) (nat_le most_labels 
     by false true e = absurd cc
     by false false e = absurd cc
 
-arc_other : (d : Declared) (before : List ArcNames) (x : ArcNames) → arc_fault d before x ≡ Some NoMemory → ⊥
+arc_other : (d : Declared) (before : List (ArcNames Lexeme)) (x : ArcNames Lexeme) → arc_fault d before x ≡ Some NoMemory → ⊥
 arc_other d before x e = by (is_state d x.from) (is_label d x.label) (is_state d x.to) (nat_le most_arcs (different before) && not (list_any (same_arc x) before)) e
   where
     by : (p q r s : Bool) → cond (not p) (Some (UnknownState x.from.at)) (cond (not q) (Some (UnknownLabel x.label.at)) (cond (not r) (Some (UnknownState x.to.at))
@@ -114,14 +114,14 @@ none_of d =
     let b = faults_after state_fault [] d.states in
     let c = faults_after label_fault [] d.labels in
     let e = faults_after (arc_fault d) [] d.arcs in
-    let f = if_not (list_any (λ (e : StateEntry). e.initial) d.states) NoInitial in
+    let f = if_not (list_any (λ (e : StateEntry Lexeme). e.initial) d.states) NoInitial in
     both (a ++ b ++ c ++ e) f
     (both (a ++ b ++ c) e
     (both (a ++ b) c
     (both a b (if_not_other d.typed NoType (λ e. absurd cc)) (each_other state_fault state_other [] d.states))
     (each_other label_fault label_other [] d.labels))
     (each_other (arc_fault d) (arc_other d) [] d.arcs))
-    (if_not_other (list_any (λ (e : StateEntry). e.initial) d.states) NoInitial (λ e. absurd cc))
+    (if_not_other (list_any (λ (e : StateEntry Lexeme). e.initial) d.states) NoInitial (λ e. absurd cc))
 
 no_fault : (bytes : List ℕ) (fault : TextFault) → FirstFault bytes fault → fault ≡ NoMemory → ⊥
 no_fault bytes fault (in_items e first) is = no_item_fault bytes e first (of_item_memory e is)

@@ -11,7 +11,8 @@ use Rattle.rg_theory.specs.System.{System, IsArcInRange}
 use Rattle.rg_lexer.specs.Lexeme.{Lexeme}
 use Rattle.rg_lexer.specs.declared.token.Kind.TheVariants.{Name, Word, LeftBracket, RightBracket}
 use Rattle.rg_lexer.proofs.Printed.{Reads, Then, reads_lexemes, reads_same, reads_more, reads_end, reads_token, reads_blank, reads_name, reads_word, literal_name}
-use Rattle.rg_grammar.specs.Entry.{alone, Entry, IsEntry, AreEach}
+use Rattle.rg_grammar.specs.declared.list_position.Setting.TheVariants.{Alone}
+use Rattle.rg_grammar.specs.Entry.{Entry, IsEntry, AreEach}
 use Rattle.rg_grammar.proofs.Printed.{bare, NamesThen, reads_names}
 use Rattle.rg_lts.specs.WellFormed.{IsWellFormed}
 use Rattle.rg_apt.specs.Item.{Triple, Item, IsTriple, AreItems}
@@ -22,10 +23,10 @@ use Rattle.rg_apt.specs.Plain.{state_line, state_lines, name_at, arc_line, plain
 use Rattle.rg_apt.proofs.PrintSteps.{text_parts}
 use Rattle.rg_apt.proofs.Declares.{AreStatesOf, AreArcsOf, Declares, declares_none, declares_system}
 
-abbrev state_of : Entry → StateEntry
+abbrev state_of : Entry → StateEntry Lexeme
 state_of e = record { name = e.name; initial = list_any marks e.settings }
 
-abbrev names_of : Triple → ArcNames
+abbrev names_of : Triple → ArcNames Lexeme
 names_of t = record { from = t.from; label = t.label; to = t.to }
 
 -- the entries of states, of which one is marked, and then tokens of which P holds
@@ -58,7 +59,7 @@ marked_then : (initial s : ℕ) (name : List ℕ) (names : List (List ℕ)) (P :
     → Then Name name (MarkThen (StatesThen initial (s + 1) names P)) xs → StatesThen initial s (name ∷ names) P xs
 marked_then initial s name names P xs e
     (x, after_x, kind, text, (left, after_left, left_kind, left_text, (key, after_key, key_kind, key_text, (right, more, right_kind, right_text, then, whole₄), whole₃), whole₂), whole₁) = record {
-      entries = record { name = x; settings = alone key ∷ [] } ∷ then.entries;
+      entries = record { name = x; settings = Alone key ∷ [] } ∷ then.entries;
       front = x ∷ left ∷ key ∷ right ∷ then.front;
       others = then.others;
       are = (

@@ -64,7 +64,7 @@ entry_named e xs (is, (options, settings, same)) of = name_of_kind e.name is (su
 entries_named : (entries : List Entry) (xs : List Lexeme) → AreEach IsEntry entries xs → AreOfKinds xs → AllByRecursion (λ (e : Entry). IsName e.name.text) entries
 entries_named entries xs are of = each_of IsEntry (λ (e : Entry). IsName e.name.text) entry_named entries xs are of
 
-abbrev IsStateNamed : StateEntry → Type 0
+abbrev IsStateNamed : StateEntry Lexeme → Type 0
 IsStateNamed e = IsName (state_text e)
 
 abbrev IsLabelNamed : Lexeme → Type 0

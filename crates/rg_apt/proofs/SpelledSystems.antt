@@ -7,6 +7,7 @@ use Rattle.std.proofs.lemmas.Bool.Decides.{nat_tests}
 use Rattle.std.proofs.lemmas.List.{length-map}
 use Rattle.std.proofs.lemmas.List.Elements.{Contains-get_or}
 use Rattle.std.proofs.lemmas.Option.{slice_get_within, slice_get-get_or}
+use Rattle.rg_lexer.specs.Lexeme.{Lexeme}
 use Rattle.rg_text.specs.Byte.{IsName}
 use Rattle.rg_text.specs.Faults.{faults_after, AreNone}
 use Rattle.rg_theory.specs.Limits.{most_states, most_labels, most_arcs}
@@ -52,11 +53,11 @@ le_fails : (m n : ℕ) → nat_le m n ≡ false → n < m
 le_fails m n h = grind (arith, nat_tests)
 
 state_room : HasRoom state_fault most_states
-state_room before x none = by (list_any (λ (b : StateEntry). same_text x.name b.name) before) (nat_le most_states (length before)) refl none
+state_room before x none = by (list_any (λ (b : StateEntry Lexeme). same_text x.name b.name) before) (nat_le most_states (length before)) refl none
   where
     by : (t u : Bool) → nat_le most_states (length before) ≡ u
         → cond t (Some (TwiceState x.name.at))
-        (cond u (Some (TooManyStates x.name.at)) (cond (x.initial && list_any (λ (b : StateEntry). b.initial) before) (Some (TwoInitial x.name.at)) None)) ≡ None
+        (cond u (Some (TooManyStates x.name.at)) (cond (x.initial && list_any (λ (b : StateEntry Lexeme). b.initial) before) (Some (TwoInitial x.name.at)) None)) ≡ None
         → length before < most_states
     by true u e none = absurd cc
     by false true e none = absurd cc
@@ -76,12 +77,12 @@ abbrev names_of : Declared → Draft
 names_of d = names_alone (map state_text d.states) (map label_text d.labels)
 
 -- each of these triples has an arc
-abbrev AreNamed : Declared → List ArcNames → Type 0
-AreNamed d names = (x : ArcNames) → Among x names → (a : Arc) × IsArcOfNames (names_of d) x a
+abbrev AreNamed : Declared → List (ArcNames Lexeme) → Type 0
+AreNamed d names = (x : ArcNames Lexeme) → Among x names → (a : Arc) × IsArcOfNames (names_of d) x a
 
 -- triples are counted in any order
-same_count : (d : Declared) (xs ys : List ArcNames) → IsWellFormedDraft (names_of d) → AreNamed d xs
-    → ((x : ArcNames) → Among x xs → Among x ys) → ((x : ArcNames) → Among x ys → Among x xs)
+same_count : (d : Declared) (xs ys : List (ArcNames Lexeme)) → IsWellFormedDraft (names_of d) → AreNamed d xs
+    → ((x : ArcNames Lexeme) → Among x xs → Among x ys) → ((x : ArcNames Lexeme) → Among x ys → Among x xs)
     → different xs ≡ different ys
 same_count d xs ys formed named to from =
     let first = counted (names_of d) xs formed named in
@@ -91,15 +92,15 @@ same_count d xs ys formed named to from =
     (λ c has. (let r = second.1.to c has in first.1.from c r.0 (from r.0 r.1) r.2)) in
     sym first.1.size ∙ ap length same ∙ second.1.size
 
-turned : (x y : ArcNames) (before : List ArcNames) → Among y (before ++ x ∷ []) → Among y (x ∷ before)
+turned : (x y : ArcNames Lexeme) (before : List (ArcNames Lexeme)) → Among y (before ++ x ∷ []) → Among y (x ∷ before)
 turned x y before among = ⊎_elim (λ old. inr old) (λ last. inl last) (among_parts y x before among)
 
-back : (x y : ArcNames) (before : List ArcNames) → Among y (x ∷ before) → Among y (before ++ x ∷ [])
+back : (x y : ArcNames Lexeme) (before : List (ArcNames Lexeme)) → Among y (x ∷ before) → Among y (before ++ x ∷ [])
 back x y before (inl e) = subst (λ z. Among z (before ++ x ∷ [])) e (among-last x before)
 back x y before (inr h) = among-append y before (x ∷ []) h
 
 -- one triple more, without a fault
-one_more : (d : Declared) (before : List ArcNames) (x : ArcNames) → IsWellFormedDraft (names_of d) → AreNamed d (before ++ x ∷ []) → arc_fault d before x ≡ None
+one_more : (d : Declared) (before : List (ArcNames Lexeme)) (x : ArcNames Lexeme) → IsWellFormedDraft (names_of d) → AreNamed d (before ++ x ∷ []) → arc_fault d before x ≡ None
     → different before ≤ most_arcs → different (before ++ x ∷ []) ≤ most_arcs
 one_more d before x formed named none le =
     let are = known d before x none in
@@ -113,7 +114,7 @@ one_more d before x formed named none le =
     by true false e none = absurd cc
     by false false e none = let less = le_fails most_arcs (different before) e in omega (arith, less)
 
-few_names : (d : Declared) (before names : List ArcNames) → IsWellFormedDraft (names_of d) → AreNamed d before → AreNone (faults_after (arc_fault d) before names)
+few_names : (d : Declared) (before names : List (ArcNames Lexeme)) → IsWellFormedDraft (names_of d) → AreNamed d before → AreNone (faults_after (arc_fault d) before names)
     → different before ≤ most_arcs → different (before ++ names) ≤ most_arcs
 few_names d before [] formed named none le = rw (append-nil before) le
 few_names d before (x ∷ names) formed named none le =
@@ -159,14 +160,14 @@ module _ (d : Declared) (lts : System) (none : AreNone (faults d)) (state_names 
       let r = (arcs_of d [] d.arcs (faultless d none).arcs).1.all x among in
       (r.0, record { from = r.2.0; label = r.2.1; to = r.2.2 })
 
-  in_draft : (c : Arc) (x : ArcNames) → HasNames lts c x → IsArcOfNames (names_of d) x c
+  in_draft : (c : Arc) (x : ArcNames Lexeme) → HasNames lts c x → IsArcOfNames (names_of d) x c
   in_draft c x has = record {
     from = sym (ap (λ l. slice_get l c.from) is.state_names) ∙ has.0;
     label = sym (ap (λ l. slice_get l c.label) is.label_names) ∙ has.1;
     to = sym (ap (λ l. slice_get l c.to) is.state_names) ∙ has.2;
   }
 
-  in_system : (c : Arc) (x : ArcNames) → IsArcOfNames (names_of d) x c → HasNames lts c x
+  in_system : (c : Arc) (x : ArcNames Lexeme) → IsArcOfNames (names_of d) x c → HasNames lts c x
   in_system c x has = (
     ap (λ l. slice_get l c.from) is.state_names ∙ has.from,
     ap (λ l. slice_get l c.label) is.label_names ∙ has.label,

@@ -16,47 +16,47 @@ use Rattle.rg_apt.proofs.Names.{contains_any, absent_none, moved, earlier, le_tr
 use Rattle.rg_apt.proofs.Marks.{some_marked, marked_any, push_marked, push_unmarked}
 
 -- the tests of a state's fault
-abbrev pub again : List StateEntry → StateEntry → Bool
-again before e = list_any (λ (b : StateEntry). same_text e.name b.name) before
+abbrev pub again : List (StateEntry Lexeme) → StateEntry Lexeme → Bool
+again before e = list_any (λ (b : StateEntry Lexeme). same_text e.name b.name) before
 
-abbrev pub two : List StateEntry → StateEntry → Bool
-two before e = e.initial && list_any (λ (b : StateEntry). b.initial) before
+abbrev pub two : List (StateEntry Lexeme) → StateEntry Lexeme → Bool
+two before e = e.initial && list_any (λ (b : StateEntry Lexeme). b.initial) before
 
-abbrev last_test : List StateEntry → StateEntry → Option TextFault
+abbrev last_test : List (StateEntry Lexeme) → StateEntry Lexeme → Option TextFault
 last_test before e = cond (two before e) (Some (TwoInitial e.name.at)) None
 
-abbrev room_test : List StateEntry → StateEntry → Option TextFault
+abbrev room_test : List (StateEntry Lexeme) → StateEntry Lexeme → Option TextFault
 room_test before e = cond (nat_le most_states (length before)) (Some (TooManyStates e.name.at)) (last_test before e)
 
-is_again : (before : List StateEntry) (e : StateEntry) → again before e ≡ true → state_fault before e ≡ Some (TwiceState e.name.at)
+is_again : (before : List (StateEntry Lexeme)) (e : StateEntry Lexeme) → again before e ≡ true → state_fault before e ≡ Some (TwiceState e.name.at)
 is_again before e a = cond-true (again before e) (Some (TwiceState e.name.at)) (room_test before e) a
 
-to_room : (before : List StateEntry) (e : StateEntry) → again before e ≡ false → state_fault before e ≡ room_test before e
+to_room : (before : List (StateEntry Lexeme)) (e : StateEntry Lexeme) → again before e ≡ false → state_fault before e ≡ room_test before e
 to_room before e a = cond-false (again before e) (Some (TwiceState e.name.at)) (room_test before e) a
 
-is_full : (before : List StateEntry) (e : StateEntry) → again before e ≡ false → most_states ≤ length before → state_fault before e ≡ Some (TooManyStates e.name.at)
+is_full : (before : List (StateEntry Lexeme)) (e : StateEntry Lexeme) → again before e ≡ false → most_states ≤ length before → state_fault before e ≡ Some (TooManyStates e.name.at)
 is_full before e a full =
     to_room before e a ∙ cond-true (nat_le most_states (length before)) (Some (TooManyStates e.name.at)) (last_test before e) (le_true most_states (length before) full)
 
-to_last : (before : List StateEntry) (e : StateEntry) → again before e ≡ false → length before < most_states → state_fault before e ≡ last_test before e
+to_last : (before : List (StateEntry Lexeme)) (e : StateEntry Lexeme) → again before e ≡ false → length before < most_states → state_fault before e ≡ last_test before e
 to_last before e a room =
     to_room before e a ∙ cond-false (nat_le most_states (length before)) (Some (TooManyStates e.name.at)) (last_test before e) (le_false most_states (length before) room)
 
-is_two : (before : List StateEntry) (e : StateEntry) → again before e ≡ false → length before < most_states → two before e ≡ true → state_fault before e ≡ Some (TwoInitial e.name.at)
+is_two : (before : List (StateEntry Lexeme)) (e : StateEntry Lexeme) → again before e ≡ false → length before < most_states → two before e ≡ true → state_fault before e ≡ Some (TwoInitial e.name.at)
 is_two before e a room t = to_last before e a room ∙ cond-true (two before e) (Some (TwoInitial e.name.at)) None t
 
-pub is_fine : (before : List StateEntry) (e : StateEntry) → again before e ≡ false → length before < most_states → two before e ≡ false → state_fault before e ≡ None
+pub is_fine : (before : List (StateEntry Lexeme)) (e : StateEntry Lexeme) → again before e ≡ false → length before < most_states → two before e ≡ false → state_fault before e ≡ None
 is_fine before e a room t = to_last before e a room ∙ cond-false (two before e) (Some (TwoInitial e.name.at)) None t
 
 -- what the names of a draft say of the entries
 how_many : {X : Type 0} (text : X → List ℕ) (names : List (List ℕ)) (xs : List X) → names ≡ map text xs → length names ≡ length xs
 how_many text names xs e = ap length e ∙ length-map xs text
 
-fresh : (before : List StateEntry) (e : StateEntry) (d : Draft) (name : List ℕ) → name ≡ e.name.text → HasStates before d → (Contains d.state_names name → ⊥) → again before e ≡ false
+fresh : (before : List (StateEntry Lexeme)) (e : StateEntry Lexeme) (d : Draft) (name : List ℕ) → name ≡ e.name.text → HasStates before d → (Contains d.state_names name → ⊥) → again before e ≡ false
 fresh before e d name is h new =
     absent_none state_text e.name.text before (λ has. new (moved (map state_text before) d.state_names e.name.text name (sym h.state_names) (sym is) has))
 
-pub name_fault : (before : List StateEntry) (e : StateEntry) (d : Draft) (name : List ℕ) (f : TextFault) → name ≡ e.name.text → HasStates before d
+pub name_fault : (before : List (StateEntry Lexeme)) (e : StateEntry Lexeme) (d : Draft) (name : List ℕ) (f : TextFault) → name ≡ e.name.text → HasStates before d
     → IsNameFault d.state_names most_states name (TwiceState e.name.at) (TooManyStates e.name.at) f → state_fault before e ≡ Some f
 name_fault before e d name f is h (inl (at, has)) =
     is_again before e (contains_any state_text e.name.text before (moved d.state_names (map state_text before) name e.name.text h.state_names is has)) ∙ ap Some (sym at)
@@ -68,7 +68,7 @@ name_fault before e d name f is h (inr (at, new, full)) =
 abbrev pub WithState : Draft → List ℕ → Draft
 WithState d name = record d { state_names = d.state_names ++ name ∷ [] }
 
-pub mark_fault : (before : List StateEntry) (e : StateEntry) (d d' : Draft) (name : List ℕ) (f : TextFault) → name ≡ e.name.text → e.initial ≡ true
+pub mark_fault : (before : List (StateEntry Lexeme)) (e : StateEntry Lexeme) (d d' : Draft) (name : List ℕ) (f : TextFault) → name ≡ e.name.text → e.initial ≡ true
     → d' ≡ WithState d name → IsNewName d.state_names most_states name → HasStates before d → (f ≡ TwoInitial e.name.at) × IsOtherInitial d' name
     → state_fault before e ≡ Some f
 mark_fault before e d d' name f is mark made new h (at, other) =
@@ -78,7 +78,7 @@ mark_fault before e d d' name f is mark made new h (at, other) =
     (subst (λ (o : Option ℕ). IsSomeAnd o (λ s. slice_get (d.state_names ++ name ∷ []) s ≢ Some name)) h.initial there.1) in
     is_two before e (fresh before e d name is h new.new) (omega (arith, new.room)) (and_from e.initial (list_any is_marked before) mark any) ∙ ap Some (sym at)
 
-state_names_more : (before : List StateEntry) (e : StateEntry) (d : Draft) (name : List ℕ) → name ≡ e.name.text → HasStates before d
+state_names_more : (before : List (StateEntry Lexeme)) (e : StateEntry Lexeme) (d : Draft) (name : List ℕ) → name ≡ e.name.text → HasStates before d
     → d.state_names ++ name ∷ [] ≡ map state_text (before ++ e ∷ [])
 state_names_more before e d name is h = ap₂ (λ ns n. ns ++ n ∷ []) h.state_names is ∙ sym (map-append state_text before (e ∷ []))
 
@@ -90,7 +90,7 @@ right_false : (a b : Bool) → b ≡ false → (a && b) ≡ false
 right_false true b e = e
 right_false false b e = refl
 
-pub plain_state : (before : List StateEntry) (e : StateEntry) (d d' : Draft) (name : List ℕ) → name ≡ e.name.text → e.initial ≡ false
+pub plain_state : (before : List (StateEntry Lexeme)) (e : StateEntry Lexeme) (d d' : Draft) (name : List ℕ) → name ≡ e.name.text → e.initial ≡ false
     → d' ≡ WithState d name → IsNewName d.state_names most_states name → HasStates before d
     → (state_fault before e ≡ None) × HasStates (before ++ e ∷ []) d'
 plain_state before e d d' name is mark made new h =
@@ -105,7 +105,7 @@ plain_state before e d d' name is mark made new h =
     )
 
 -- no entry is marked, where no other state is initial
-none_before : (before : List StateEntry) (d : Draft) (name : List ℕ) → (Contains d.state_names name → ⊥) → HasStates before d → (IsOtherInitial (WithState d name) name → ⊥)
+none_before : (before : List (StateEntry Lexeme)) (d : Draft) (name : List ℕ) → (Contains d.state_names name → ⊥) → HasStates before d → (IsOtherInitial (WithState d name) name → ⊥)
     → list_any is_marked before ≡ false
 none_before before d name new h alone = by (list_any is_marked before) refl
   where
@@ -129,7 +129,7 @@ last_number names name s new at =
     let not_before : s < length names → ⊥ = λ lt. new (earlier names name s lt at) in
     omega arith
 
-pub marked_state : (before : List StateEntry) (e : StateEntry) (d d' d'' : Draft) (name : List ℕ) → name ≡ e.name.text → e.initial ≡ true
+pub marked_state : (before : List (StateEntry Lexeme)) (e : StateEntry Lexeme) (d d' d'' : Draft) (name : List ℕ) → name ≡ e.name.text → e.initial ≡ true
     → d' ≡ WithState d name → IsNewName d.state_names most_states name → ((s : ℕ) × IsStateNamed d' s name × (d'' ≡ record d' { initial = Some s }))
     → (IsOtherInitial d' name → ⊥) → HasStates before d → (state_fault before e ≡ None) × HasStates (before ++ e ∷ []) d''
 marked_state before e d d' d'' name is mark made new (s, at, set) alone h =

@@ -7,40 +7,40 @@ use Rattle.rg_apt.specs.Contents.{StateEntry, ArcNames, Declared}
 use Rattle.rg_apt.specs.declared.fault.TextFault.{TextFault}
 use Rattle.rg_apt.specs.declared.fault.TextFault.TheVariants.{UnknownState, UnknownLabel}
 
-abbrev pub state_text : StateEntry → List ℕ
+abbrev pub state_text : StateEntry Lexeme → List ℕ
 state_text e = e.name.text
 
 abbrev pub label_text : Lexeme → List ℕ
 label_text x = x.text
 
-abbrev pub is_marked : StateEntry → Bool
+abbrev pub is_marked : StateEntry Lexeme → Bool
 is_marked e = e.initial
 
 -- the draft has these states alone
-pub record HasStates (states : List StateEntry) (draft : Draft) : Type 0 where
+pub record HasStates (states : List (StateEntry Lexeme)) (draft : Draft) : Type 0 where
   pub state_names : draft.state_names ≡ map state_text states
   pub initial : draft.initial ≡ position is_marked states
   pub label_names : draft.label_names ≡ []
   pub arcs : draft.arcs ≡ []
 
 -- the draft has these states and labels alone
-pub record HasLabels (states : List StateEntry) (labels : List Lexeme) (draft : Draft) : Type 0 where
+pub record HasLabels (states : List (StateEntry Lexeme)) (labels : List Lexeme) (draft : Draft) : Type 0 where
   pub state_names : draft.state_names ≡ map state_text states
   pub initial : draft.initial ≡ position is_marked states
   pub label_names : draft.label_names ≡ map label_text labels
   pub arcs : draft.arcs ≡ []
 
 -- a is the arc with these names
-abbrev pub IsArcOfNames : Draft → ArcNames → Arc → Type 0
+abbrev pub IsArcOfNames : Draft → ArcNames Lexeme → Arc → Type 0
 IsArcOfNames draft names a = IsArcNamed draft names.from.text names.label.text names.to.text a
 
 -- the draft has all states and labels, and the arcs of these names alone
-pub record HasArcs (d : Declared) (arcs : List ArcNames) (draft : Draft) : Type 0 where
+pub record HasArcs (d : Declared) (arcs : List (ArcNames Lexeme)) (draft : Draft) : Type 0 where
   pub state_names : draft.state_names ≡ map state_text d.states
   pub initial : draft.initial ≡ position is_marked d.states
   pub label_names : draft.label_names ≡ map label_text d.labels
-  pub named : All (λ (names : ArcNames). (a : Arc) × IsArcOfNames draft names a) arcs
-  pub members : (a : Arc) → Contains draft.arcs a ↔ Any (λ (names : ArcNames). IsArcOfNames draft names a) arcs
+  pub named : All (λ (names : ArcNames Lexeme). (a : Arc) × IsArcOfNames draft names a) arcs
+  pub members : (a : Arc) → Contains draft.arcs a ↔ Any (λ (names : ArcNames Lexeme). IsArcOfNames draft names a) arcs
 
 -- there is no such name yet, and room for it
 pub record IsNewName (names : List (List ℕ)) (limit : ℕ) (name : List ℕ) : Type 0 where
@@ -59,11 +59,11 @@ IsUnknown draft from label to at_from at_label at_to fault =
     ⊎ (((fault ≡ UnknownLabel at_label) × Contains draft.state_names from × ¬ Contains draft.label_names label)
     ⊎ ((fault ≡ UnknownState at_to) × Contains draft.state_names from × Contains draft.label_names label × ¬ Contains draft.state_names to))
 
-abbrev pub IsUnknownOf : Draft → ArcNames → TextFault → Type 0
+abbrev pub IsUnknownOf : Draft → ArcNames Lexeme → TextFault → Type 0
 IsUnknownOf draft x fault = IsUnknown draft x.from.text x.label.text x.to.text x.from.at x.label.at x.to.at fault
 
-abbrev pub HasNamesOf : Draft → ArcNames → Type 0
+abbrev pub HasNamesOf : Draft → ArcNames Lexeme → Type 0
 HasNamesOf draft names = HasNames draft names.from.text names.label.text names.to.text
 
-abbrev pub IsOverLimit : Draft → ArcNames → Type 0
+abbrev pub IsOverLimit : Draft → ArcNames Lexeme → Type 0
 IsOverLimit draft names = IsArcOverLimit draft names.from.text names.label.text names.to.text

@@ -1,7 +1,8 @@
 -- The items of a system file.
 use Rattle.std.specs.Prelude.{◌≡◌, ◌≢◌, ◌⊎◌, List, [], ◌∷◌, codes}
 use Rattle.rg_lexer.specs.Lexeme.{Lexeme}
-use Rattle.rg_grammar.specs.Entry.{Setting, Entry, IsOptionally, IsEntry, AreEach, IsWord}
+use Rattle.rg_grammar.specs.declared.list_position.Setting.{Setting}
+use Rattle.rg_grammar.specs.Entry.{Entry, IsOptionally, IsEntry, AreEach, IsWord}
 use Rattle.rg_lexer.specs.declared.token.Kind.TheVariants.{Name, Word, Text}
 
 -- the three names of an arc, with its options
@@ -9,7 +10,7 @@ pub record Triple : Type 0 where
   pub from : Lexeme
   pub label : Lexeme
   pub to : Lexeme
-  pub settings : List Setting
+  pub settings : List (Setting Lexeme)
 
 pub data Item : Type 0 where
   type : Lexeme → Item

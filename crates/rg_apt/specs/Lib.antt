@@ -5,5 +5,4 @@ pub mod Spells
 pub mod Plain
 pub mod Reading
 pub mod View
-pub mod FoundView
 pub mod Built

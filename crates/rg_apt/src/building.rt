@@ -8,12 +8,12 @@ ghost use Rattle.rg_theory.specs.Limits.{most_states, most_labels};
 ghost use Rattle.rg_lts.specs.Draft.{Draft, blank, IsArcNamed, IsOtherInitial, IsStateNamed, AddsArc, IsWellFormedDraft};
 ghost use Rattle.rg_apt.specs.Contents.{StateEntry, ArcNames, Declared, state_fault, label_fault, arc_fault, faults, IsSystemOf};
 ghost use Rattle.rg_text.specs.Faults.{faults_after, IsFirst, AreNone};
-ghost use Rattle.rg_apt.specs.FoundView.{state_in, states_in, labels_in, arc_in, arcs_in, found_in, IsStateOf, IsArcOf, HoldsNames};
+ghost use Rattle.rg_apt.specs.View.{state_in, states_in, labels_in, arc_in, arcs_in, found_in, IsStateOf, IsArcOf, HoldsNames};
 ghost use Rattle.rg_apt.specs.Built.{label_text, HasStates, HasLabels, HasArcs, IsArcOfNames, IsNewName, IsNameFault, IsUnknown, IsUnknownOf, HasNamesOf, IsOverLimit};
 ghost use Rattle.rg_apt.specs.declared.fault.TextFault.TheVariants as fault;
 
 use crate::fault::TextFault;
-use crate::found::{Found, FoundArc, FoundState};
+use crate::found::{ArcNames, Found, StateEntry};
 use rg_grammar::name_of;
 use rg_lexer::Token;
 use rg_lts::{Arc, BuildFault, Lts, LtsBuilder};
@@ -53,11 +53,15 @@ fn mark(builder: &mut LtsBuilder, name: &str, at: u32) -> Result<(), TextFault>
 }
 
 // Adds a declared state.
-fn add_state(builder: &mut LtsBuilder, bytes: &[u8], state: FoundState) -> Result<(), TextFault>
+fn add_state(
+    builder: &mut LtsBuilder,
+    bytes: &[u8],
+    state: StateEntry<Token>,
+) -> Result<(), TextFault>
     requires { IsStateOf bytes.now state }
-    ensures ok { OnOk result ((before : List StateEntry) → HasStates before builder.old
+    ensures ok { OnOk result ((before : List (StateEntry Lexeme)) → HasStates before builder.old
         → (state_fault before (state_in bytes.now state) ≡ None) × HasStates (before ++ state_in bytes.now state ∷ []) builder.new) }
-    ensures fault { IfErr result (λ f. f ≢ fault.NoMemory → (before : List StateEntry) → HasStates before builder.old
+    ensures fault { IfErr result (λ f. f ≢ fault.NoMemory → (before : List (StateEntry Lexeme)) → HasStates before builder.old
         → state_fault before (state_in bytes.now state) ≡ Some f) }
 {
     let name = name_of(bytes, state.name);
@@ -72,7 +76,7 @@ fn add_state(builder: &mut LtsBuilder, bytes: &[u8], state: FoundState) -> Resul
 fn add_states(
     builder: &mut LtsBuilder,
     bytes: &[u8],
-    states: &[FoundState],
+    states: &[StateEntry<Token>],
 ) -> Result<(), TextFault>
     requires names { All (IsStateOf bytes.now) states.now }
     requires blank { builder.old ≡ blank }
@@ -125,7 +129,7 @@ fn known_arc(
     from: &str,
     label: &str,
     to: &str,
-    arc: FoundArc,
+    arc: ArcNames<Token>,
 ) -> Result<Arc, TextFault>
     ensures ok { IfOk result (IsArcNamed builder.now from.now label.now to.now) }
     ensures fault { IfErr result (λ f. IsUnknown builder.now from.now label.now to.now arc.from.from arc.label.from arc.to.from f) }
@@ -143,7 +147,7 @@ fn known_arc(
 }
 
 // Adds a declared arc.
-fn add_arc(builder: &mut LtsBuilder, bytes: &[u8], arc: FoundArc) -> Result<(), TextFault>
+fn add_arc(builder: &mut LtsBuilder, bytes: &[u8], arc: ArcNames<Token>) -> Result<(), TextFault>
     requires { IsArcOf bytes.now arc }
     ensures known { OnOk result (HasNamesOf builder.old (arc_in bytes.now arc)) }
     ensures added { OnOk result ((a : Arc) × IsArcOfNames builder.old (arc_in bytes.now arc) a × AddsArc builder.old builder.new a) }
@@ -167,7 +171,11 @@ fn add_arc(builder: &mut LtsBuilder, bytes: &[u8], arc: FoundArc) -> Result<(), 
 }
 
 // Adds all declared arcs.
-fn add_arcs(builder: &mut LtsBuilder, bytes: &[u8], arcs: &[FoundArc]) -> Result<(), TextFault>
+fn add_arcs(
+    builder: &mut LtsBuilder,
+    bytes: &[u8],
+    arcs: &[ArcNames<Token>],
+) -> Result<(), TextFault>
     requires { All (IsArcOf bytes.now) arcs.now }
     ensures ok { OnOk result ((d : Declared) → HasLabels d.states d.labels builder.old
         → AreNone (faults_after (arc_fault d) [] (arcs_in bytes.now arcs.now)) × HasArcs d (arcs_in bytes.now arcs.now) builder.new) }

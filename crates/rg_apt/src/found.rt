@@ -1,47 +1,46 @@
 //! What a file declares, as far as it is read.
 ghost use Rattle.std.specs.Prelude.{◌≡◌, ◌≤◌, ◌++◌, ◌∷◌, [], ◌&&◌, ℕ, List, length, map, All, IfErr, OnOk};
-ghost use Rattle.rg_lexer.specs.Lexeme.{lexeme};
+ghost use Rattle.rg_lexer.specs.Lexeme.{Lexeme, lexeme};
 ghost use Rattle.rg_lexer.specs.Tokens.{IsTokenOf};
 ghost use Rattle.rg_grammar.specs.Entry.{IsNameOf};
 ghost use Rattle.rg_apt.specs.Contents.{Declared, is_initial, is_true, marks};
-ghost use Rattle.rg_grammar.specs.ListView.{list_position_in, setting_in, HoldsKey, HoldsSetting};
+ghost use Rattle.rg_grammar.specs.ListPosition.{list_position_in, setting_in, HoldsKey, HoldsSetting};
 ghost use Rattle.rg_apt.specs.Reading.{marked, with_name, adds, mark_last, system_grammar};
-ghost use Rattle.rg_apt.specs.View.{section_in, position_in, HoldsTokens};
-ghost use Rattle.rg_apt.specs.Table.{type_name, in_section, after_entry, third, in_list};
-ghost use Rattle.rg_apt.specs.Table as table;
-ghost use Rattle.rg_apt.specs.FoundView.{state_in, states_in, labels_in, arcs_in, found_in, IsStateOf, HoldsNames};
+ghost use Rattle.rg_apt.specs.View.{position_in, HoldsTokens, state_in, states_in, labels_in, arcs_in, found_in, IsStateOf, HoldsNames};
+ghost use Rattle.rg_apt.specs.Table.{Position, TypeName, InSection, AfterEntry, Third, InList};
 ghost use Rattle.rg_grammar.specs.declared.fault.ItemFault.TheVariants.{NoMemory};
 
 use crate::position::{
     Position, Section, from_entry, from_list, from_second, from_section, from_start, from_third,
     from_type, from_word, want_at,
 };
-use rg_grammar::{FoundSetting, ItemFault, ListPosition, Reader, setting_of, text_of, value_of};
+use rg_grammar::{ItemFault, ListPosition, Reader, Setting, setting_of, text_of, value_of};
 use rg_lexer::{Kind, Token, Want};
 use std::alloc::Global;
 
-/// A declared state, and whether it is marked initial.
+/// A declared state, and whether it is marked initial. A token is of type `T`: code has its span, definitions have its
+/// bytes.
 #[derive(Clone, Copy, Debug, PartialEq, Eq)]
-pub struct FoundState {
-    pub name: Token,
+pub struct StateEntry<T> {
+    pub name: T,
     pub initial: bool,
 }
 
-/// The names of a declared arc.
+/// The names of a declared arc. A token is of type `T`, as in `StateEntry`.
 #[derive(Clone, Copy, Debug, PartialEq, Eq)]
-pub struct FoundArc {
-    pub from: Token,
-    pub label: Token,
-    pub to: Token,
+pub struct ArcNames<T> {
+    pub from: T,
+    pub label: T,
+    pub to: T,
 }
 
 /// What a file declares, each list in the order of the file.
 #[derive(Debug, Drop)]
 pub struct Found {
     pub typed: bool,
-    pub states: Vec<FoundState>,
+    pub states: Vec<StateEntry<Token>>,
     pub labels: Vec<Token>,
-    pub arcs: Vec<FoundArc>,
+    pub arcs: Vec<ArcNames<Token>>,
 }
 
 // Whether a key marks the initial state.
@@ -61,13 +60,13 @@ fn is_true(bytes: &[u8], value: Token) -> bool
 }
 
 // Whether an option marks the initial state.
-fn marks(bytes: &[u8], setting: FoundSetting) -> bool
+fn marks(bytes: &[u8], setting: Setting<Token>) -> bool
     requires { HoldsSetting bytes.now setting }
     ensures { result ≡ marks (setting_in bytes.now setting) }
 {
     match setting {
-        FoundSetting::Alone(key) => is_initial(bytes, key),
-        FoundSetting::Valued(key, value) => {
+        Setting::Alone(key) => is_initial(bytes, key),
+        Setting::Valued(key, value) => {
             let initial = is_initial(bytes, key);
             let yes = is_true(bytes, value);
             initial && yes
@@ -76,7 +75,7 @@ fn marks(bytes: &[u8], setting: FoundSetting) -> bool
 }
 
 // Marks the last state.
-fn mark_last(states: &mut Vec<FoundState>)
+fn mark_last(states: &mut Vec<StateEntry<Token>>)
     ensures found { (bytes : List ℕ) → states_in bytes states.new.items ≡ mark_last (states_in bytes states.old.items) }
     ensures names { (bytes : List ℕ) → All (IsStateOf bytes) states.old.items → All (IsStateOf bytes) states.new.items }
 {
@@ -89,7 +88,7 @@ fn mark_last(states: &mut Vec<FoundState>)
 impl Found {
     // An option is seen in a section's list.
     fn mark(&mut self, section: Section, mark: bool)
-        ensures found { (bytes : List ℕ) → found_in bytes self.new ≡ marked (section_in section) mark (found_in bytes self.old) }
+        ensures found { (bytes : List ℕ) → found_in bytes self.new ≡ marked section mark (found_in bytes self.old) }
         ensures names { (bytes : List ℕ) → HoldsNames bytes self.old → HoldsNames bytes self.new }
     {
         match section {
@@ -105,12 +104,12 @@ impl Found {
 
     // A name begins an entry or triple.
     fn name(&mut self, section: Section, name: Token) -> Result<(), ItemFault>
-        ensures ok { OnOk result ((bytes : List ℕ) → found_in bytes self.new ≡ with_name (section_in section) (lexeme bytes name) (found_in bytes self.old)) }
+        ensures ok { OnOk result ((bytes : List ℕ) → found_in bytes self.new ≡ with_name section (lexeme bytes name) (found_in bytes self.old)) }
         ensures names { OnOk result ((bytes : List ℕ) → IsNameOf bytes name → HoldsNames bytes self.old → HoldsNames bytes self.new) }
         ensures err { IfErr result (λ e. e ≡ NoMemory) }
     {
         match section {
-            Section::States => self.states.push(FoundState {
+            Section::States => self.states.push(StateEntry {
                 name,
                 initial: false,
             })?,
@@ -122,7 +121,7 @@ impl Found {
 
     // A token comes after `.type`.
     fn at_type(&mut self, token: Token)
-        ensures found { (bytes : List ℕ) → found_in bytes self.new ≡ adds type_name (lexeme bytes token) (found_in bytes self.old) }
+        ensures found { (bytes : List ℕ) → found_in bytes self.new ≡ adds TypeName (lexeme bytes token) (found_in bytes self.old) }
         ensures names { (bytes : List ℕ) → HoldsNames bytes self.old → HoldsNames bytes self.new }
     {
         match token.kind {
@@ -133,8 +132,8 @@ impl Found {
 
     // A token comes where an entry or triple may begin.
     fn at_entry(&mut self, section: Section, token: Token) -> Result<(), ItemFault>
-        ensures ok { OnOk result ((bytes : List ℕ) → found_in bytes self.new ≡ adds (in_section (section_in section)) (lexeme bytes token) (found_in bytes self.old)) }
-        ensures after { OnOk result ((bytes : List ℕ) → found_in bytes self.new ≡ adds (after_entry (section_in section)) (lexeme bytes token) (found_in bytes self.old)) }
+        ensures ok { OnOk result ((bytes : List ℕ) → found_in bytes self.new ≡ adds (InSection section) (lexeme bytes token) (found_in bytes self.old)) }
+        ensures after { OnOk result ((bytes : List ℕ) → found_in bytes self.new ≡ adds (AfterEntry section) (lexeme bytes token) (found_in bytes self.old)) }
         ensures names { OnOk result ((bytes : List ℕ) → IsTokenOf bytes token → HoldsNames bytes self.old → HoldsNames bytes self.new) }
         ensures err { IfErr result (λ e. e ≡ NoMemory) }
     {
@@ -147,13 +146,13 @@ impl Found {
 
     // A token comes at the third name of a triple.
     fn at_third(&mut self, from: Token, label: Token, token: Token) -> Result<(), ItemFault>
-        ensures ok { OnOk result ((bytes : List ℕ) → found_in bytes self.new ≡ adds (third (lexeme bytes from) (lexeme bytes label)) (lexeme bytes token) (found_in bytes self.old)) }
+        ensures ok { OnOk result ((bytes : List ℕ) → found_in bytes self.new ≡ adds (Third (lexeme bytes from) (lexeme bytes label)) (lexeme bytes token) (found_in bytes self.old)) }
         ensures names { OnOk result ((bytes : List ℕ) → IsTokenOf bytes token → IsNameOf bytes from → IsNameOf bytes label
             → HoldsNames bytes self.old → HoldsNames bytes self.new) }
         ensures err { IfErr result (λ e. e ≡ NoMemory) }
     {
         match token.kind {
-            Kind::Name => self.arcs.push(FoundArc {
+            Kind::Name => self.arcs.push(ArcNames {
                 from,
                 label,
                 to: token,
@@ -164,11 +163,17 @@ impl Found {
     }
 
     // A token comes in an option list.
-    fn at_option(&mut self, bytes: &[u8], section: Section, position: ListPosition, token: Token)
+    fn at_option(
+        &mut self,
+        bytes: &[u8],
+        section: Section,
+        position: ListPosition<Token>,
+        token: Token,
+    )
         requires token { IsTokenOf bytes.now token }
         requires key { HoldsKey bytes.now position }
         ensures found { found_in bytes.now self.new
-            ≡ adds (in_list (section_in section) (list_position_in bytes.now position)) (lexeme bytes.now token) (found_in bytes.now self.old) }
+            ≡ adds (InList section (list_position_in bytes.now position)) (lexeme bytes.now token) (found_in bytes.now self.old) }
         ensures names { HoldsNames bytes.now self.old → HoldsNames bytes.now self.new }
     {
         match setting_of(position, token) {
@@ -182,9 +187,9 @@ impl Found {
 }
 
 impl Reader for Found {
-    type Position = Position;
+    type Position = Position<Token>;
 
-    ghost GrammarPosition = { table.Position };
+    ghost GrammarPosition = { Position Lexeme };
 
     ghost Content = { Declared };
 
@@ -207,11 +212,11 @@ impl Reader for Found {
         }
     }
 
-    fn start() -> Position {
+    fn start() -> Position<Token> {
         Position::Start
     }
 
-    fn lead(bytes: &[u8], position: Position, token: Token) -> Option<Position> {
+    fn lead(bytes: &[u8], position: Position<Token>, token: Token) -> Option<Position<Token>> {
         let text = text_of(bytes, token);
         match position {
             Position::Start => from_start(token, text),
@@ -229,7 +234,7 @@ impl Reader for Found {
         &mut self,
         _alloc: Global,
         bytes: &[u8],
-        position: Position,
+        position: Position<Token>,
         token: Token,
     ) -> Result<(), ItemFault> {
         match position {
@@ -245,7 +250,7 @@ impl Reader for Found {
         Ok(())
     }
 
-    fn may_end(position: Position) -> bool {
+    fn may_end(position: Position<Token>) -> bool {
         match position {
             Position::Start => true,
             Position::InSection(_) => true,
@@ -254,7 +259,7 @@ impl Reader for Found {
         }
     }
 
-    fn refusal(position: Position, token: Token) -> ItemFault {
+    fn refusal(position: Position<Token>, token: Token) -> ItemFault {
         match position {
             Position::TypeName => match token.kind {
                 Kind::Name => ItemFault::WrongType(token.from),
@@ -264,7 +269,7 @@ impl Reader for Found {
         }
     }
 
-    fn end_refusal(position: Position, end: u32) -> ItemFault {
+    fn end_refusal(position: Position<Token>, end: u32) -> ItemFault {
         ItemFault::Expected(end, want_at(position))
     }
 }

@@ -1,7 +1,7 @@
 //! A text spells one system or has one first fault.
 ghost use Rattle.std.specs.Prelude.{◌≡◌, ℕ, ◌⊎◌, ◌++◌, List, Some, length};
 ghost use Rattle.rg_grammar.specs.Grammar.{leads_all};
-ghost use Rattle.rg_apt.specs.Table.{Position, section};
+ghost use Rattle.rg_apt.specs.Table.{Position, Start};
 ghost use Rattle.rg_theory.specs.System.{System};
 ghost use Rattle.rg_lexer.specs.Lexeme.{Lexeme};
 ghost use Rattle.rg_grammar.specs.declared.fault.ItemFault.{ItemFault};
@@ -29,7 +29,7 @@ pub fn items_are_read()
     ensures some { (xs : List Lexeme) (end : ℕ) → ((items : List Item) × AreItems items xs) ⊎ ((f : ItemFault) × FirstRefusal xs end f) }
     ensures not_refused { (items : List Item) (xs : List Lexeme) (end : ℕ) (f : ItemFault) → AreItems items xs → ¬ FirstRefusal xs end f }
     ensures one_meaning { (a b : List Item) (xs : List Lexeme) → AreItems a xs → AreItems b xs → declared a ≡ declared b }
-    ensures goes_on { (front : List Lexeme) (position : Position) → leads_all system_grammar section front ≡ Some position → (more : List Lexeme) × (items : List Item) × AreItems items (front ++ more) }
+    ensures goes_on { (front : List Lexeme) (position : Position Lexeme) → leads_all system_grammar Start front ≡ Some position → (more : List Lexeme) × (items : List Item) × AreItems items (front ++ more) }
 {}
 
 /// Law: a plain text spells the same system by the whole grammar, whatever the order of its arcs.

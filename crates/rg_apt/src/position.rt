@@ -1,12 +1,11 @@
 //! Positions of tokens in a system file, and the position that follows each token.
 ghost use Rattle.std.specs.Prelude.{◌≡◌, ◌≤◌, ℕ, List, length, option_map, slice_range, IfSome};
 ghost use Rattle.rg_lexer.specs.Lexeme.{lexeme};
-ghost use Rattle.rg_apt.specs.Table.{wanted, after_word, is_type_name, after_name, leads};
-ghost use Rattle.rg_apt.specs.Table as table;
-ghost use Rattle.rg_apt.specs.View.{section_in, position_in, HoldsTokens};
+ghost use Rattle.rg_apt.specs.Table.{Start, TypeName, PassedText, InSection, AfterEntry, Second, Third, InList, wanted, after_word, is_type_name, after_name, leads};
+ghost use Rattle.rg_apt.specs.View.{position_in, HoldsTokens};
 ghost use Rattle.rg_lexer.specs.Tokens.{IsTokenOf};
 ghost use Rattle.rg_grammar.specs.Entry.{IsNameOf};
-ghost use Rattle.rg_grammar.specs.ListView.{list_position_in, HoldsKey};
+ghost use Rattle.rg_grammar.specs.ListPosition.{list_position_in, HoldsKey};
 
 use rg_grammar::{ListPosition, ListStep, list_lead, list_wanted};
 use rg_lexer::{Kind, Token, Want};
@@ -19,21 +18,30 @@ pub enum Section {
     Arcs,
 }
 
-/// The position of a token. The tokens that a position holds came before it and still count.
+/// The position of a token. The names that a position holds came before it and still count. A token is of type `T`:
+/// code has its span, definitions have its bytes.
 #[derive(Clone, Copy, Debug, PartialEq, Eq)]
-pub enum Position {
+pub enum Position<T> {
+    /// At the start of the file, after `.type` and a name, after a text that is passed over.
     Start,
+    /// After `.type`.
     TypeName,
+    /// After another word.
     PassedText,
+    /// After the section's word or an option list.
     InSection(Section),
+    /// Directly after an entry or triple.
     AfterEntry(Section),
-    Second(Token),
-    Third(Token, Token),
-    InList(Section, ListPosition),
+    /// At the second name of a triple.
+    Second(T),
+    /// At the third name of a triple.
+    Third(T, T),
+    /// In an option list.
+    InList(Section, ListPosition<T>),
 }
 
 /// Returns what is wanted at a position.
-pub fn want_at(position: Position) -> Want
+pub fn want_at(position: Position<Token>) -> Want
     ensures { (bytes : List ℕ) → result ≡ wanted (position_in bytes position) }
 {
     match position {
@@ -47,7 +55,7 @@ pub fn want_at(position: Position) -> Want
 }
 
 // Where a word leads.
-fn after_word(text: &[u8]) -> Position
+fn after_word(text: &[u8]) -> Position<Token>
     ensures leads { (bytes : List ℕ) → position_in bytes result ≡ after_word text.now }
     ensures holds { (bytes : List ℕ) → HoldsTokens bytes result }
 {
@@ -65,8 +73,8 @@ fn after_word(text: &[u8]) -> Position
 }
 
 // Where a name leads that begins an entry or triple.
-fn after_name(section: Section, name: Token) -> Position
-    ensures leads { (bytes : List ℕ) → position_in bytes result ≡ after_name (section_in section) (lexeme bytes name) }
+fn after_name(section: Section, name: Token) -> Position<Token>
+    ensures leads { (bytes : List ℕ) → position_in bytes result ≡ after_name section (lexeme bytes name) }
     ensures holds { (bytes : List ℕ) → IsNameOf bytes name → HoldsTokens bytes result }
 {
     match section {
@@ -77,9 +85,9 @@ fn after_name(section: Section, name: Token) -> Position
 }
 
 /// Returns where a token leads from a position where an entry may begin.
-pub fn from_section(section: Section, token: Token, text: &[u8]) -> Option<Position>
+pub fn from_section(section: Section, token: Token, text: &[u8]) -> Option<Position<Token>>
     ensures leads { (bytes : List ℕ) → slice_range bytes token.from token.to ≡ text.now
-        → option_map (position_in bytes) result ≡ leads (table.in_section (section_in section)) (lexeme bytes token) }
+        → option_map (position_in bytes) result ≡ leads (InSection section) (lexeme bytes token) }
     ensures holds { (bytes : List ℕ) → IsTokenOf bytes token → IfSome result (HoldsTokens bytes) }
 {
     match token.kind {
@@ -90,9 +98,9 @@ pub fn from_section(section: Section, token: Token, text: &[u8]) -> Option<Posit
 }
 
 /// Returns where a token leads directly after an entry or triple.
-pub fn from_entry(section: Section, token: Token, text: &[u8]) -> Option<Position>
+pub fn from_entry(section: Section, token: Token, text: &[u8]) -> Option<Position<Token>>
     ensures leads { (bytes : List ℕ) → slice_range bytes token.from token.to ≡ text.now
-        → option_map (position_in bytes) result ≡ leads (table.after_entry (section_in section)) (lexeme bytes token) }
+        → option_map (position_in bytes) result ≡ leads (AfterEntry section) (lexeme bytes token) }
     ensures holds { (bytes : List ℕ) → IsTokenOf bytes token → IfSome result (HoldsTokens bytes) }
 {
     match token.kind {
@@ -110,9 +118,9 @@ fn is_type_name(text: &[u8]) -> bool
 }
 
 /// Returns where a token leads after `.type`.
-pub fn from_type(token: Token, text: &[u8]) -> Option<Position>
+pub fn from_type(token: Token, text: &[u8]) -> Option<Position<Token>>
     ensures leads { (bytes : List ℕ) → slice_range bytes token.from token.to ≡ text.now
-        → option_map (position_in bytes) result ≡ leads table.type_name (lexeme bytes token) }
+        → option_map (position_in bytes) result ≡ leads TypeName (lexeme bytes token) }
     ensures holds { (bytes : List ℕ) → IsTokenOf bytes token → IfSome result (HoldsTokens bytes) }
 {
     match token.kind {
@@ -128,9 +136,13 @@ pub fn from_type(token: Token, text: &[u8]) -> Option<Position>
 }
 
 /// Returns where a token leads in an option list.
-pub fn from_list(section: Section, position: ListPosition, token: Token) -> Option<Position>
+pub fn from_list(
+    section: Section,
+    position: ListPosition<Token>,
+    token: Token,
+) -> Option<Position<Token>>
     ensures leads { (bytes : List ℕ) → option_map (position_in bytes) result
-        ≡ leads (table.in_list (section_in section) (list_position_in bytes position)) (lexeme bytes token) }
+        ≡ leads (InList section (list_position_in bytes position)) (lexeme bytes token) }
     ensures holds { (bytes : List ℕ) → IsTokenOf bytes token → HoldsKey bytes position → IfSome result (HoldsTokens bytes) }
 {
     match list_lead(position, token) {
@@ -141,9 +153,9 @@ pub fn from_list(section: Section, position: ListPosition, token: Token) -> Opti
 }
 
 /// Returns where a token leads at the start and after a passed-over text.
-pub fn from_start(token: Token, text: &[u8]) -> Option<Position>
+pub fn from_start(token: Token, text: &[u8]) -> Option<Position<Token>>
     ensures leads { (bytes : List ℕ) → slice_range bytes token.from token.to ≡ text.now
-        → option_map (position_in bytes) result ≡ leads table.section (lexeme bytes token) }
+        → option_map (position_in bytes) result ≡ leads Start (lexeme bytes token) }
     ensures holds { (bytes : List ℕ) → IsTokenOf bytes token → IfSome result (HoldsTokens bytes) }
 {
     match token.kind {
@@ -153,8 +165,8 @@ pub fn from_start(token: Token, text: &[u8]) -> Option<Position>
 }
 
 /// Returns where a token leads after a word that isn't a section's.
-pub fn from_word(token: Token) -> Option<Position>
-    ensures leads { (bytes : List ℕ) → option_map (position_in bytes) result ≡ leads table.passed_text (lexeme bytes token) }
+pub fn from_word(token: Token) -> Option<Position<Token>>
+    ensures leads { (bytes : List ℕ) → option_map (position_in bytes) result ≡ leads PassedText (lexeme bytes token) }
     ensures holds { (bytes : List ℕ) → IsTokenOf bytes token → IfSome result (HoldsTokens bytes) }
 {
     match token.kind {
@@ -164,8 +176,8 @@ pub fn from_word(token: Token) -> Option<Position>
 }
 
 /// Returns where a token leads at the second name of a triple.
-pub fn from_second(from: Token, token: Token) -> Option<Position>
-    ensures leads { (bytes : List ℕ) → option_map (position_in bytes) result ≡ leads (table.second (lexeme bytes from)) (lexeme bytes token) }
+pub fn from_second(from: Token, token: Token) -> Option<Position<Token>>
+    ensures leads { (bytes : List ℕ) → option_map (position_in bytes) result ≡ leads (Second (lexeme bytes from)) (lexeme bytes token) }
     ensures holds { (bytes : List ℕ) → IsTokenOf bytes token → IsNameOf bytes from → IfSome result (HoldsTokens bytes) }
 {
     match token.kind {
@@ -175,8 +187,8 @@ pub fn from_second(from: Token, token: Token) -> Option<Position>
 }
 
 /// Returns where a token leads at the third name of a triple.
-pub fn from_third(from: Token, label: Token, token: Token) -> Option<Position>
-    ensures leads { (bytes : List ℕ) → option_map (position_in bytes) result ≡ leads (table.third (lexeme bytes from) (lexeme bytes label)) (lexeme bytes token) }
+pub fn from_third(from: Token, label: Token, token: Token) -> Option<Position<Token>>
+    ensures leads { (bytes : List ℕ) → option_map (position_in bytes) result ≡ leads (Third (lexeme bytes from) (lexeme bytes label)) (lexeme bytes token) }
     ensures holds { (bytes : List ℕ) → IsTokenOf bytes token → IfSome result (HoldsTokens bytes) }
 {
     match token.kind {

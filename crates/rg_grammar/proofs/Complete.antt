@@ -7,9 +7,9 @@ use Rattle.std.proofs.lemmas.Slice.Eq.{bytes_eq-Decides}
 use Rattle.rg_lexer.specs.Lexeme.{Lexeme}
 use Rattle.rg_lexer.specs.declared.token.Kind.{Kind}
 use Rattle.rg_lexer.specs.declared.token.Kind.TheVariants.{Name, Text, LeftBracket, RightBracket, Comma, Equals}
-use Rattle.rg_grammar.specs.Entry.{Setting, alone, valued, Entry, IsSetting, AreSeparated, AreEnclosed, IsOptionally, IsEntry, AreEach}
+use Rattle.rg_grammar.specs.Entry.{Setting, Alone, Valued, Entry, IsSetting, AreSeparated, AreEnclosed, IsOptionally, IsEntry, AreEach}
 use Rattle.rg_grammar.specs.Grammar.{Grammar, leads_all}
-use Rattle.rg_grammar.specs.ListPosition.{ListPosition, first_key, next_key, after_key, value, after_value, ListStep, on, closed, list_leads_by, list_to}
+use Rattle.rg_grammar.specs.ListPosition.{ListPosition, FirstKey, NextKey, AfterKey, Value, AfterValue, ListStep, On, Closed, list_leads_by, list_to}
 
 -- by one token after another: what completes the position after a token completes the position before it
 pub completes : {P D F : Type 0} (g : Grammar P D F) (Completes : P → List Lexeme → Type 0)
@@ -106,51 +106,51 @@ enclosed opening closing Is More left xs kind things =
 abbrev pub Keys : (List Lexeme → Type 0) → List Lexeme → Type 0
 Keys More xs = SomeThings RightBracket IsSetting More xs
 
-abbrev pub ListCompletes : (List Lexeme → Type 0) → ListPosition → List Lexeme → Type 0
-ListCompletes More first_key xs = Things RightBracket IsSetting More xs
-ListCompletes More next_key xs = Keys More xs
-ListCompletes More (after_key key) xs = key.kind ≡ Name → Keys More (key ∷ xs)
-ListCompletes More (value key) xs = (equals : Lexeme) → key.kind ≡ Name → equals.kind ≡ Equals → Keys More (key ∷ equals ∷ xs)
-ListCompletes More after_value xs = (key equals v : Lexeme) → key.kind ≡ Name → equals.kind ≡ Equals → (v.kind ≡ Text) ⊎ (v.kind ≡ Name) → Keys More (key ∷ equals ∷ v ∷ xs)
+abbrev pub ListCompletes : (List Lexeme → Type 0) → ListPosition Lexeme → List Lexeme → Type 0
+ListCompletes More FirstKey xs = Things RightBracket IsSetting More xs
+ListCompletes More NextKey xs = Keys More xs
+ListCompletes More (AfterKey key) xs = key.kind ≡ Name → Keys More (key ∷ xs)
+ListCompletes More (Value key) xs = (equals : Lexeme) → key.kind ≡ Name → equals.kind ≡ Equals → Keys More (key ∷ equals ∷ xs)
+ListCompletes More AfterValue xs = (key equals v : Lexeme) → key.kind ≡ Name → equals.kind ≡ Equals → (v.kind ≡ Text) ⊎ (v.kind ≡ Name) → Keys More (key ∷ equals ∷ v ∷ xs)
 
-abbrev pub StepCompletes : (List Lexeme → Type 0) → ListStep → List Lexeme → Type 0
-StepCompletes More (on position) xs = ListCompletes More position xs
-StepCompletes More closed xs = More xs
+abbrev pub StepCompletes : (List Lexeme → Type 0) → ListStep Lexeme → List Lexeme → Type 0
+StepCompletes More (On position) xs = ListCompletes More position xs
+StepCompletes More Closed xs = More xs
 
-led : (More : List Lexeme → Type 0) (to q : ListStep) (xs : List Lexeme) → Some to ≡ Some q → StepCompletes More q xs → StepCompletes More to xs
+led : (More : List Lexeme → Type 0) (to q : ListStep Lexeme) (xs : List Lexeme) → Some to ≡ Some q → StepCompletes More q xs → StepCompletes More to xs
 led More to q xs e go = let same : to ≡ q = cc in subst (λ p. StepCompletes More p xs) (sym same) go
 
 -- one token of an option list and what completes the position after it
-pub list_token : (More : List Lexeme → Type 0) (p : ListPosition) (x : Lexeme) (xs : List Lexeme) (k : Kind) (q : ListStep) → x.kind ≡ k
+pub list_token : (More : List Lexeme → Type 0) (p : ListPosition Lexeme) (x : Lexeme) (xs : List Lexeme) (k : Kind) (q : ListStep Lexeme) → x.kind ≡ k
     → list_leads_by p k x ≡ Some q → StepCompletes More q xs → ListCompletes More p (x ∷ xs)
-list_token More first_key x xs Name q kind lead go = some_things RightBracket IsSetting More (x ∷ xs) (led More (on (after_key x)) q xs lead go kind)
-list_token More first_key x xs RightBracket q kind lead go = no_things RightBracket IsSetting More x xs kind (led More closed q xs lead go)
-list_token More next_key x xs Name q kind lead go = led More (on (after_key x)) q xs lead go kind
-list_token More (after_key key) x xs Equals q kind lead go = λ key_kind. led More (on (value key)) q xs lead go x key_kind kind
-list_token More (after_key key) x xs Comma q kind lead go = λ key_kind.
-    comma_more RightBracket IsSetting More (alone key) (key ∷ []) x xs (key_kind, refl) kind (led More (on next_key) q xs lead go)
-list_token More (after_key key) x xs RightBracket q kind lead go = λ key_kind.
-    close_more RightBracket IsSetting More (alone key) (key ∷ []) x xs (key_kind, refl) kind (led More closed q xs lead go)
-list_token More (value key) x xs Text q kind lead go = λ equals key_kind equals_kind. led More (on after_value) q xs lead go key equals x key_kind equals_kind (inl kind)
-list_token More (value key) x xs Name q kind lead go = λ equals key_kind equals_kind. led More (on after_value) q xs lead go key equals x key_kind equals_kind (inr kind)
-list_token More after_value x xs Comma q kind lead go = λ key equals v key_kind equals_kind v_kind.
-    comma_more RightBracket IsSetting More (valued key v) (key ∷ equals ∷ v ∷ []) x xs (key_kind, v_kind, (equals, equals_kind, refl)) kind (led More (on next_key) q xs lead go)
-list_token More after_value x xs RightBracket q kind lead go = λ key equals v key_kind equals_kind v_kind.
-    close_more RightBracket IsSetting More (valued key v) (key ∷ equals ∷ v ∷ []) x xs (key_kind, v_kind, (equals, equals_kind, refl)) kind (led More closed q xs lead go)
+list_token More FirstKey x xs Name q kind lead go = some_things RightBracket IsSetting More (x ∷ xs) (led More (On (AfterKey x)) q xs lead go kind)
+list_token More FirstKey x xs RightBracket q kind lead go = no_things RightBracket IsSetting More x xs kind (led More Closed q xs lead go)
+list_token More NextKey x xs Name q kind lead go = led More (On (AfterKey x)) q xs lead go kind
+list_token More (AfterKey key) x xs Equals q kind lead go = λ key_kind. led More (On (Value key)) q xs lead go x key_kind kind
+list_token More (AfterKey key) x xs Comma q kind lead go = λ key_kind.
+    comma_more RightBracket IsSetting More (Alone key) (key ∷ []) x xs (key_kind, refl) kind (led More (On NextKey) q xs lead go)
+list_token More (AfterKey key) x xs RightBracket q kind lead go = λ key_kind.
+    close_more RightBracket IsSetting More (Alone key) (key ∷ []) x xs (key_kind, refl) kind (led More Closed q xs lead go)
+list_token More (Value key) x xs Text q kind lead go = λ equals key_kind equals_kind. led More (On AfterValue) q xs lead go key equals x key_kind equals_kind (inl kind)
+list_token More (Value key) x xs Name q kind lead go = λ equals key_kind equals_kind. led More (On AfterValue) q xs lead go key equals x key_kind equals_kind (inr kind)
+list_token More AfterValue x xs Comma q kind lead go = λ key equals v key_kind equals_kind v_kind.
+    comma_more RightBracket IsSetting More (Valued key v) (key ∷ equals ∷ v ∷ []) x xs (key_kind, v_kind, (equals, equals_kind, refl)) kind (led More (On NextKey) q xs lead go)
+list_token More AfterValue x xs RightBracket q kind lead go = λ key equals v key_kind equals_kind v_kind.
+    close_more RightBracket IsSetting More (Valued key v) (key ∷ equals ∷ v ∷ []) x xs (key_kind, v_kind, (equals, equals_kind, refl)) kind (led More Closed q xs lead go)
 list_token More p x xs k q kind lead go = absurd cc
 
 -- the same in a grammar with such lists
-pub list_token_in : {P : Type 0} (inside : ListPosition → P) (after : P) (Completes : P → List Lexeme → Type 0) (More : List Lexeme → Type 0)
-    → ((position : ListPosition) (xs : List Lexeme) → Completes (inside position) xs → ListCompletes More position xs) → ((xs : List Lexeme) → Completes after xs → More xs)
-    → (p : ListPosition) (x : Lexeme) (xs : List Lexeme) (k : Kind) (q : P) → x.kind ≡ k
+pub list_token_in : {P : Type 0} (inside : ListPosition Lexeme → P) (after : P) (Completes : P → List Lexeme → Type 0) (More : List Lexeme → Type 0)
+    → ((position : ListPosition Lexeme) (xs : List Lexeme) → Completes (inside position) xs → ListCompletes More position xs) → ((xs : List Lexeme) → Completes after xs → More xs)
+    → (p : ListPosition Lexeme) (x : Lexeme) (xs : List Lexeme) (k : Kind) (q : P) → x.kind ≡ k
     → option_map (list_to inside after) (list_leads_by p k x) ≡ Some q → Completes q xs → ListCompletes More p (x ∷ xs)
 list_token_in {P} inside after Completes More within beyond p x xs k q kind lead go = by (list_leads_by p k x) refl lead
   where
-    to_step : (s : ListStep) → Completes (list_to inside after s) xs → StepCompletes More s xs
-    to_step (on position) h = within position xs h
-    to_step closed h = beyond xs h
+    to_step : (s : ListStep Lexeme) → Completes (list_to inside after s) xs → StepCompletes More s xs
+    to_step (On position) h = within position xs h
+    to_step Closed h = beyond xs h
 
-    by : (o : Option ListStep) → list_leads_by p k x ≡ o → option_map (list_to inside after) o ≡ Some q → ListCompletes More p (x ∷ xs)
+    by : (o : Option (ListStep Lexeme)) → list_leads_by p k x ≡ o → option_map (list_to inside after) o ≡ Some q → ListCompletes More p (x ∷ xs)
     by None e lead = absurd cc
     by (Some s) e lead =
         let same : list_to inside after s ≡ q = cc in
@@ -158,7 +158,7 @@ list_token_in {P} inside after Completes More within beyond p x xs k q kind lead
 
 -- an option list or none, and then what follows it
 abbrev pub After : (List Lexeme → Type 0) → List Lexeme → Type 0
-After More xs = (settings : List Setting) × (options : List Lexeme) × (rest : List Lexeme) × IsOptionally settings options × More rest × (xs ≡ options ++ rest)
+After More xs = (settings : List (Setting Lexeme)) × (options : List Lexeme) × (rest : List Lexeme) × IsOptionally settings options × More rest × (xs ≡ options ++ rest)
 
 pub after_of_more : (More : List Lexeme → Type 0) (xs : List Lexeme) → More xs → After More xs
 after_of_more More xs more = ([], [], xs, inr (refl, refl), more, refl)

@@ -4,6 +4,8 @@ use Rattle.rg_lexer.specs.Lexeme.{Lexeme}
 use Rattle.rg_lexer.specs.declared.token.Kind.{Kind}
 use Rattle.rg_lexer.specs.declared.token.Token.{Token}
 use Rattle.rg_lexer.specs.Tokens.{IsTokenOf}
+pub use Rattle.rg_grammar.specs.declared.list_position.Setting.{Setting}
+pub use Rattle.rg_grammar.specs.declared.list_position.Setting.TheVariants.{Alone, Valued}
 use Rattle.rg_lexer.specs.declared.token.Kind.TheVariants.{Name, Word, Text, LeftBracket, RightBracket, Comma, Equals}
 
 -- a token of the text that is a name
@@ -22,20 +24,15 @@ value_text_by _ text = text
 abbrev pub value_text : Lexeme → List ℕ
 value_text value = value_text_by value.kind value.text
 
--- an option: a key, alone or with a value
-pub data Setting : Type 0 where
-  alone : Lexeme → Setting
-  valued : Lexeme → Lexeme → Setting
-
 -- a state or label, with its options
 pub record Entry : Type 0 where
   pub name : Lexeme
-  pub settings : List Setting
+  pub settings : List (Setting Lexeme)
 
 -- a key, or a key, `=` and a text or name
-abbrev pub IsSetting : Setting → List Lexeme → Type 0
-IsSetting (alone key) xs = (key.kind ≡ Name) × (xs ≡ key ∷ [])
-IsSetting (valued key value) xs = (key.kind ≡ Name) × ((value.kind ≡ Text) ⊎ (value.kind ≡ Name))
+abbrev pub IsSetting : Setting Lexeme → List Lexeme → Type 0
+IsSetting (Alone key) xs = (key.kind ≡ Name) × (xs ≡ key ∷ [])
+IsSetting (Valued key value) xs = (key.kind ≡ Name) × ((value.kind ≡ Text) ⊎ (value.kind ≡ Name))
     × ((equals : Lexeme) × (equals.kind ≡ Equals) × (xs ≡ key ∷ equals ∷ value ∷ []))
 
 -- things separated by commas
@@ -51,11 +48,11 @@ AreEnclosed opening closing Is things xs = (left : Lexeme) × (inner : List Lexe
     × (right.kind ≡ closing) × (xs ≡ left ∷ (inner ++ right ∷ []))
 
 -- `[`, options separated by commas, `]`
-abbrev pub IsOptionList : List Setting → List Lexeme → Type 0
+abbrev pub IsOptionList : List (Setting Lexeme) → List Lexeme → Type 0
 IsOptionList settings xs = AreEnclosed LeftBracket RightBracket IsSetting settings xs
 
 -- an option list, or none
-abbrev pub IsOptionally : List Setting → List Lexeme → Type 0
+abbrev pub IsOptionally : List (Setting Lexeme) → List Lexeme → Type 0
 IsOptionally settings xs = IsOptionList settings xs ⊎ ((settings ≡ []) × (xs ≡ []))
 
 -- a name, and optionally an option list

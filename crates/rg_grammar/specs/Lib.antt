@@ -2,5 +2,4 @@ pub mod Entry
 pub mod Grammar
 pub mod Last
 pub mod ListPosition
-pub mod ListView
 pub mod Text

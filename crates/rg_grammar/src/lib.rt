@@ -8,6 +8,6 @@ mod reading;
 mod texts;
 
 pub use fault::ItemFault;
-pub use list_position::{FoundSetting, ListPosition, ListStep, list_lead, list_wanted, setting_of};
+pub use list_position::{ListPosition, ListStep, Setting, list_lead, list_wanted, setting_of};
 pub use reading::{Reader, read};
 pub use texts::{name_of, text_of, value_of};

@@ -3,46 +3,44 @@ ghost use Rattle.std.specs.Prelude.{◌≡◌, ℕ, List, option_map, IfSome};
 ghost use Rattle.rg_lexer.specs.Lexeme.{lexeme};
 ghost use Rattle.rg_lexer.specs.Tokens.{IsTokenOf};
 ghost use Rattle.rg_grammar.specs.Entry.{IsNameOf};
-ghost use Rattle.rg_grammar.specs.ListPosition.{list_wanted, list_leads, completed};
-ghost use Rattle.rg_grammar.specs.ListPosition as table;
-ghost use Rattle.rg_grammar.specs.ListView.{list_position_in, list_step_in, setting_in, HoldsKey, StepHoldsKey, HoldsSetting};
+ghost use Rattle.rg_grammar.specs.ListPosition.{FirstKey, NextKey, AfterKey, Value, AfterValue, list_wanted, list_leads, completed, list_position_in, list_step_in, setting_in, HoldsKey, StepHoldsKey, HoldsSetting};
 
 use rg_lexer::{Kind, Token, Want};
 
 /// The position of a token in an option list: `[`, options separated by commas, `]`. A key that a position holds came
-/// before it and still counts.
+/// before it and still counts. A token is of type `T`: code has its span, definitions have its bytes.
 #[derive(Clone, Copy, Debug, PartialEq, Eq)]
-pub enum ListPosition {
+pub enum ListPosition<T> {
     /// After `[`.
     FirstKey,
     /// After `,`.
     NextKey,
     /// After a key.
-    AfterKey(Token),
+    AfterKey(T),
     /// After a key and `=`.
-    Value(Token),
+    Value(T),
     /// After a value.
     AfterValue,
 }
 
 /// The position that follows a token that is allowed in an option list.
 #[derive(Clone, Copy, Debug, PartialEq, Eq)]
-pub enum ListStep {
+pub enum ListStep<T> {
     /// To another position of the list.
-    On(ListPosition),
+    On(ListPosition<T>),
     /// The list is closed.
     Closed,
 }
 
 /// An option: a key, alone or with a value, which is a text or a name.
 #[derive(Clone, Copy, Debug, PartialEq, Eq)]
-pub enum FoundSetting {
-    Alone(Token),
-    Valued(Token, Token),
+pub enum Setting<T> {
+    Alone(T),
+    Valued(T, T),
 }
 
 /// Returns what is wanted at a position of an option list.
-pub fn list_wanted(position: ListPosition) -> Want
+pub fn list_wanted(position: ListPosition<Token>) -> Want
     ensures { (bytes : List ℕ) → result ≡ list_wanted (list_position_in bytes position) }
 {
     match position {
@@ -53,8 +51,8 @@ pub fn list_wanted(position: ListPosition) -> Want
 }
 
 // Where a token leads after `[`.
-fn from_bracket(token: Token) -> Option<ListStep>
-    ensures leads { (bytes : List ℕ) → option_map (list_step_in bytes) result ≡ list_leads table.first_key (lexeme bytes token) }
+fn from_bracket(token: Token) -> Option<ListStep<Token>>
+    ensures leads { (bytes : List ℕ) → option_map (list_step_in bytes) result ≡ list_leads FirstKey (lexeme bytes token) }
     ensures holds { (bytes : List ℕ) → IsTokenOf bytes token → IfSome result (StepHoldsKey bytes) }
 {
     match token.kind {
@@ -65,8 +63,8 @@ fn from_bracket(token: Token) -> Option<ListStep>
 }
 
 // Where a token leads after a comma.
-fn from_comma(token: Token) -> Option<ListStep>
-    ensures leads { (bytes : List ℕ) → option_map (list_step_in bytes) result ≡ list_leads table.next_key (lexeme bytes token) }
+fn from_comma(token: Token) -> Option<ListStep<Token>>
+    ensures leads { (bytes : List ℕ) → option_map (list_step_in bytes) result ≡ list_leads NextKey (lexeme bytes token) }
     ensures holds { (bytes : List ℕ) → IsTokenOf bytes token → IfSome result (StepHoldsKey bytes) }
 {
     match token.kind {
@@ -76,8 +74,8 @@ fn from_comma(token: Token) -> Option<ListStep>
 }
 
 // Where a token leads after a key.
-fn from_key(key: Token, token: Token) -> Option<ListStep>
-    ensures leads { (bytes : List ℕ) → option_map (list_step_in bytes) result ≡ list_leads (table.after_key (lexeme bytes key)) (lexeme bytes token) }
+fn from_key(key: Token, token: Token) -> Option<ListStep<Token>>
+    ensures leads { (bytes : List ℕ) → option_map (list_step_in bytes) result ≡ list_leads (AfterKey (lexeme bytes key)) (lexeme bytes token) }
     ensures holds { (bytes : List ℕ) → IsNameOf bytes key → IfSome result (StepHoldsKey bytes) }
 {
     match token.kind {
@@ -89,8 +87,8 @@ fn from_key(key: Token, token: Token) -> Option<ListStep>
 }
 
 // Where a token leads after `=`.
-fn from_equals(key: Token, token: Token) -> Option<ListStep>
-    ensures leads { (bytes : List ℕ) → option_map (list_step_in bytes) result ≡ list_leads (table.value (lexeme bytes key)) (lexeme bytes token) }
+fn from_equals(key: Token, token: Token) -> Option<ListStep<Token>>
+    ensures leads { (bytes : List ℕ) → option_map (list_step_in bytes) result ≡ list_leads (Value (lexeme bytes key)) (lexeme bytes token) }
     ensures holds { (bytes : List ℕ) → IfSome result (StepHoldsKey bytes) }
 {
     match token.kind {
@@ -101,8 +99,8 @@ fn from_equals(key: Token, token: Token) -> Option<ListStep>
 }
 
 // Where a token leads after a value.
-fn from_value(token: Token) -> Option<ListStep>
-    ensures leads { (bytes : List ℕ) → option_map (list_step_in bytes) result ≡ list_leads table.after_value (lexeme bytes token) }
+fn from_value(token: Token) -> Option<ListStep<Token>>
+    ensures leads { (bytes : List ℕ) → option_map (list_step_in bytes) result ≡ list_leads AfterValue (lexeme bytes token) }
     ensures holds { (bytes : List ℕ) → IfSome result (StepHoldsKey bytes) }
 {
     match token.kind {
@@ -113,7 +111,7 @@ fn from_value(token: Token) -> Option<ListStep>
 }
 
 /// Returns the position after a token of an option list, or None if the token isn't allowed.
-pub fn list_lead(position: ListPosition, token: Token) -> Option<ListStep>
+pub fn list_lead(position: ListPosition<Token>, token: Token) -> Option<ListStep<Token>>
     ensures leads { (bytes : List ℕ) → option_map (list_step_in bytes) result ≡ list_leads (list_position_in bytes position) (lexeme bytes token) }
     ensures holds { (bytes : List ℕ) → IsTokenOf bytes token → HoldsKey bytes position → IfSome result (StepHoldsKey bytes) }
 {
@@ -127,31 +125,31 @@ pub fn list_lead(position: ListPosition, token: Token) -> Option<ListStep>
 }
 
 // The option that a token completes after its key.
-fn alone(key: Token, token: Token) -> Option<FoundSetting>
-    ensures setting { (bytes : List ℕ) → option_map (setting_in bytes) result ≡ completed (table.after_key (lexeme bytes key)) (lexeme bytes token) }
+fn alone(key: Token, token: Token) -> Option<Setting<Token>>
+    ensures setting { (bytes : List ℕ) → option_map (setting_in bytes) result ≡ completed (AfterKey (lexeme bytes key)) (lexeme bytes token) }
     ensures holds { (bytes : List ℕ) → IsNameOf bytes key → IfSome result (HoldsSetting bytes) }
 {
     match token.kind {
-        Kind::Comma => Some(FoundSetting::Alone(key)),
-        Kind::RightBracket => Some(FoundSetting::Alone(key)),
+        Kind::Comma => Some(Setting::Alone(key)),
+        Kind::RightBracket => Some(Setting::Alone(key)),
         _ => None,
     }
 }
 
 // The option that a token completes after `=`.
-fn setting_of_value(key: Token, token: Token) -> Option<FoundSetting>
-    ensures setting { (bytes : List ℕ) → option_map (setting_in bytes) result ≡ completed (table.value (lexeme bytes key)) (lexeme bytes token) }
+fn setting_of_value(key: Token, token: Token) -> Option<Setting<Token>>
+    ensures setting { (bytes : List ℕ) → option_map (setting_in bytes) result ≡ completed (Value (lexeme bytes key)) (lexeme bytes token) }
     ensures holds { (bytes : List ℕ) → IsTokenOf bytes token → IsNameOf bytes key → IfSome result (HoldsSetting bytes) }
 {
     match token.kind {
-        Kind::Text => Some(FoundSetting::Valued(key, token)),
-        Kind::Name => Some(FoundSetting::Valued(key, token)),
+        Kind::Text => Some(Setting::Valued(key, token)),
+        Kind::Name => Some(Setting::Valued(key, token)),
         _ => None,
     }
 }
 
 /// Returns the option that a token completes at a position of an option list, if it completes one.
-pub fn setting_of(position: ListPosition, token: Token) -> Option<FoundSetting>
+pub fn setting_of(position: ListPosition<Token>, token: Token) -> Option<Setting<Token>>
     ensures setting { (bytes : List ℕ) → option_map (setting_in bytes) result ≡ completed (list_position_in bytes position) (lexeme bytes token) }
     ensures holds { (bytes : List ℕ) → IsTokenOf bytes token → HoldsKey bytes position → IfSome result (HoldsSetting bytes) }
 {

@@ -2,5 +2,4 @@ pub mod Walk
 pub mod Items
 pub mod Complete
 pub mod WholeTexts
-pub mod FoundLemmas
 pub mod Going

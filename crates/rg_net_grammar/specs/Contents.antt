@@ -4,36 +4,37 @@ use Rattle.std.specs.List.{list_any, flat_map}
 use Rattle.std.specs.Option.{option_or}
 use Rattle.std.specs.Str.{bytes_eq}
 use Rattle.rg_lexer.specs.Lexeme.{Lexeme}
-use Rattle.rg_grammar.specs.Entry.{Setting, alone, valued, Entry, value_text}
+use Rattle.rg_grammar.specs.declared.list_position.Setting.{Setting}
+use Rattle.rg_grammar.specs.declared.list_position.Setting.TheVariants.{Alone, Valued}
+use Rattle.rg_grammar.specs.Entry.{Entry, value_text}
 use Rattle.rg_net_grammar.specs.Item.{Member, Flow, Item, type, places, transitions, flows, marking}
-
--- a transition and its label
-pub record Transition : Type 0 where
-  pub name : Lexeme
-  pub label : List ℕ
+pub use Rattle.rg_net_grammar.specs.declared.found.Transition.{Transition}
 
 -- all that a file declares, each list in the order of the file
 pub record Declared : Type 0 where
   pub typed : Bool
   pub places : List Lexeme
-  pub transitions : List Transition
+  pub transitions : List (Transition Lexeme)
   pub flows : List Flow
-  pub marking : List Member
+  pub marking : List (Member Lexeme)
 
 -- the value that an option gives to a label, if it gives one
-abbrev pub label_in : Setting → Option Lexeme
-label_in (alone key) = None
-label_in (valued key value) = if bytes_eq key.text (codes "label") then Some value else None
+abbrev pub label_in : Setting Lexeme → Option Lexeme
+label_in (Alone key) = None
+label_in (Valued key value) = if bytes_eq key.text (codes "label") then Some value else None
 
 -- the first value that options give to a label
-abbrev pub first_label : List Setting → Option Lexeme
+abbrev pub first_label : List (Setting Lexeme) → Option Lexeme
 first_label [] = None
 first_label (setting ∷ more) = option_or (label_in setting) (first_label more)
 
--- a transition whose options give this value to its label; its own name is its label where they give none
-abbrev pub label_of : Lexeme → Option Lexeme → List ℕ
-label_of name None = name.text
-label_of name (Some value) = value_text value
+-- the label of a transition: the value that its options give, or its own name where they give none
+abbrev pub label_by : Lexeme → Option Lexeme → List ℕ
+label_by name None = name.text
+label_by name (Some value) = value_text value
+
+abbrev pub label_of : Transition Lexeme → List ℕ
+label_of t = label_by t.name t.label
 
 abbrev pub is_type : Item → Bool
 is_type (type name) = true
@@ -43,15 +44,15 @@ abbrev pub places_in : Item → List Lexeme
 places_in (places entries) = map (λ (e : Entry). e.name) entries
 places_in _ = []
 
-abbrev pub transitions_in : Item → List Transition
-transitions_in (transitions entries) = map (λ (e : Entry). record { name = e.name; label = label_of e.name (first_label e.settings) }) entries
+abbrev pub transitions_in : Item → List (Transition Lexeme)
+transitions_in (transitions entries) = map (λ (e : Entry). record { name = e.name; label = first_label e.settings }) entries
 transitions_in _ = []
 
 abbrev pub flows_in : Item → List Flow
 flows_in (flows many) = many
 flows_in _ = []
 
-abbrev pub marking_in : Item → List Member
+abbrev pub marking_in : Item → List (Member Lexeme)
 marking_in (marking members) = members
 marking_in _ = []
 

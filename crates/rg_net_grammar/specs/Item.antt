@@ -5,24 +5,20 @@ use Rattle.std.specs.Char.{is_ascii_digit}
 use Rattle.rg_lexer.specs.Lexeme.{Lexeme}
 use Rattle.rg_lexer.specs.declared.token.Kind.TheVariants.{Name, Word, Text, LeftBrace, RightBrace, Colon, Star, Arrow}
 use Rattle.rg_grammar.specs.Entry.{Entry, IsEntry, AreEach, AreEnclosed, IsWord}
-
--- the name of a place, and the number before it if there is one
-pub record Member : Type 0 where
-  pub number : Option Lexeme
-  pub place : Lexeme
+pub use Rattle.rg_net_grammar.specs.declared.found.Member.{Member}
 
 -- the name of a transition, with the members of its two sets
 pub record Flow : Type 0 where
   pub name : Lexeme
-  pub pre : List Member
-  pub post : List Member
+  pub pre : List (Member Lexeme)
+  pub post : List (Member Lexeme)
 
 pub data Item : Type 0 where
   type : Lexeme → Item
   places : List Entry → Item
   transitions : List Entry → Item
   flows : List Flow → Item
-  marking : List Member → Item
+  marking : List (Member Lexeme) → Item
   other : Item
 
 -- a name of digits alone
@@ -34,11 +30,11 @@ abbrev pub IsMemberBy : Option Lexeme → Lexeme → List Lexeme → Type 0
 IsMemberBy None place xs = xs ≡ place ∷ []
 IsMemberBy (Some number) place xs = IsNumber number × ((star : Lexeme) × (star.kind ≡ Star) × (xs ≡ number ∷ star ∷ place ∷ []))
 
-abbrev pub IsMember : Member → List Lexeme → Type 0
+abbrev pub IsMember : Member Lexeme → List Lexeme → Type 0
 IsMember member xs = (member.place.kind ≡ Name) × IsMemberBy member.number member.place xs
 
 -- `{`, members separated by commas, `}`
-abbrev pub IsSet : List Member → List Lexeme → Type 0
+abbrev pub IsSet : List (Member Lexeme) → List Lexeme → Type 0
 IsSet members xs = AreEnclosed LeftBrace RightBrace IsMember members xs
 
 -- a name, `:`, a set, `->`, a set

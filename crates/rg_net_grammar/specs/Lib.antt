@@ -3,5 +3,4 @@ pub mod Contents
 pub mod Table
 pub mod Reading
 pub mod Text
-pub mod FoundView
 pub mod View

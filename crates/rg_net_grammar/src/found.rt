@@ -2,14 +2,14 @@
 ghost use Rattle.std.specs.Prelude.{◌≡◌, ◌≤◌, ◌++◌, ◌∷◌, [], ℕ, List, Option, length, map, option_map, All, IfSome, IfErr, OnOk};
 ghost use Rattle.rg_lexer.specs.Lexeme.{Lexeme, lexeme};
 ghost use Rattle.rg_lexer.specs.Tokens.{IsTokenOf};
-ghost use Rattle.rg_grammar.specs.Entry.{Setting, IsNameOf, IsValueOf};
+ghost use Rattle.rg_grammar.specs.declared.list_position.Setting.{Setting};
+ghost use Rattle.rg_grammar.specs.Entry.{IsNameOf, IsValueOf};
 ghost use Rattle.rg_grammar.specs.Last.{change_last};
-ghost use Rattle.rg_grammar.specs.ListView.{list_position_in, setting_in, HoldsKey, HoldsSetting};
-ghost use Rattle.rg_net_grammar.specs.Contents.{label_in};
-ghost use Rattle.rg_net_grammar.specs.Reading.{Progress, with_value, with_setting, with_name, with_pre, with_post, with_member, member_by, adds, net_grammar};
-ghost use Rattle.rg_net_grammar.specs.Table as table;
-ghost use Rattle.rg_net_grammar.specs.View.{section_in, side_in, set_position_in, position_in, HoldsMember, HoldsTokens};
-ghost use Rattle.rg_net_grammar.specs.FoundView.{member_in, members_in, flows_in, labelled_in, progress_in, IsNumberOf, IsMemberOf, IsFlowOf, IsTransitionOf, HoldsNames};
+ghost use Rattle.rg_grammar.specs.ListPosition.{list_position_in, setting_in, HoldsKey, HoldsSetting};
+ghost use Rattle.rg_net_grammar.specs.Contents.{Declared, label_in};
+ghost use Rattle.rg_net_grammar.specs.Reading.{with_value, with_setting, with_name, with_pre, with_post, with_member, member_by, adds, net_grammar};
+ghost use Rattle.rg_net_grammar.specs.Table.{Position, TypeName, InSection, AfterEntry, InList, InFlows, InSet, AfterName, AfterStar};
+ghost use Rattle.rg_net_grammar.specs.View.{set_position_in, position_in, HoldsMember, HoldsTokens, member_in, members_in, flows_in, transition_in, found_in, IsNumberOf, IsMemberOf, IsFlowOf, IsTransitionOf, HoldsNames};
 ghost use Rattle.rg_grammar.specs.declared.fault.ItemFault.TheVariants.{NoMemory};
 
 use crate::position::{
@@ -17,30 +17,32 @@ use crate::position::{
     from_pre, from_section, from_start, from_type, from_word, want_at,
 };
 use crate::set_position::{SetPosition, Side, from_set, set_refusal};
-use rg_grammar::{FoundSetting, ItemFault, ListPosition, Reader, setting_of, text_of};
+use rg_grammar::{ItemFault, ListPosition, Reader, Setting, setting_of, text_of};
 use rg_lexer::{Kind, Token, Want};
 use std::alloc::Global;
 
-/// A member of a set: the number before the name of a place, if there is one, and the name.
+/// A member of a set: the number before the name of a place, if there is one, and the name. A token is of type `T`: code
+/// has its span, definitions have its bytes.
 #[derive(Clone, Copy, Debug, PartialEq, Eq)]
-pub struct FoundMember {
-    pub number: Option<Token>,
-    pub place: Token,
+pub struct Member<T> {
+    pub number: Option<T>,
+    pub place: T,
 }
 
 /// A declared flow: the name of its transition, and the members of its two sets.
 #[derive(Debug, Drop)]
 pub struct FoundFlow {
     pub name: Token,
-    pub pre: Vec<FoundMember>,
-    pub post: Vec<FoundMember>,
+    pub pre: Vec<Member<Token>>,
+    pub post: Vec<Member<Token>>,
 }
 
-/// A declared transition, and the first value that its options give to `label`: a text or a name.
+/// A declared transition, and the first value that its options give to `label`: a text or a name. A token is of type
+/// `T`, as in `Member`.
 #[derive(Clone, Copy, Debug, PartialEq, Eq)]
-pub struct FoundTransition {
-    pub name: Token,
-    pub label: Option<Token>,
+pub struct Transition<T> {
+    pub name: T,
+    pub label: Option<T>,
 }
 
 /// What a net file declares, each list in the order of the file. `marking` has the members of all its
@@ -49,20 +51,20 @@ pub struct FoundTransition {
 pub struct Found {
     pub typed: bool,
     pub places: Vec<Token>,
-    pub transitions: Vec<FoundTransition>,
+    pub transitions: Vec<Transition<Token>>,
     pub flows: Vec<FoundFlow>,
-    pub marking: Vec<FoundMember>,
+    pub marking: Vec<Member<Token>>,
 }
 
 // The value that an option gives to a label, if it gives one.
-fn label_in(bytes: &[u8], setting: FoundSetting) -> Option<Token>
+fn label_in(bytes: &[u8], setting: Setting<Token>) -> Option<Token>
     requires { HoldsSetting bytes.now setting }
     ensures label { option_map (lexeme bytes.now) result ≡ label_in (setting_in bytes.now setting) }
     ensures value { IfSome result (IsValueOf bytes.now) }
 {
     match setting {
-        FoundSetting::Alone(_) => None,
-        FoundSetting::Valued(key, value) => {
+        Setting::Alone(_) => None,
+        Setting::Valued(key, value) => {
             if text_of(bytes, key) == b"label".as_slice() {
                 Some(value)
             } else {
@@ -73,9 +75,9 @@ fn label_in(bytes: &[u8], setting: FoundSetting) -> Option<Token>
 }
 
 // Gives the last transition a label, if there is one and it has none yet.
-fn label_last(transitions: &mut Vec<FoundTransition>, label: Option<Token>)
-    ensures found { (bytes : List ℕ) (setting : Setting) → option_map (lexeme bytes) label ≡ label_in setting
-        → map (labelled_in bytes) transitions.new.items ≡ change_last (with_value setting) (map (labelled_in bytes) transitions.old.items) }
+fn label_last(transitions: &mut Vec<Transition<Token>>, label: Option<Token>)
+    ensures found { (bytes : List ℕ) (setting : Setting Lexeme) → option_map (lexeme bytes) label ≡ label_in setting
+        → map (transition_in bytes) transitions.new.items ≡ change_last (with_value setting) (map (transition_in bytes) transitions.old.items) }
     ensures names { (bytes : List ℕ) → IfSome label (IsValueOf bytes)
         → All (IsTransitionOf bytes) transitions.old.items → All (IsTransitionOf bytes) transitions.new.items }
 {
@@ -87,11 +89,11 @@ fn label_last(transitions: &mut Vec<FoundTransition>, label: Option<Token>)
 }
 
 // The member that a token completes after its name.
-fn alone(name: Token, token: Token) -> Option<FoundMember>
-    ensures member { (bytes : List ℕ) → option_map (member_in bytes) result ≡ member_by (table.after_name (lexeme bytes name)) token.kind (lexeme bytes token) }
+fn alone(name: Token, token: Token) -> Option<Member<Token>>
+    ensures member { (bytes : List ℕ) → option_map (member_in bytes) result ≡ member_by (AfterName (lexeme bytes name)) token.kind (lexeme bytes token) }
     ensures holds { (bytes : List ℕ) → IsNameOf bytes name → IfSome result (IsMemberOf bytes) }
 {
-    let member = FoundMember {
+    let member = Member {
         number: None,
         place: name,
     };
@@ -103,12 +105,12 @@ fn alone(name: Token, token: Token) -> Option<FoundMember>
 }
 
 // The member that a token completes after its number and `*`.
-fn member_of_count(number: Token, token: Token) -> Option<FoundMember>
-    ensures member { (bytes : List ℕ) → option_map (member_in bytes) result ≡ member_by (table.after_star (lexeme bytes number)) token.kind (lexeme bytes token) }
+fn member_of_count(number: Token, token: Token) -> Option<Member<Token>>
+    ensures member { (bytes : List ℕ) → option_map (member_in bytes) result ≡ member_by (AfterStar (lexeme bytes number)) token.kind (lexeme bytes token) }
     ensures holds { (bytes : List ℕ) → IsTokenOf bytes token → IsNumberOf bytes number → IfSome result (IsMemberOf bytes) }
 {
     match token.kind {
-        Kind::Name => Some(FoundMember {
+        Kind::Name => Some(Member {
             number: Some(number),
             place: token,
         }),
@@ -117,7 +119,7 @@ fn member_of_count(number: Token, token: Token) -> Option<FoundMember>
 }
 
 // The member that a token completes at a position of a set, if it completes one.
-fn member_of(position: SetPosition, token: Token) -> Option<FoundMember>
+fn member_of(position: SetPosition<Token>, token: Token) -> Option<Member<Token>>
     ensures member { (bytes : List ℕ) → option_map (member_in bytes) result ≡ member_by (set_position_in bytes position) token.kind (lexeme bytes token) }
     ensures holds { (bytes : List ℕ) → IsTokenOf bytes token → HoldsMember bytes position → IfSome result (IsMemberOf bytes) }
 {
@@ -129,7 +131,7 @@ fn member_of(position: SetPosition, token: Token) -> Option<FoundMember>
 }
 
 // Adds a member to the first set of the last flow.
-fn add_pre(flows: &mut Vec<FoundFlow>, member: FoundMember) -> Result<(), ItemFault>
+fn add_pre(flows: &mut Vec<FoundFlow>, member: Member<Token>) -> Result<(), ItemFault>
     ensures ok { OnOk result ((bytes : List ℕ) → flows_in bytes flows.new.items ≡ change_last (with_pre (member_in bytes member)) (flows_in bytes flows.old.items)) }
     ensures names { OnOk result ((bytes : List ℕ) → IsMemberOf bytes member → All (IsFlowOf bytes) flows.old.items → All (IsFlowOf bytes) flows.new.items) }
     ensures err { IfErr result (λ e. e ≡ NoMemory) }
@@ -142,7 +144,7 @@ fn add_pre(flows: &mut Vec<FoundFlow>, member: FoundMember) -> Result<(), ItemFa
 }
 
 // Adds a member to the second set of the last flow.
-fn add_post(flows: &mut Vec<FoundFlow>, member: FoundMember) -> Result<(), ItemFault>
+fn add_post(flows: &mut Vec<FoundFlow>, member: Member<Token>) -> Result<(), ItemFault>
     ensures ok { OnOk result ((bytes : List ℕ) → flows_in bytes flows.new.items ≡ change_last (with_post (member_in bytes member)) (flows_in bytes flows.old.items)) }
     ensures names { OnOk result ((bytes : List ℕ) → IsMemberOf bytes member → All (IsFlowOf bytes) flows.old.items → All (IsFlowOf bytes) flows.new.items) }
     ensures err { IfErr result (λ e. e ≡ NoMemory) }
@@ -157,23 +159,21 @@ fn add_post(flows: &mut Vec<FoundFlow>, member: FoundMember) -> Result<(), ItemF
 impl Found {
     // A name begins an entry.
     fn entry(&mut self, section: Section, name: Token) -> Result<(), ItemFault>
-        ensures ok { OnOk result ((bytes : List ℕ) → progress_in bytes self.new ≡ with_name (section_in section) (lexeme bytes name) (progress_in bytes self.old)) }
+        ensures ok { OnOk result ((bytes : List ℕ) → found_in bytes self.new ≡ with_name section (lexeme bytes name) (found_in bytes self.old)) }
         ensures names { OnOk result ((bytes : List ℕ) → IsNameOf bytes name → HoldsNames bytes self.old → HoldsNames bytes self.new) }
         ensures err { IfErr result (λ e. e ≡ NoMemory) }
     {
         match section {
             Section::Places => self.places.push(name)?,
-            Section::Transitions => self
-                .transitions
-                .push(FoundTransition { name, label: None })?,
+            Section::Transitions => self.transitions.push(Transition { name, label: None })?,
         }
         Ok(())
     }
 
     // An option of the last entry is read.
-    fn option(&mut self, bytes: &[u8], section: Section, setting: FoundSetting)
+    fn option(&mut self, bytes: &[u8], section: Section, setting: Setting<Token>)
         requires { HoldsSetting bytes.now setting }
-        ensures found { progress_in bytes.now self.new ≡ with_setting (section_in section) (setting_in bytes.now setting) (progress_in bytes.now self.old) }
+        ensures found { found_in bytes.now self.new ≡ with_setting section (setting_in bytes.now setting) (found_in bytes.now self.old) }
         ensures names { HoldsNames bytes.now self.old → HoldsNames bytes.now self.new }
     {
         match section {
@@ -186,8 +186,8 @@ impl Found {
     }
 
     // A member of a set is read.
-    fn member(&mut self, side: Side, member: FoundMember) -> Result<(), ItemFault>
-        ensures ok { OnOk result ((bytes : List ℕ) → progress_in bytes self.new ≡ with_member (side_in side) (member_in bytes member) (progress_in bytes self.old)) }
+    fn member(&mut self, side: Side, member: Member<Token>) -> Result<(), ItemFault>
+        ensures ok { OnOk result ((bytes : List ℕ) → found_in bytes self.new ≡ with_member side (member_in bytes member) (found_in bytes self.old)) }
         ensures names { OnOk result ((bytes : List ℕ) → IsMemberOf bytes member → HoldsNames bytes self.old → HoldsNames bytes self.new) }
         ensures err { IfErr result (λ e. e ≡ NoMemory) }
     {
@@ -201,7 +201,7 @@ impl Found {
 
     // A token comes after `.type`.
     fn at_type(&mut self, token: Token)
-        ensures found { (bytes : List ℕ) → progress_in bytes self.new ≡ adds table.type_name (lexeme bytes token) (progress_in bytes self.old) }
+        ensures found { (bytes : List ℕ) → found_in bytes self.new ≡ adds TypeName (lexeme bytes token) (found_in bytes self.old) }
         ensures names { (bytes : List ℕ) → HoldsNames bytes self.old → HoldsNames bytes self.new }
     {
         match token.kind {
@@ -212,8 +212,8 @@ impl Found {
 
     // A token comes where an entry may begin.
     fn at_entry(&mut self, section: Section, token: Token) -> Result<(), ItemFault>
-        ensures ok { OnOk result ((bytes : List ℕ) → progress_in bytes self.new ≡ adds (table.in_section (section_in section)) (lexeme bytes token) (progress_in bytes self.old)) }
-        ensures after { OnOk result ((bytes : List ℕ) → progress_in bytes self.new ≡ adds (table.after_entry (section_in section)) (lexeme bytes token) (progress_in bytes self.old)) }
+        ensures ok { OnOk result ((bytes : List ℕ) → found_in bytes self.new ≡ adds (InSection section) (lexeme bytes token) (found_in bytes self.old)) }
+        ensures after { OnOk result ((bytes : List ℕ) → found_in bytes self.new ≡ adds (AfterEntry section) (lexeme bytes token) (found_in bytes self.old)) }
         ensures names { OnOk result ((bytes : List ℕ) → IsTokenOf bytes token → HoldsNames bytes self.old → HoldsNames bytes self.new) }
         ensures err { IfErr result (λ e. e ≡ NoMemory) }
     {
@@ -225,11 +225,17 @@ impl Found {
     }
 
     // A token comes in an option list.
-    fn at_option(&mut self, bytes: &[u8], section: Section, position: ListPosition, token: Token)
+    fn at_option(
+        &mut self,
+        bytes: &[u8],
+        section: Section,
+        position: ListPosition<Token>,
+        token: Token,
+    )
         requires token { IsTokenOf bytes.now token }
         requires key { HoldsKey bytes.now position }
-        ensures found { progress_in bytes.now self.new
-            ≡ adds (table.in_list (section_in section) (list_position_in bytes.now position)) (lexeme bytes.now token) (progress_in bytes.now self.old) }
+        ensures found { found_in bytes.now self.new
+            ≡ adds (InList section (list_position_in bytes.now position)) (lexeme bytes.now token) (found_in bytes.now self.old) }
         ensures names { HoldsNames bytes.now self.old → HoldsNames bytes.now self.new }
     {
         match setting_of(position, token) {
@@ -240,7 +246,7 @@ impl Found {
 
     // A token comes where a flow may begin.
     fn at_flow(&mut self, alloc: Global, token: Token) -> Result<(), ItemFault>
-        ensures ok { OnOk result ((bytes : List ℕ) → progress_in bytes self.new ≡ adds table.in_flows (lexeme bytes token) (progress_in bytes self.old)) }
+        ensures ok { OnOk result ((bytes : List ℕ) → found_in bytes self.new ≡ adds InFlows (lexeme bytes token) (found_in bytes self.old)) }
         ensures names { OnOk result ((bytes : List ℕ) → IsTokenOf bytes token → HoldsNames bytes self.old → HoldsNames bytes self.new) }
         ensures err { IfErr result (λ e. e ≡ NoMemory) }
     {
@@ -260,9 +266,14 @@ impl Found {
     }
 
     // A token comes in a set.
-    fn at_set(&mut self, side: Side, position: SetPosition, token: Token) -> Result<(), ItemFault>
-        ensures ok { OnOk result ((bytes : List ℕ) → progress_in bytes self.new
-            ≡ adds (table.in_set (side_in side) (set_position_in bytes position)) (lexeme bytes token) (progress_in bytes self.old)) }
+    fn at_set(
+        &mut self,
+        side: Side,
+        position: SetPosition<Token>,
+        token: Token,
+    ) -> Result<(), ItemFault>
+        ensures ok { OnOk result ((bytes : List ℕ) → found_in bytes self.new
+            ≡ adds (InSet side (set_position_in bytes position)) (lexeme bytes token) (found_in bytes self.old)) }
         ensures names { OnOk result ((bytes : List ℕ) → IsTokenOf bytes token → HoldsMember bytes position → HoldsNames bytes self.old → HoldsNames bytes self.new) }
         ensures err { IfErr result (λ e. e ≡ NoMemory) }
     {
@@ -275,17 +286,17 @@ impl Found {
 }
 
 impl Reader for Found {
-    type Position = Position;
+    type Position = Position<Token>;
 
-    ghost GrammarPosition = { table.Position };
+    ghost GrammarPosition = { Position Lexeme };
 
-    ghost Content = { Progress };
+    ghost Content = { Declared };
 
     ghost grammar = { net_grammar };
 
     ghost grammar_position_in = { position_in };
 
-    ghost content_in = { progress_in };
+    ghost content_in = { found_in };
 
     ghost holds_tokens = { HoldsTokens };
 
@@ -301,11 +312,11 @@ impl Reader for Found {
         }
     }
 
-    fn start() -> Position {
+    fn start() -> Position<Token> {
         Position::Start
     }
 
-    fn lead(bytes: &[u8], position: Position, token: Token) -> Option<Position> {
+    fn lead(bytes: &[u8], position: Position<Token>, token: Token) -> Option<Position<Token>> {
         let text = text_of(bytes, token);
         match position {
             Position::Start => from_start(token, text),
@@ -326,7 +337,7 @@ impl Reader for Found {
         &mut self,
         alloc: Global,
         bytes: &[u8],
-        position: Position,
+        position: Position<Token>,
         token: Token,
     ) -> Result<(), ItemFault> {
         match position {
@@ -345,7 +356,7 @@ impl Reader for Found {
         Ok(())
     }
 
-    fn may_end(position: Position) -> bool {
+    fn may_end(position: Position<Token>) -> bool {
         match position {
             Position::Start => true,
             Position::InSection(_) => true,
@@ -355,7 +366,7 @@ impl Reader for Found {
         }
     }
 
-    fn refusal(position: Position, token: Token) -> ItemFault {
+    fn refusal(position: Position<Token>, token: Token) -> ItemFault {
         match position {
             Position::TypeName => match token.kind {
                 Kind::Name => ItemFault::WrongType(token.from),
@@ -366,7 +377,7 @@ impl Reader for Found {
         }
     }
 
-    fn end_refusal(position: Position, end: u32) -> ItemFault {
+    fn end_refusal(position: Position<Token>, end: u32) -> ItemFault {
         ItemFault::Expected(end, want_at(position))
     }
 }

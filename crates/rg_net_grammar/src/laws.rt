@@ -4,7 +4,7 @@ ghost use Rattle.rg_grammar.specs.declared.fault.ItemFault.{ItemFault};
 ghost use Rattle.rg_lexer.specs.Lexeme.{Lexeme};
 ghost use Rattle.rg_grammar.specs.Grammar.{leads_all};
 ghost use Rattle.rg_net_grammar.specs.Item.{Item, AreItems};
-ghost use Rattle.rg_net_grammar.specs.Table.{Position, section};
+ghost use Rattle.rg_net_grammar.specs.Table.{Position, Start};
 ghost use Rattle.rg_net_grammar.specs.Reading.{net_grammar};
 ghost use Rattle.rg_net_grammar.specs.Contents.{declared};
 ghost use Rattle.rg_net_grammar.specs.Text.{AreItemsOf, FirstItemFault};
@@ -20,5 +20,5 @@ pub fn one_answer()
 /// Law: tokens that lead anywhere from the start go on to the tokens of a whole file, so a first fault of the grammar
 /// is reported at the first token that can't continue any file.
 pub fn tokens_go_on()
-    ensures { (front : List Lexeme) (position : Position) → leads_all net_grammar section front ≡ Some position → (more : List Lexeme) × (items : List Item) × AreItems items (front ++ more) }
+    ensures { (front : List Lexeme) (position : Position Lexeme) → leads_all net_grammar Start front ≡ Some position → (more : List Lexeme) × (items : List Item) × AreItems items (front ++ more) }
 {}

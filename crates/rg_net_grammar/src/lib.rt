@@ -7,7 +7,7 @@ mod position;
 mod set_position;
 mod whole;
 
-pub use found::{Found, FoundFlow, FoundMember, FoundTransition};
+pub use found::{Found, FoundFlow, Member, Transition};
 pub use laws::{one_answer, tokens_go_on};
 pub use rg_grammar::ItemFault;
 pub use whole::read_items;

@@ -2,11 +2,10 @@
 ghost use Rattle.std.specs.Prelude.{◌≡◌, ◌≤◌, ℕ, List, length, option_map, slice_range, IfSome};
 ghost use Rattle.rg_lexer.specs.Lexeme.{lexeme};
 ghost use Rattle.rg_lexer.specs.Tokens.{IsTokenOf};
-ghost use Rattle.rg_grammar.specs.ListView.{list_position_in, HoldsKey};
-ghost use Rattle.rg_net_grammar.specs.Table.{wanted, after_word, is_type_name};
+ghost use Rattle.rg_grammar.specs.ListPosition.{list_position_in, HoldsKey};
+ghost use Rattle.rg_net_grammar.specs.Table.{Start, TypeName, PassedText, InSection, AfterEntry, InList, InFlows, AfterFlowName, BeforeSet, AfterPre, wanted, after_word, is_type_name};
 ghost use Rattle.rg_net_grammar.specs.Reading.{leads};
-ghost use Rattle.rg_net_grammar.specs.Table as table;
-ghost use Rattle.rg_net_grammar.specs.View.{section_in, side_in, position_in, HoldsTokens};
+ghost use Rattle.rg_net_grammar.specs.View.{position_in, HoldsTokens};
 
 use crate::set_position::{SetPosition, Side, set_wanted};
 use rg_grammar::{ListPosition, ListStep, list_lead, list_wanted};
@@ -19,24 +18,36 @@ pub enum Section {
     Transitions,
 }
 
-/// The position of a token.
+/// The position of a token. The tokens that a position holds came before it and still count. A token is of type `T`:
+/// code has its span, definitions have its bytes.
 #[derive(Clone, Copy, Debug, PartialEq, Eq)]
-pub enum Position {
+pub enum Position<T> {
+    /// At the start of the file, after `.type` and a name, after a text that is passed over, after the marking's set.
     Start,
+    /// After `.type`.
     TypeName,
+    /// After another word.
     PassedText,
+    /// After the section's word or an option list.
     InSection(Section),
+    /// Directly after an entry.
     AfterEntry(Section),
-    InList(Section, ListPosition),
+    /// In an option list.
+    InList(Section, ListPosition<T>),
+    /// Where a flow may begin.
     InFlows,
+    /// After the name of a flow's transition.
     AfterFlowName,
+    /// Where a set is expected.
     BeforeSet(Side),
-    InSet(Side, SetPosition),
+    /// In a set.
+    InSet(Side, SetPosition<T>),
+    /// After the first set of a flow.
     AfterPre,
 }
 
 /// Returns what is wanted at a position.
-pub fn want_at(position: Position) -> Want
+pub fn want_at(position: Position<Token>) -> Want
     ensures { (bytes : List ℕ) → result ≡ wanted (position_in bytes position) }
 {
     match position {
@@ -54,7 +65,7 @@ pub fn want_at(position: Position) -> Want
 }
 
 // Where a word leads.
-fn after_word(text: &[u8]) -> Position
+fn after_word(text: &[u8]) -> Position<Token>
     ensures leads { (bytes : List ℕ) → position_in bytes result ≡ after_word text.now }
     ensures holds { (bytes : List ℕ) → HoldsTokens bytes result }
 {
@@ -74,9 +85,9 @@ fn after_word(text: &[u8]) -> Position
 }
 
 /// Returns where a token leads at the start, after a passed-over text and after the marking's set.
-pub fn from_start(token: Token, text: &[u8]) -> Option<Position>
+pub fn from_start(token: Token, text: &[u8]) -> Option<Position<Token>>
     ensures leads { (bytes : List ℕ) → slice_range bytes token.from token.to ≡ text.now
-        → option_map (position_in bytes) result ≡ leads table.section (lexeme bytes token) }
+        → option_map (position_in bytes) result ≡ leads Start (lexeme bytes token) }
     ensures holds { (bytes : List ℕ) → IfSome result (HoldsTokens bytes) }
 {
     match token.kind {
@@ -92,9 +103,9 @@ fn is_type_name(text: &[u8]) -> bool
 }
 
 /// Returns where a token leads after `.type`.
-pub fn from_type(token: Token, text: &[u8]) -> Option<Position>
+pub fn from_type(token: Token, text: &[u8]) -> Option<Position<Token>>
     ensures leads { (bytes : List ℕ) → slice_range bytes token.from token.to ≡ text.now
-        → option_map (position_in bytes) result ≡ leads table.type_name (lexeme bytes token) }
+        → option_map (position_in bytes) result ≡ leads TypeName (lexeme bytes token) }
     ensures holds { (bytes : List ℕ) → IfSome result (HoldsTokens bytes) }
 {
     match token.kind {
@@ -110,8 +121,8 @@ pub fn from_type(token: Token, text: &[u8]) -> Option<Position>
 }
 
 /// Returns where a token leads after a word that isn't a section's.
-pub fn from_word(token: Token) -> Option<Position>
-    ensures leads { (bytes : List ℕ) → option_map (position_in bytes) result ≡ leads table.passed_text (lexeme bytes token) }
+pub fn from_word(token: Token) -> Option<Position<Token>>
+    ensures leads { (bytes : List ℕ) → option_map (position_in bytes) result ≡ leads PassedText (lexeme bytes token) }
     ensures holds { (bytes : List ℕ) → IfSome result (HoldsTokens bytes) }
 {
     match token.kind {
@@ -121,9 +132,9 @@ pub fn from_word(token: Token) -> Option<Position>
 }
 
 /// Returns where a token leads from a position where an entry may begin.
-pub fn from_section(section: Section, token: Token, text: &[u8]) -> Option<Position>
+pub fn from_section(section: Section, token: Token, text: &[u8]) -> Option<Position<Token>>
     ensures leads { (bytes : List ℕ) → slice_range bytes token.from token.to ≡ text.now
-        → option_map (position_in bytes) result ≡ leads (table.in_section (section_in section)) (lexeme bytes token) }
+        → option_map (position_in bytes) result ≡ leads (InSection section) (lexeme bytes token) }
     ensures holds { (bytes : List ℕ) → IfSome result (HoldsTokens bytes) }
 {
     match token.kind {
@@ -134,9 +145,9 @@ pub fn from_section(section: Section, token: Token, text: &[u8]) -> Option<Posit
 }
 
 /// Returns where a token leads directly after an entry.
-pub fn from_entry(section: Section, token: Token, text: &[u8]) -> Option<Position>
+pub fn from_entry(section: Section, token: Token, text: &[u8]) -> Option<Position<Token>>
     ensures leads { (bytes : List ℕ) → slice_range bytes token.from token.to ≡ text.now
-        → option_map (position_in bytes) result ≡ leads (table.after_entry (section_in section)) (lexeme bytes token) }
+        → option_map (position_in bytes) result ≡ leads (AfterEntry section) (lexeme bytes token) }
     ensures holds { (bytes : List ℕ) → IfSome result (HoldsTokens bytes) }
 {
     match token.kind {
@@ -148,9 +159,13 @@ pub fn from_entry(section: Section, token: Token, text: &[u8]) -> Option<Positio
 }
 
 /// Returns where a token leads in an option list.
-pub fn from_list(section: Section, position: ListPosition, token: Token) -> Option<Position>
+pub fn from_list(
+    section: Section,
+    position: ListPosition<Token>,
+    token: Token,
+) -> Option<Position<Token>>
     ensures leads { (bytes : List ℕ) → option_map (position_in bytes) result
-        ≡ leads (table.in_list (section_in section) (list_position_in bytes position)) (lexeme bytes token) }
+        ≡ leads (InList section (list_position_in bytes position)) (lexeme bytes token) }
     ensures holds { (bytes : List ℕ) → IsTokenOf bytes token → HoldsKey bytes position → IfSome result (HoldsTokens bytes) }
 {
     match list_lead(position, token) {
@@ -161,9 +176,9 @@ pub fn from_list(section: Section, position: ListPosition, token: Token) -> Opti
 }
 
 /// Returns where a token leads from a position where a flow may begin.
-pub fn from_flows(token: Token, text: &[u8]) -> Option<Position>
+pub fn from_flows(token: Token, text: &[u8]) -> Option<Position<Token>>
     ensures leads { (bytes : List ℕ) → slice_range bytes token.from token.to ≡ text.now
-        → option_map (position_in bytes) result ≡ leads table.in_flows (lexeme bytes token) }
+        → option_map (position_in bytes) result ≡ leads InFlows (lexeme bytes token) }
     ensures holds { (bytes : List ℕ) → IfSome result (HoldsTokens bytes) }
 {
     match token.kind {
@@ -174,8 +189,8 @@ pub fn from_flows(token: Token, text: &[u8]) -> Option<Position>
 }
 
 /// Returns where a token leads after a flow's name.
-pub fn from_flow_name(token: Token) -> Option<Position>
-    ensures leads { (bytes : List ℕ) → option_map (position_in bytes) result ≡ leads table.after_flow_name (lexeme bytes token) }
+pub fn from_flow_name(token: Token) -> Option<Position<Token>>
+    ensures leads { (bytes : List ℕ) → option_map (position_in bytes) result ≡ leads AfterFlowName (lexeme bytes token) }
     ensures holds { (bytes : List ℕ) → IfSome result (HoldsTokens bytes) }
 {
     match token.kind {
@@ -185,8 +200,8 @@ pub fn from_flow_name(token: Token) -> Option<Position>
 }
 
 /// Returns where a token leads after the first set of a flow.
-pub fn from_pre(token: Token) -> Option<Position>
-    ensures leads { (bytes : List ℕ) → option_map (position_in bytes) result ≡ leads table.after_pre (lexeme bytes token) }
+pub fn from_pre(token: Token) -> Option<Position<Token>>
+    ensures leads { (bytes : List ℕ) → option_map (position_in bytes) result ≡ leads AfterPre (lexeme bytes token) }
     ensures holds { (bytes : List ℕ) → IfSome result (HoldsTokens bytes) }
 {
     match token.kind {
@@ -196,8 +211,8 @@ pub fn from_pre(token: Token) -> Option<Position>
 }
 
 /// Returns the position after a token where a set is expected.
-pub fn from_before_set(side: Side, token: Token) -> Option<Position>
-    ensures leads { (bytes : List ℕ) → option_map (position_in bytes) result ≡ leads (table.before_set (side_in side)) (lexeme bytes token) }
+pub fn from_before_set(side: Side, token: Token) -> Option<Position<Token>>
+    ensures leads { (bytes : List ℕ) → option_map (position_in bytes) result ≡ leads (BeforeSet side) (lexeme bytes token) }
     ensures holds { (bytes : List ℕ) → IfSome result (HoldsTokens bytes) }
 {
     match token.kind {

@@ -4,10 +4,8 @@ ghost use Rattle.rg_lexer.specs.Lexeme.{lexeme};
 ghost use Rattle.rg_lexer.specs.Tokens.{IsTokenOf};
 ghost use Rattle.rg_lexer.specs.declared.token.Kind.TheVariants.{Star};
 ghost use Rattle.rg_grammar.specs.Entry.{IsNameOf};
-ghost use Rattle.rg_net_grammar.specs.FoundView.{IsNumberOf};
-ghost use Rattle.rg_net_grammar.specs.Table.{set_wanted, is_digits, after_set, set_leads_by, refusal_by};
-ghost use Rattle.rg_net_grammar.specs.Table as table;
-ghost use Rattle.rg_net_grammar.specs.View.{side_in, set_position_in, position_in, HoldsMember, HoldsTokens};
+ghost use Rattle.rg_net_grammar.specs.View.{IsNumberOf, set_position_in, position_in, HoldsMember, HoldsTokens};
+ghost use Rattle.rg_net_grammar.specs.Table.{Side, FirstMember, NextMember, AfterName, AfterStar, AfterMember, InSet, set_wanted, is_digits, after_set, set_leads_by, refusal_by};
 
 use crate::position::Position;
 use rg_grammar::{ItemFault, text_of};
@@ -21,18 +19,24 @@ pub enum Side {
     Marking,
 }
 
-/// The position of a token in a set. The tokens that a position holds came before it and still count.
+/// The position of a token in a set. The names that a position holds came before it and still count. A token is of type
+/// `T`: code has its span, definitions have its bytes.
 #[derive(Clone, Copy, Debug, PartialEq, Eq)]
-pub enum SetPosition {
+pub enum SetPosition<T> {
+    /// After `{`.
     FirstMember,
+    /// After `,`.
     NextMember,
-    AfterName(Token),
-    AfterStar(Token),
+    /// After a member's first name.
+    AfterName(T),
+    /// After a number and `*`.
+    AfterStar(T),
+    /// After a member with a number.
     AfterMember,
 }
 
 /// Returns what is wanted at a position of a set.
-pub fn set_wanted(position: SetPosition) -> Want
+pub fn set_wanted(position: SetPosition<Token>) -> Want
     ensures { (bytes : List ℕ) → result ≡ set_wanted (set_position_in bytes position) }
 {
     match position {
@@ -43,8 +47,8 @@ pub fn set_wanted(position: SetPosition) -> Want
 }
 
 // Where the closing bracket of a set leads.
-fn after_set(side: Side) -> Position
-    ensures leads { (bytes : List ℕ) → position_in bytes result ≡ after_set (side_in side) }
+fn after_set(side: Side) -> Position<Token>
+    ensures leads { (bytes : List ℕ) → position_in bytes result ≡ after_set side }
     ensures holds { (bytes : List ℕ) → HoldsTokens bytes result }
 {
     match side {
@@ -55,8 +59,8 @@ fn after_set(side: Side) -> Position
 }
 
 // Where a token leads after the opening bracket of a set.
-fn from_brace(side: Side, token: Token) -> Option<Position>
-    ensures leads { (bytes : List ℕ) → option_map (position_in bytes) result ≡ set_leads_by (side_in side) table.first_member token.kind (lexeme bytes token) }
+fn from_brace(side: Side, token: Token) -> Option<Position<Token>>
+    ensures leads { (bytes : List ℕ) → option_map (position_in bytes) result ≡ set_leads_by side FirstMember token.kind (lexeme bytes token) }
     ensures holds { (bytes : List ℕ) → IsTokenOf bytes token → IfSome result (HoldsTokens bytes) }
 {
     match token.kind {
@@ -67,8 +71,8 @@ fn from_brace(side: Side, token: Token) -> Option<Position>
 }
 
 // Where a token leads after a comma in a set.
-fn from_comma(side: Side, token: Token) -> Option<Position>
-    ensures leads { (bytes : List ℕ) → option_map (position_in bytes) result ≡ set_leads_by (side_in side) table.next_member token.kind (lexeme bytes token) }
+fn from_comma(side: Side, token: Token) -> Option<Position<Token>>
+    ensures leads { (bytes : List ℕ) → option_map (position_in bytes) result ≡ set_leads_by side NextMember token.kind (lexeme bytes token) }
     ensures holds { (bytes : List ℕ) → IsTokenOf bytes token → IfSome result (HoldsTokens bytes) }
 {
     match token.kind {
@@ -86,10 +90,10 @@ fn is_number(bytes: &[u8], name: Token) -> bool
 }
 
 // Where `*` leads after a member's first name.
-fn from_star(bytes: &[u8], side: Side, name: Token) -> Option<Position>
+fn from_star(bytes: &[u8], side: Side, name: Token) -> Option<Position<Token>>
     requires { IsNameOf bytes.now name }
     ensures leads { (x : Token) → option_map (position_in bytes.now) result
-        ≡ set_leads_by (side_in side) (table.after_name (lexeme bytes.now name)) Star (lexeme bytes.now x) }
+        ≡ set_leads_by side (AfterName (lexeme bytes.now name)) Star (lexeme bytes.now x) }
     ensures holds { IfSome result (HoldsTokens bytes.now) }
 {
     if is_number(bytes, name) {
@@ -100,10 +104,10 @@ fn from_star(bytes: &[u8], side: Side, name: Token) -> Option<Position>
 }
 
 // Where a token leads after a member's first name.
-fn from_name(bytes: &[u8], side: Side, name: Token, token: Token) -> Option<Position>
+fn from_name(bytes: &[u8], side: Side, name: Token, token: Token) -> Option<Position<Token>>
     requires { IsNameOf bytes.now name }
     ensures leads { option_map (position_in bytes.now) result
-        ≡ set_leads_by (side_in side) (table.after_name (lexeme bytes.now name)) token.kind (lexeme bytes.now token) }
+        ≡ set_leads_by side (AfterName (lexeme bytes.now name)) token.kind (lexeme bytes.now token) }
     ensures holds { IfSome result (HoldsTokens bytes.now) }
 {
     match token.kind {
@@ -115,9 +119,9 @@ fn from_name(bytes: &[u8], side: Side, name: Token, token: Token) -> Option<Posi
 }
 
 // Where a token leads after a number and `*`.
-fn from_number(side: Side, number: Token, token: Token) -> Option<Position>
+fn from_number(side: Side, number: Token, token: Token) -> Option<Position<Token>>
     ensures leads { (bytes : List ℕ) → option_map (position_in bytes) result
-        ≡ set_leads_by (side_in side) (table.after_star (lexeme bytes number)) token.kind (lexeme bytes token) }
+        ≡ set_leads_by side (AfterStar (lexeme bytes number)) token.kind (lexeme bytes token) }
     ensures holds { (bytes : List ℕ) → IfSome result (HoldsTokens bytes) }
 {
     match token.kind {
@@ -127,8 +131,8 @@ fn from_number(side: Side, number: Token, token: Token) -> Option<Position>
 }
 
 // Where a token leads after a member with a number.
-fn from_member(side: Side, token: Token) -> Option<Position>
-    ensures leads { (bytes : List ℕ) → option_map (position_in bytes) result ≡ set_leads_by (side_in side) table.after_member token.kind (lexeme bytes token) }
+fn from_member(side: Side, token: Token) -> Option<Position<Token>>
+    ensures leads { (bytes : List ℕ) → option_map (position_in bytes) result ≡ set_leads_by side AfterMember token.kind (lexeme bytes token) }
     ensures holds { (bytes : List ℕ) → IfSome result (HoldsTokens bytes) }
 {
     match token.kind {
@@ -139,11 +143,16 @@ fn from_member(side: Side, token: Token) -> Option<Position>
 }
 
 /// Returns where a token leads in a set.
-pub fn from_set(bytes: &[u8], side: Side, position: SetPosition, token: Token) -> Option<Position>
+pub fn from_set(
+    bytes: &[u8],
+    side: Side,
+    position: SetPosition<Token>,
+    token: Token,
+) -> Option<Position<Token>>
     requires token { IsTokenOf bytes.now token }
     requires held { HoldsMember bytes.now position }
     ensures leads { option_map (position_in bytes.now) result
-        ≡ set_leads_by (side_in side) (set_position_in bytes.now position) token.kind (lexeme bytes.now token) }
+        ≡ set_leads_by side (set_position_in bytes.now position) token.kind (lexeme bytes.now token) }
     ensures holds { IfSome result (HoldsTokens bytes.now) }
 {
     match position {
@@ -156,8 +165,8 @@ pub fn from_set(bytes: &[u8], side: Side, position: SetPosition, token: Token) -
 }
 
 /// Returns the fault of a token that isn't allowed at a position of a set.
-pub fn set_refusal(position: SetPosition, token: Token) -> ItemFault
-    ensures { (bytes : List ℕ) (side : table.Side) → result ≡ refusal_by (table.in_set side (set_position_in bytes position)) token.kind token.from }
+pub fn set_refusal(position: SetPosition<Token>, token: Token) -> ItemFault
+    ensures { (bytes : List ℕ) (side : Side) → result ≡ refusal_by (InSet side (set_position_in bytes position)) token.kind token.from }
 {
     match position {
         SetPosition::AfterName(name) => match token.kind {

@@ -5,7 +5,7 @@ ghost use Rattle.rg_grammar.specs.declared.fault.ItemFault.TheVariants.{NoMemory
 ghost use Rattle.rg_net_grammar.specs.Item.{Item};
 ghost use Rattle.rg_net_grammar.specs.Contents.{declared};
 ghost use Rattle.rg_net_grammar.specs.Text.{AreItemsOf, FirstItemFault};
-ghost use Rattle.rg_net_grammar.specs.FoundView.{found_in, HoldsNames};
+ghost use Rattle.rg_net_grammar.specs.View.{found_in, HoldsNames};
 
 use crate::found::Found;
 use rg_grammar::{ItemFault, read};

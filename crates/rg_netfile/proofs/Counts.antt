@@ -6,7 +6,9 @@ use Rattle.std.proofs.lemmas.Bool.{cases_order}
 use Rattle.std.proofs.lemmas.Bool.Decides.{nat_tests}
 use Rattle.std.proofs.lemmas.List.{get_or-set_same, get_or-set_other, get_or_default, length-set}
 use Rattle.std.proofs.lemmas.List.Sums.{count_by_more_yes, count_by_more_no}
-use Rattle.rg_net_grammar.specs.Contents.{Transition}
+use Rattle.rg_lexer.specs.Lexeme.{Lexeme}
+use Rattle.rg_net_grammar.specs.declared.found.Transition.{Transition}
+use Rattle.rg_net_grammar.specs.Contents.{label_of}
 use Rattle.rg_netfile.specs.Contents.{is_among, have_each_once}
 use Rattle.rg_netfile.specs.Built.{AreNumbers, AreCounts}
 use Rattle.rg_netfile.proofs.NameTests.{among_false}
@@ -44,8 +46,8 @@ counts_more labels numbers counts i x lt small read are = record {
         let same = count_by_more_no (λ m. m == k) numbers i 0 lt (other_eqb (get_or numbers i 0) k (λ e. ne (sym e))) in
         get_or-set_other counts (get_or numbers i 0) k (x + 1) 0 ne ∙ are.each k less ∙ sym same
 
-pub numbers_more : (names : List (List ℕ)) (transitions : List Transition) (numbers : List ℕ) (t : Transition) (n : ℕ) → AreNumbers names transitions numbers
-    → slice_get names n ≡ Some t.label → AreNumbers names (transitions ++ t ∷ []) (numbers ++ n ∷ [])
+pub numbers_more : (names : List (List ℕ)) (transitions : List (Transition Lexeme)) (numbers : List ℕ) (t : Transition Lexeme) (n : ℕ) → AreNumbers names transitions numbers
+    → slice_get names n ≡ Some (label_of t) → AreNumbers names (transitions ++ t ∷ []) (numbers ++ n ∷ [])
 numbers_more names [] [] t n are at = (at, tt)
 numbers_more names [] (m ∷ numbers) t n are at = absurd are
 numbers_more names (s ∷ transitions) [] t n are at = absurd are
@@ -62,8 +64,8 @@ one_fails p (y ∷ xs) zero x lt at fails = ap (λ b. b && list_all p xs) (ap p 
 one_fails p (y ∷ xs) (suc i) x lt at fails = and_false (p y) (list_all p xs) (one_fails p xs i x (omega arith) at fails)
 
 -- a label of a transition is none of the system's
-pub not_each_once : (names : List (List ℕ)) (transitions : List Transition) (i : ℕ) (t : Transition) → i < length transitions → get_or transitions i t ≡ t
-    → (Contains names t.label → ⊥) → have_each_once names transitions ≡ false
+pub not_each_once : (names : List (List ℕ)) (transitions : List (Transition Lexeme)) (i : ℕ) (t : Transition Lexeme) → i < length transitions → get_or transitions i t ≡ t
+    → (Contains names (label_of t) → ⊥) → have_each_once names transitions ≡ false
 not_each_once names transitions i t lt at absent =
-    ap (λ b. b && list_all (λ label. count_by (λ (s : Transition). bytes_eq label s.label) transitions == 1) names)
-    (one_fails (λ (s : Transition). is_among names s.label) transitions i t lt at (among_false names t.label absent))
+    ap (λ b. b && list_all (λ label. count_by (λ (s : Transition Lexeme). bytes_eq label (label_of s)) transitions == 1) names)
+    (one_fails (λ (s : Transition Lexeme). is_among names (label_of s)) transitions i t lt at (among_false names (label_of t) absent))

@@ -5,7 +5,7 @@ use Rattle.std.specs.Str.{bytes_eq}
 use Rattle.std.proofs.lemmas.Bool.{cond-true, cond-false}
 use Rattle.std.proofs.lemmas.List.{map-append}
 use Rattle.rg_lexer.specs.Lexeme.{Lexeme}
-use Rattle.rg_net_grammar.specs.Contents.{Transition}
+use Rattle.rg_net_grammar.specs.declared.found.Transition.{Transition}
 use Rattle.rg_netfile.specs.declared.fault.NetFault.{NetFault}
 use Rattle.rg_netfile.specs.declared.fault.NetFault.TheVariants.{TwicePlace, TooManyPlaces, TwiceTransition}
 use Rattle.rg_netfile.specs.Contents.{most_places, place_fault, transition_fault}
@@ -14,7 +14,7 @@ use Rattle.rg_netfile.proofs.NameTests.{contains_any, absent_none, le_true, le_f
 abbrev pub text_of : Lexeme → List ℕ
 text_of x = x.text
 
-abbrev pub name_of : Transition → List ℕ
+abbrev pub name_of : Transition Lexeme → List ℕ
 name_of t = t.name.text
 
 place_twice : (before : List Lexeme) (x : Lexeme) (names : List (List ℕ)) → names ≡ map text_of before → Contains names x.text
@@ -49,16 +49,16 @@ pub place_fine : (before : List Lexeme) (x : Lexeme) (names : List (List ℕ)) �
 place_fine before x names is absent few =
     to_room before x names is absent ∙ cond-false (nat_le most_places (length before)) (Some (TooManyPlaces x.at)) None (le_false most_places (length before) few)
 
-pub transition_twice : (before : List Transition) (t : Transition) (names : List (List ℕ)) → names ≡ map name_of before → Contains names t.name.text
+pub transition_twice : (before : List (Transition Lexeme)) (t : Transition Lexeme) (names : List (List ℕ)) → names ≡ map name_of before → Contains names t.name.text
     → transition_fault before t ≡ Some (TwiceTransition t.name.at)
 transition_twice before t names is has =
-    cond-true (list_any (λ (b : Transition). bytes_eq t.name.text b.name.text) before) (Some (TwiceTransition t.name.at)) None
+    cond-true (list_any (λ (b : Transition Lexeme). bytes_eq t.name.text b.name.text) before) (Some (TwiceTransition t.name.at)) None
     (contains_any name_of t.name.text before (subst (λ l. Contains l t.name.text) is has))
 
-pub transition_fine : (before : List Transition) (t : Transition) (names : List (List ℕ)) → names ≡ map name_of before → (Contains names t.name.text → ⊥)
+pub transition_fine : (before : List (Transition Lexeme)) (t : Transition Lexeme) (names : List (List ℕ)) → names ≡ map name_of before → (Contains names t.name.text → ⊥)
     → transition_fault before t ≡ None
 transition_fine before t names is absent =
-    cond-false (list_any (λ (b : Transition). bytes_eq t.name.text b.name.text) before) (Some (TwiceTransition t.name.at)) None
+    cond-false (list_any (λ (b : Transition Lexeme). bytes_eq t.name.text b.name.text) before) (Some (TwiceTransition t.name.at)) None
     (absent_none name_of t.name.text before (λ has. absent (subst (λ l. Contains l t.name.text) (sym is) has)))
 
 -- one name more, as it is read
@@ -66,6 +66,6 @@ pub names_more : (before : List Lexeme) (x : Lexeme) (names : List (List ℕ)) (
     → names ++ read ∷ [] ≡ map text_of (before ++ x ∷ [])
 names_more before x names read is same = ap (λ l. l ++ read ∷ []) is ∙ ap (λ n. map text_of before ++ n ∷ []) same ∙ sym (map-append text_of before (x ∷ []))
 
-pub transition_names_more : (before : List Transition) (t : Transition) (names : List (List ℕ)) (read : List ℕ) → names ≡ map name_of before → read ≡ t.name.text
+pub transition_names_more : (before : List (Transition Lexeme)) (t : Transition Lexeme) (names : List (List ℕ)) (read : List ℕ) → names ≡ map name_of before → read ≡ t.name.text
     → names ++ read ∷ [] ≡ map name_of (before ++ t ∷ [])
 transition_names_more before t names read is same = ap (λ l. l ++ read ∷ []) is ∙ ap (λ n. map name_of before ++ n ∷ []) same ∙ sym (map-append name_of before (t ∷ []))

@@ -12,7 +12,7 @@ use Rattle.std.proofs.lemmas.Slice.Eq.{bytes_eq-Decides}
 use Rattle.rg_theory.specs.Net.{Place, Net, HasAllWeights, IsPlaceAt}
 use Rattle.rg_lexer.specs.Lexeme.{Lexeme}
 use Rattle.rg_integers.specs.Range.{greatest}
-use Rattle.rg_net_grammar.specs.Item.{Member}
+use Rattle.rg_net_grammar.specs.declared.found.Member.{Member}
 use Rattle.rg_netfile.specs.declared.fault.NetFault.{NetFault}
 use Rattle.rg_netfile.specs.declared.fault.NetFault.TheVariants.{UnknownTransition, UnknownPlace, NumberPasses}
 use Rattle.rg_netfile.specs.declared.slot.Slot.{Slot}
@@ -50,24 +50,24 @@ flow_stops k net name absent = record {
 }
 
 -- the tests of a member's fault
-abbrev sum_test : Cell → Member → List Step → Option NetFault
+abbrev sum_test : Cell → Member Lexeme → List Step → Option NetFault
 sum_test cell m before = cond (nat_lt greatest (total cell m.place.text before + count_of m.number)) (Some (NumberPasses (member_at m))) None
 
-abbrev place_test : List (List ℕ) → Cell → Member → List Step → Option NetFault
+abbrev place_test : List (List ℕ) → Cell → Member Lexeme → List Step → Option NetFault
 place_test places cell m before = cond (not (is_among places m.place.text)) (Some (UnknownPlace m.place.at)) (sum_test cell m before)
 
-to_place : (k : KnownNames) (before : List Step) (cell : Cell) (m : Member) → count_of m.number ≤ greatest
+to_place : (k : KnownNames) (before : List Step) (cell : Cell) (m : Member Lexeme) → count_of m.number ≤ greatest
     → step_fault k.places k.transitions before (adds cell m) ≡ place_test k.places cell m before
 to_place k before cell m within =
     cond-false (nat_lt greatest (count_of m.number)) (Some (NumberPasses (member_at m))) (place_test k.places cell m before) (lt_false greatest (count_of m.number) within)
 
-to_sum : (k : KnownNames) (before : List Step) (cell : Cell) (m : Member) → count_of m.number ≤ greatest → Contains k.places m.place.text
+to_sum : (k : KnownNames) (before : List Step) (cell : Cell) (m : Member Lexeme) → count_of m.number ≤ greatest → Contains k.places m.place.text
     → step_fault k.places k.transitions before (adds cell m) ≡ sum_test cell m before
 to_sum k before cell m within has =
     to_place k before cell m within
     ∙ cond-false (not (is_among k.places m.place.text)) (Some (UnknownPlace m.place.at)) (sum_test cell m before) (ap not (among_true k.places m.place.text has))
 
-pub place_stops : (k : KnownNames) (net : Net) (cell : Cell) (m : Member) → count_of m.number ≤ greatest → (Contains k.places m.place.text → ⊥)
+pub place_stops : (k : KnownNames) (net : Net) (cell : Cell) (m : Member Lexeme) → count_of m.number ≤ greatest → (Contains k.places m.place.text → ⊥)
     → Stops k (adds cell m ∷ []) net (UnknownPlace m.place.at)
 place_stops k net cell m within absent = record {
   first = λ before h. first_one (step_fault k.places k.transitions) before (adds cell m) (UnknownPlace m.place.at)
@@ -75,7 +75,7 @@ place_stops k net cell m within absent = record {
       ∙ cond-true (not (is_among k.places m.place.text)) (Some (UnknownPlace m.place.at)) (sum_test cell m before) (ap not (among_false k.places m.place.text absent)));
 }
 
-pub sum_stops : (k : KnownNames) (net : Net) (i n : ℕ) (slot : Slot) (cell : Cell) (m : Member) → IsSlotFor k slot cell → slice_get k.places i ≡ Some m.place.text
+pub sum_stops : (k : KnownNames) (net : Net) (i n : ℕ) (slot : Slot) (cell : Cell) (m : Member Lexeme) → IsSlotFor k slot cell → slice_get k.places i ≡ Some m.place.text
     → n ≡ count_of m.number → n ≤ greatest → IsOver net i slot n greatest → Stops k (adds cell m ∷ []) net (NumberPasses (member_at m))
 sum_stops k net i n slot cell m for at is within (p, place, over) = record {
   first = λ before h.
@@ -87,7 +87,7 @@ sum_stops k net i n slot cell m for at is within (p, place, over) = record {
 }
 
 -- what a step adds to a place and cell
-pub added_same : (cell : Cell) (m : Member) → added cell m.place.text (adds cell m) ≡ count_of m.number
+pub added_same : (cell : Cell) (m : Member Lexeme) → added cell m.place.text (adds cell m) ≡ count_of m.number
 added_same cell m =
     cond-true (same_cell cell cell && bytes_eq m.place.text m.place.text) (count_of m.number) 0
     (both (same_cell cell cell) (bytes_eq m.place.text m.place.text) (⊎_elim (λ h. h.0) (λ h. absurd (h.1 refl)) (same_or_other cell cell))
@@ -97,7 +97,7 @@ added_same cell m =
     both true b e f = f
     both false b e f = absurd cc
 
-added_elsewhere : (cell other : Cell) (place : List ℕ) (m : Member) → (cell ≡ other → ⊥) ⊎ (place ≡ m.place.text → ⊥) → added cell place (adds other m) ≡ 0
+added_elsewhere : (cell other : Cell) (place : List ℕ) (m : Member Lexeme) → (cell ≡ other → ⊥) ⊎ (place ≡ m.place.text → ⊥) → added cell place (adds other m) ≡ 0
 added_elsewhere cell other place m ne =
     cond-false (same_cell cell other && bytes_eq place m.place.text) (count_of m.number) 0
     (false_from_ne_true (same_cell cell other && bytes_eq place m.place.text) (λ e. ⊎_elim
@@ -124,7 +124,7 @@ set_beside xs i j x y ne at =
     slice_get-get_or xs j y lt ∙ ap Some (sym (get_or-set_other xs i j x y ne) ∙ get_or_from_slice_get (set xs i x) j y y at)
 
 -- what passes
-pub record Adds (k : KnownNames) (old new : Net) (i n : ℕ) (slot : Slot) (cell : Cell) (m : Member) : Type 0 where
+pub record Adds (k : KnownNames) (old new : Net) (i n : ℕ) (slot : Slot) (cell : Cell) (m : Member Lexeme) : Type 0 where
   pub known : IsKnown k
   pub weights : HasAllWeights old
   pub slot_in : IsSlotIn old.labels slot
@@ -136,7 +136,7 @@ pub record Adds (k : KnownNames) (old new : Net) (i n : ℕ) (slot : Slot) (cell
   pub makes : AddsTo old i slot n new
 
 -- the numbers after one member more
-sums_more : (k : KnownNames) (old new : Net) (i n : ℕ) (slot : Slot) (cell : Cell) (m : Member) (before : List Step) → Adds k old new i n slot cell m → HasSums k before old
+sums_more : (k : KnownNames) (old new : Net) (i n : ℕ) (slot : Slot) (cell : Cell) (m : Member Lexeme) (before : List Step) → Adds k old new i n slot cell m → HasSums k before old
     → (j : ℕ) (name : List ℕ) (q : Place) (other : Slot) (c : Cell) → slice_get k.places j ≡ Some name → IsPlaceAt new j q → IsSlotFor k other c
     → number_in q other ≡ total c name (before ++ adds cell m ∷ [])
 sums_more k old new i n slot cell m before a h j name q other c at place for =
@@ -182,7 +182,7 @@ sums_more k old new i n slot cell m before a h j name q other c at place for =
         slot_of : {many : ℕ} → many ≡ old.labels → IsSlotIn many slot
         slot_of same = subst (λ x. IsSlotIn x slot) (sym same) a.slot_in
 
-pub member_passes : (k : KnownNames) (old new : Net) (i n : ℕ) (slot : Slot) (cell : Cell) (m : Member) → Adds k old new i n slot cell m
+pub member_passes : (k : KnownNames) (old new : Net) (i n : ℕ) (slot : Slot) (cell : Cell) (m : Member Lexeme) → Adds k old new i n slot cell m
     → Passes k (adds cell m ∷ []) old new
 member_passes k old new i n slot cell m a = record {
   none = λ before h.
@@ -208,7 +208,7 @@ pub flow_fine : (places transitions : List (List ℕ)) (before : List Step) (nam
 flow_fine places transitions before name has =
     cond-true (is_among transitions name.text) None (Some (UnknownTransition name.at)) (among_true transitions name.text has)
 
-pub member_fine : (places transitions : List (List ℕ)) (before : List Step) (cell : Cell) (m : Member) → Contains places m.place.text
+pub member_fine : (places transitions : List (List ℕ)) (before : List Step) (cell : Cell) (m : Member Lexeme) → Contains places m.place.text
     → total cell m.place.text before + count_of m.number ≤ greatest → step_fault places transitions before (adds cell m) ≡ None
 member_fine places transitions before cell m has within =
     cond-false (nat_lt greatest (count_of m.number)) (Some (NumberPasses (member_at m))) (place_test places cell m before) (lt_false greatest (count_of m.number) (omega arith))

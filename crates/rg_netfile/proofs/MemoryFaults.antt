@@ -15,11 +15,14 @@ use Rattle.rg_grammar.specs.declared.fault.ItemFault.{ItemFault}
 use Rattle.rg_grammar.specs.declared.fault.ItemFault.TheVariants as item
 use Rattle.rg_grammar.specs.Text.{of_lexer, in_tokens, in_grammar}
 use Rattle.rg_grammar.specs.Grammar.{IsRefused}
-use Rattle.rg_net_grammar.specs.Table.{Position, section, type_name, passed_text, in_section, after_entry, in_list, in_flows, after_flow_name, before_set, in_set, after_pre, refusal_by}
-use Rattle.rg_net_grammar.specs.Table.{first_member, next_member, after_name, after_star, after_member}
+use Rattle.rg_net_grammar.specs.declared.position.Position.{Position}
+use Rattle.rg_net_grammar.specs.declared.position.Position.TheVariants.{Start, TypeName, PassedText, InSection, AfterEntry, InList, InFlows, AfterFlowName, BeforeSet, InSet, AfterPre}
+use Rattle.rg_net_grammar.specs.Table.{refusal_by}
+use Rattle.rg_net_grammar.specs.declared.set_position.SetPosition.TheVariants.{FirstMember, NextMember, AfterName, AfterStar, AfterMember}
 use Rattle.rg_net_grammar.specs.Reading.{net_grammar}
 use Rattle.rg_net_grammar.specs.Text.{FirstItemFault}
-use Rattle.rg_net_grammar.specs.Contents.{Transition, Declared, declared}
+use Rattle.rg_net_grammar.specs.declared.found.Transition.{Transition}
+use Rattle.rg_net_grammar.specs.Contents.{Declared, declared}
 use Rattle.rg_netfile.specs.declared.fault.NetFault.{NetFault}
 use Rattle.rg_netfile.specs.declared.fault.NetFault.TheVariants.{NoType, TwicePlace, TooManyPlaces, TwiceTransition, TransitionsDiffer, UnknownTransition, UnknownPlace, NumberPasses, NoMemory}
 use Rattle.rg_netfile.specs.Contents.{Step, flow_of, adds, is_among, count_of, member_at, total, most_places, place_names, transition_names, steps}
@@ -35,26 +38,26 @@ no_lex_fault bytes (lex.LongName at) first e = absurd cc
 no_lex_fault bytes lex.NoMemory (pieces, rest, begins, is) e = is
 
 -- the grammar
-no_refusal : (position : Position) (kind : Kind) (at : ℕ) → refusal_by position kind at ≡ item.NoMemory → ⊥
-no_refusal section kind at e = absurd cc
-no_refusal type_name Name at e = absurd cc
-no_refusal type_name _ at e = absurd cc
-no_refusal passed_text kind at e = absurd cc
-no_refusal (in_section s) kind at e = absurd cc
-no_refusal (after_entry s) kind at e = absurd cc
-no_refusal (in_list s p) kind at e = absurd cc
-no_refusal in_flows kind at e = absurd cc
-no_refusal after_flow_name kind at e = absurd cc
-no_refusal (before_set side) kind at e = absurd cc
-no_refusal (in_set side first_member) kind at e = absurd cc
-no_refusal (in_set side next_member) kind at e = absurd cc
-no_refusal (in_set side (after_name name)) Star at e = absurd cc
-no_refusal (in_set side (after_name name)) _ at e = absurd cc
-no_refusal (in_set side (after_star number)) kind at e = absurd cc
-no_refusal (in_set side after_member) kind at e = absurd cc
-no_refusal after_pre kind at e = absurd cc
+no_refusal : (position : Position Lexeme) (kind : Kind) (at : ℕ) → refusal_by position kind at ≡ item.NoMemory → ⊥
+no_refusal Start kind at e = absurd cc
+no_refusal TypeName Name at e = absurd cc
+no_refusal TypeName _ at e = absurd cc
+no_refusal PassedText kind at e = absurd cc
+no_refusal (InSection s) kind at e = absurd cc
+no_refusal (AfterEntry s) kind at e = absurd cc
+no_refusal (InList s p) kind at e = absurd cc
+no_refusal InFlows kind at e = absurd cc
+no_refusal AfterFlowName kind at e = absurd cc
+no_refusal (BeforeSet side) kind at e = absurd cc
+no_refusal (InSet side FirstMember) kind at e = absurd cc
+no_refusal (InSet side NextMember) kind at e = absurd cc
+no_refusal (InSet side (AfterName name)) Star at e = absurd cc
+no_refusal (InSet side (AfterName name)) _ at e = absurd cc
+no_refusal (InSet side (AfterStar number)) kind at e = absurd cc
+no_refusal (InSet side AfterMember) kind at e = absurd cc
+no_refusal AfterPre kind at e = absurd cc
 
-not_refused : (position : Position) (rest : List Lexeme) (end : ℕ) (fault : ItemFault) → IsRefused net_grammar position rest end fault → fault ≡ item.NoMemory → ⊥
+not_refused : (position : Position Lexeme) (rest : List Lexeme) (end : ℕ) (fault : ItemFault) → IsRefused net_grammar position rest end fault → fault ≡ item.NoMemory → ⊥
 not_refused position [] end fault (ends, is) e = let same = sym is ∙ e in absurd cc
 not_refused position (x ∷ rest) end fault (leads, is) e = no_refusal position x.kind x.at (sym is ∙ e)
 
@@ -101,8 +104,8 @@ place_other before x e = by (list_any (λ (b : Lexeme). bytes_eq x.text b.text) 
     by false true e = absurd cc
     by false false e = absurd cc
 
-transition_other : (before : List Transition) (t : Transition) → transition_fault before t ≡ Some NoMemory → ⊥
-transition_other before t e = by (list_any (λ (b : Transition). bytes_eq t.name.text b.name.text) before) e
+transition_other : (before : List (Transition Lexeme)) (t : Transition Lexeme) → transition_fault before t ≡ Some NoMemory → ⊥
+transition_other before t e = by (list_any (λ (b : Transition Lexeme). bytes_eq t.name.text b.name.text) before) e
   where
     by : (p : Bool) → cond p (Some (TwiceTransition t.name.at)) None ≡ Some NoMemory → ⊥
     by true e = absurd cc

@@ -12,13 +12,14 @@ use Rattle.rg_theory.specs.System.{System, labels}
 use Rattle.rg_theory.specs.Net.{Place, Net}
 use Rattle.rg_lexer.specs.Lexeme.{Lexeme}
 use Rattle.rg_lexer.specs.declared.token.Kind.TheVariants.{Name}
-use Rattle.rg_net_grammar.specs.Contents.{Transition, Declared}
+use Rattle.rg_net_grammar.specs.declared.found.Transition.{Transition}
+use Rattle.rg_net_grammar.specs.Contents.{Declared, label_of}
 use Rattle.rg_netfile.specs.Contents.{taken, put, start, is_among, total, steps, have_each_once, IsPlaceOf, IsNetOf}
 use Rattle.rg_netfile.proofs.Apart.{count_no, count_one, count_some}
 
 -- the transitions with a label
-abbrev has_label : List ℕ → Transition → Bool
-has_label label t = bytes_eq label t.label
+abbrev has_label : List ℕ → Transition Lexeme → Bool
+has_label label t = bytes_eq label (label_of t)
 
 and_right : (a b : Bool) → (a && b) ≡ true → b ≡ true
 and_right true b e = e
@@ -28,7 +29,7 @@ and_right false b e = absurd cc
 one_with : (lts : System) (d : Declared) → have_each_once lts.label_names d.transitions ≡ true → (k : ℕ) (label : List ℕ) → slice_get lts.label_names k ≡ Some label
     → count_by (has_label label) d.transitions ≡ 1
 one_with lts d once k label at =
-    let each = and_right (list_all (λ (t : Transition). is_among lts.label_names t.label) d.transitions)
+    let each = and_right (list_all (λ (t : Transition Lexeme). is_among lts.label_names (label_of t)) d.transitions)
     (list_all (λ l. count_by (has_label l) d.transitions == 1) lts.label_names) once in
     let here = AllPass-from_list_all (λ l. count_by (has_label l) d.transitions == 1) lts.label_names each k label (slice_get_within lts.label_names k label at) in
     eqb-true (count_by (has_label label) d.transitions) 1
@@ -46,12 +47,12 @@ same_place lts d once name p q x y v w =
     let post = same_numbers (labels lts) p.post q.post v.1 w.1 (λ k lt. let t = one k lt in x.puts t.0 k t.1 t.2 t.3 ∙ sym (y.puts t.0 k t.1 t.2 t.3)) in
     λ i. record { start = starts i; pre = pre i; post = post i }
   where
-    one : (k : ℕ) → k < labels lts → (i : ℕ) × (t : Transition) × (slice_get d.transitions i ≡ Some t) × (slice_get lts.label_names k ≡ Some t.label)
+    one : (k : ℕ) → k < labels lts → (i : ℕ) × (t : Transition Lexeme) × (slice_get d.transitions i ≡ Some t) × (slice_get lts.label_names k ≡ Some (label_of t))
     one k lt =
         let label = get_or lts.label_names k [] in
         let at = slice_get-get_or lts.label_names k [] lt in
         let t = count_some (has_label label) d.transitions (one_with lts d once k label at) in
-        (t.0, t.1, t.2, at ∙ ap Some ((bytes_eq-Decides label t.1.label).0 t.3))
+        (t.0, t.1, t.2, at ∙ ap Some ((bytes_eq-Decides label (label_of t.1)).0 t.3))
 
 no_place : Place
 no_place = record { start = 0; pre = []; post = [] }
@@ -76,11 +77,11 @@ one_net lts d once a b x y =
     no_lexeme = record { kind = Name; at = 0; text = [] }
 
 -- the first transition with a label
-first_name : List ℕ → List Transition → List ℕ
+first_name : List ℕ → List (Transition Lexeme) → List ℕ
 first_name label [] = []
 first_name label (t ∷ transitions) = cond (has_label label t) t.name.text (first_name label transitions)
 
-first_is : (label : List ℕ) (transitions : List Transition) (i : ℕ) (t : Transition) → count_by (has_label label) transitions ≡ 1 → slice_get transitions i ≡ Some t
+first_is : (label : List ℕ) (transitions : List (Transition Lexeme)) (i : ℕ) (t : Transition Lexeme) → count_by (has_label label) transitions ≡ 1 → slice_get transitions i ≡ Some t
     → has_label label t ≡ true → first_name label transitions ≡ t.name.text
 unfolding first_name
 first_is label [] i t one at has = absurd cc
@@ -89,7 +90,7 @@ first_is label (s ∷ transitions) i t one at has = by (has_label label s) refl 
     by : (b : Bool) → has_label label s ≡ b → (i : ℕ) → slice_get (s ∷ transitions) i ≡ Some t
         → ((j : ℕ) → count_by (has_label label) transitions ≡ 1 → slice_get transitions j ≡ Some t → first_name label transitions ≡ t.name.text)
         → cond (has_label label s) s.name.text (first_name label transitions) ≡ t.name.text
-    by true e zero at more = let same : s ≡ t = cc in cond-true (has_label label s) s.name.text (first_name label transitions) e ∙ ap (λ (u : Transition). u.name.text) same
+    by true e zero at more = let same : s ≡ t = cc in cond-true (has_label label s) s.name.text (first_name label transitions) e ∙ ap (λ (u : Transition Lexeme). u.name.text) same
     by true e (suc j) at more = let none = count_one (has_label label) (s ∷ transitions) zero (suc j) s t one refl e at has in absurd (omega arith)
     by false e zero at more = let same : s ≡ t = cc in absurd (both_ways (has_label label s) e (ap (has_label label) same ∙ has))
     by false e (suc j) at more =
@@ -113,15 +114,15 @@ unfolding place_for
 is_place_for lts d once x = record {
   starts = refl;
   takes = λ i k t at label.
-      number_for (λ l. total (taken (first_name l d.transitions)) x.text (steps d)) lts.label_names k t.label label
+      number_for (λ l. total (taken (first_name l d.transitions)) x.text (steps d)) lts.label_names k (label_of t) label
       ∙ ap (λ n. total (taken n) x.text (steps d)) (named i k t at label);
   puts = λ i k t at label.
-      number_for (λ l. total (put (first_name l d.transitions)) x.text (steps d)) lts.label_names k t.label label
+      number_for (λ l. total (put (first_name l d.transitions)) x.text (steps d)) lts.label_names k (label_of t) label
       ∙ ap (λ n. total (put n) x.text (steps d)) (named i k t at label);
 }
   where
-    named : (i k : ℕ) (t : Transition) → slice_get d.transitions i ≡ Some t → slice_get lts.label_names k ≡ Some t.label → first_name t.label d.transitions ≡ t.name.text
-    named i k t at label = first_is t.label d.transitions i t (one_with lts d once k t.label label) at ((bytes_eq-Decides t.label t.label).1 refl)
+    named : (i k : ℕ) (t : Transition Lexeme) → slice_get d.transitions i ≡ Some t → slice_get lts.label_names k ≡ Some (label_of t) → first_name (label_of t) d.transitions ≡ t.name.text
+    named i k t at label = first_is (label_of t) d.transitions i t (one_with lts d once k (label_of t) label) at ((bytes_eq-Decides (label_of t) (label_of t)).1 refl)
 
 weights_for : (lts : System) (d : Declared) (x : Lexeme) → (length (place_for lts d x).pre ≡ labels lts) × (length (place_for lts d x).post ≡ labels lts)
 unfolding place_for

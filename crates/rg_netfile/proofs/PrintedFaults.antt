@@ -10,7 +10,8 @@ use Rattle.std.proofs.lemmas.Slice.Eq.{bytes_eq-Decides}
 use Rattle.rg_lexer.specs.Lexeme.{Lexeme}
 use Rattle.rg_text.specs.Faults.{faults_after, AreNone}
 use Rattle.rg_integers.specs.Range.{greatest}
-use Rattle.rg_net_grammar.specs.Contents.{Transition}
+use Rattle.rg_net_grammar.specs.declared.found.Transition.{Transition}
+use Rattle.rg_net_grammar.specs.Contents.{label_of}
 use Rattle.rg_netfile.specs.Contents.{most_places, place_fault, transition_fault, is_among, have_each_once, Step, flow_of, adds, added, total, step_fault}
 use Rattle.rg_netfile.specs.Built.{AreApart}
 use Rattle.rg_netfile.proofs.NameTests.{there, among_true}
@@ -48,7 +49,7 @@ places_none before (x ∷ xs) apart few =
     (places_none (before ++ x ∷ []) xs (subst (λ l. AreApart (map text_of l)) (sym (append_assoc before (x ∷ []) xs)) apart)
     (subst (λ l. length l ≤ most_places) (sym (append_assoc before (x ∷ []) xs)) few))
 
-pub transitions_none : (before ts : List Transition) → AreApart (map name_of (before ++ ts)) → AreNone (faults_after transition_fault before ts)
+pub transitions_none : (before ts : List (Transition Lexeme)) → AreApart (map name_of (before ++ ts)) → AreNone (faults_after transition_fault before ts)
 transitions_none before [] apart = tt
 transitions_none before (t ∷ ts) apart =
     head_none (transition_fault before t) (faults_after transition_fault (before ++ t ∷ []) ts)
@@ -56,26 +57,22 @@ transitions_none before (t ∷ ts) apart =
     (not_before (map name_of before) t.name.text (map name_of ts) (subst AreApart (map-append name_of before (t ∷ ts)) apart)))
     (transitions_none (before ++ t ∷ []) ts (subst (λ l. AreApart (map name_of l)) (sym (append_assoc before (t ∷ []) ts)) apart))
 
--- the labels of the transitions
-abbrev pub label_of : Transition → List ℕ
-label_of t = t.label
+abbrev has_label : List ℕ → Transition Lexeme → Bool
+has_label label t = bytes_eq label (label_of t)
 
-abbrev has_label : List ℕ → Transition → Bool
-has_label label t = bytes_eq label t.label
-
-count_zero : (label : List ℕ) (ts : List Transition) → (Contains (map label_of ts) label → ⊥) → count_by (has_label label) ts ≡ 0
+count_zero : (label : List ℕ) (ts : List (Transition Lexeme)) → (Contains (map label_of ts) label → ⊥) → count_by (has_label label) ts ≡ 0
 count_zero label [] absent = refl
 count_zero label (t ∷ ts) absent =
-    let no = count_no (has_label label) t ts (false_from_ne_true (bytes_eq label t.label) (λ e. absent (0, omega arith, sym ((bytes_eq-Decides label t.label).0 e)))) in
+    let no = count_no (has_label label) t ts (false_from_ne_true (bytes_eq label (label_of t)) (λ e. absent (0, omega arith, sym ((bytes_eq-Decides label (label_of t)).0 e)))) in
     let more = count_zero label ts (λ (k, lt, e). absent (suc k, omega arith, e)) in
     omega (arith, no, more)
 
-count_label : (ts : List Transition) → AreApart (map label_of ts) → (k : ℕ) (label : List ℕ) → slice_get (map label_of ts) k ≡ Some label
+count_label : (ts : List (Transition Lexeme)) → AreApart (map label_of ts) → (k : ℕ) (label : List ℕ) → slice_get (map label_of ts) k ≡ Some label
     → count_by (has_label label) ts ≡ 1
 count_label [] apart k label at = absurd cc
 count_label (t ∷ ts) apart zero label at =
-    let same : t.label ≡ label = cc in
-    let yes = count_yes (has_label label) t ts ((bytes_eq-Decides label t.label).1 (sym same)) in
+    let same : label_of t ≡ label = cc in
+    let yes = count_yes (has_label label) t ts ((bytes_eq-Decides label (label_of t)).1 (sym same)) in
     let none = count_zero label ts (λ has. not_before [] label (map label_of ts) (subst (λ l. AreApart (l ∷ map label_of ts)) same apart) (later has)) in
     omega (arith, yes, none)
   where
@@ -84,21 +81,21 @@ count_label (t ∷ ts) apart zero label at =
       where
         head_not : Contains (map label_of ts) label → ⊥
         head_not (j, lt, e) =
-            let same : t.label ≡ label = cc in
+            let same : label_of t ≡ label = cc in
             let clash = apart.same 0 (suc j) label (ap Some same) (slice_get-get_or (map label_of ts) j label lt ∙ ap Some e) in
             omega arith
 count_label (t ∷ ts) apart (suc k) label at =
-    let no = count_no (has_label label) t ts (false_from_ne_true (bytes_eq label t.label)
-    (λ e. let clash = apart.same 0 (suc k) label (ap Some (sym ((bytes_eq-Decides label t.label).0 e))) at in omega arith)) in
-    let more = count_label ts (apart_tail t.label (map label_of ts) apart) k label at in
+    let no = count_no (has_label label) t ts (false_from_ne_true (bytes_eq label (label_of t))
+    (λ e. let clash = apart.same 0 (suc k) label (ap Some (sym ((bytes_eq-Decides label (label_of t)).0 e))) at in omega arith)) in
+    let more = count_label ts (apart_tail (label_of t) (map label_of ts) apart) k label at in
     omega (arith, no, more)
 
-pub once : (names : List (List ℕ)) (ts : List Transition) → map label_of ts ≡ names → AreApart names → have_each_once names ts ≡ true
+pub once : (names : List (List ℕ)) (ts : List (Transition Lexeme)) → map label_of ts ≡ names → AreApart names → have_each_once names ts ≡ true
 once names ts is apart =
     ap (λ b. b && list_all (λ label. count_by (has_label label) ts == 1) names)
-    (list_all-from_AllPass (λ (t : Transition). is_among names t.label) ts (λ k d lt.
+    (list_all-from_AllPass (λ (t : Transition Lexeme). is_among names (label_of t)) ts (λ k d lt.
     let t = get_or ts k d in
-    among_true names t.label (there names k t.label
+    among_true names (label_of t) (there names k (label_of t)
     (ap (λ l. slice_get l k) (sym is) ∙ slice_get-map label_of ts k ∙ ap (λ o. option_map label_of o) (slice_get-get_or ts k d lt)))))
     ∙ list_all-from_AllPass (λ label. count_by (has_label label) ts == 1) names (λ k d lt.
     let label = get_or names k d in

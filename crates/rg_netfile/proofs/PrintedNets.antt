@@ -15,8 +15,10 @@ use Rattle.rg_text.proofs.Left.{none_joined}
 use Rattle.rg_net.specs.Range.{IsNetInRange, IsPlaceInRange}
 use Rattle.rg_integers.specs.Range.{greatest}
 use Rattle.rg_net.specs.NetText.{place_name, taken_by, put_by, starts}
-use Rattle.rg_net_grammar.specs.Item.{Member, Flow}
-use Rattle.rg_net_grammar.specs.Contents.{Transition, Declared}
+use Rattle.rg_net_grammar.specs.declared.found.Member.{Member}
+use Rattle.rg_net_grammar.specs.Item.{Flow}
+use Rattle.rg_net_grammar.specs.declared.found.Transition.{Transition}
+use Rattle.rg_net_grammar.specs.Contents.{Declared, label_of}
 use Rattle.rg_netfile.specs.declared.fault.NetFault.TheVariants.{NoType, TransitionsDiffer}
 use Rattle.rg_netfile.specs.Contents.{most_places, place_names, transition_names, place_fault, transition_fault, have_each_once, step_fault, Cell, taken, put, start, Step, adds, steps_of_flow, steps, total, faults, IsNetOf}
 use Rattle.rg_netfile.specs.Built.{AreApart}
@@ -27,7 +29,7 @@ use Rattle.rg_netfile.proofs.PlaceNames.{one_place}
 use Rattle.rg_netfile.proofs.SetTexts.{AreMembers}
 use Rattle.rg_netfile.proofs.NetTexts.{AreFlows}
 use Rattle.rg_netfile.proofs.PrintedSums.{all_starts, all_taken, all_put}
-use Rattle.rg_netfile.proofs.PrintedFaults.{places_none, transitions_none, label_of, once, IsFine, Each, each_joined, steps_none}
+use Rattle.rg_netfile.proofs.PrintedFaults.{places_none, transitions_none, once, IsFine, Each, each_joined, steps_none}
 
 -- what the text of a net declares
 pub record Declares (q : List ℕ) (lts : System) (net : Net) (d : Declared) : Type 0 where
@@ -68,7 +70,7 @@ names_apart q n small = record {
 }
 
 -- members of places that there are, in a cell where no place has too much
-each_member : (q : List ℕ) (places transitions : List (List ℕ)) (all : List Step) (cell : Cell) (n i : ℕ) (ws : List ℕ) (ms : List Member) → AreMembers q i ws ms → i + length ws ≤ n
+each_member : (q : List ℕ) (places transitions : List (List ℕ)) (all : List Step) (cell : Cell) (n i : ℕ) (ws : List ℕ) (ms : List (Member Lexeme)) → AreMembers q i ws ms → i + length ws ≤ n
     → ((j : ℕ) → j < n → Contains places (place_name q j) × (total cell (place_name q j) all ≤ greatest))
     → Each (IsFine places transitions all) (map (adds cell) ms)
 each_member q places transitions all cell n i [] ms are few fine = subst (λ l. Each (IsFine places transitions all) (map (adds cell) l)) (sym are) tt
@@ -210,18 +212,18 @@ module _ (q : List ℕ) (lts : System) (net : Net) (d : Declared) (formed : IsWe
           starts = sym (ap (λ n. total start n (steps d)) name.1 ∙ sum_start i name.0 ∙ get_or-map (λ (r : Place). r.start) net.places i no_place 0 name.0
               ∙ ap (λ (r : Place). r.start) read);
           takes = λ j k t there_t label_t. sym (
-              ap (λ n. total (taken n) x.text (steps d)) (own j t there_t) ∙ ap (λ n. total (taken t.label) n (steps d)) name.1
-              ∙ sum_taken i name.0 k t.label label_t ∙ get_or-map (λ (r : Place). pre_weight r k) net.places i no_place 0 name.0 ∙ ap (λ (r : Place). pre_weight r k) read);
+              ap (λ n. total (taken n) x.text (steps d)) (own j t there_t) ∙ ap (λ n. total (taken (label_of t)) n (steps d)) name.1
+              ∙ sum_taken i name.0 k (label_of t) label_t ∙ get_or-map (λ (r : Place). pre_weight r k) net.places i no_place 0 name.0 ∙ ap (λ (r : Place). pre_weight r k) read);
           puts = λ j k t there_t label_t. sym (
-              ap (λ n. total (put n) x.text (steps d)) (own j t there_t) ∙ ap (λ n. total (put t.label) n (steps d)) name.1
-              ∙ sum_put i name.0 k t.label label_t ∙ get_or-map (λ (r : Place). post_weight r k) net.places i no_place 0 name.0 ∙ ap (λ (r : Place). post_weight r k) read);
+              ap (λ n. total (put n) x.text (steps d)) (own j t there_t) ∙ ap (λ n. total (put (label_of t)) n (steps d)) name.1
+              ∙ sum_put i name.0 k (label_of t) label_t ∙ get_or-map (λ (r : Place). post_weight r k) net.places i no_place 0 name.0 ∙ ap (λ (r : Place). post_weight r k) read);
         };
   }
     where
       some_text : (a b : List ℕ) → Some a ≡ Some b → a ≡ b
       some_text a b e = cc
 
-      own : (j : ℕ) (t : Transition) → slice_get d.transitions j ≡ Some t → t.name.text ≡ t.label
-      own j t at = some_text t.name.text t.label
-          (sym (ap (λ o. option_map (λ (s : Transition). s.name.text) o) at) ∙ sym (slice_get-map (λ (s : Transition). s.name.text) d.transitions j)
+      own : (j : ℕ) (t : Transition Lexeme) → slice_get d.transitions j ≡ Some t → t.name.text ≡ label_of t
+      own j t at = some_text t.name.text (label_of t)
+          (sym (ap (λ o. option_map (λ (s : Transition Lexeme). s.name.text) o) at) ∙ sym (slice_get-map (λ (s : Transition Lexeme). s.name.text) d.transitions j)
           ∙ ap (λ l. slice_get l j) (declares.names ∙ sym declares.own_labels) ∙ slice_get-map label_of d.transitions j ∙ ap (λ o. option_map label_of o) at)

@@ -8,9 +8,11 @@ use Rattle.std.proofs.lemmas.List.Sums.{sum_by-cons, sum_by-append}
 use Rattle.std.proofs.lemmas.Slice.Eq.{bytes_eq-Decides}
 use Rattle.std.proofs.lemmas.List.{length-map}
 use Rattle.std.proofs.lemmas.Option.{slice_get-get_or}
+use Rattle.rg_lexer.specs.Lexeme.{Lexeme}
 use Rattle.rg_theory.specs.Net.{Net, pre_weight, post_weight}
 use Rattle.rg_net.specs.NetText.{place_name, taken_by, put_by, starts}
-use Rattle.rg_net_grammar.specs.Item.{Member, Flow}
+use Rattle.rg_net_grammar.specs.declared.found.Member.{Member}
+use Rattle.rg_net_grammar.specs.Item.{Flow}
 use Rattle.rg_netfile.specs.Contents.{Cell, taken, put, start, same_cell, flow_of, adds, steps_of_flow, added, total, count_of}
 use Rattle.rg_netfile.specs.Built.{AreApart}
 use Rattle.rg_netfile.proofs.NameTests.{there}
@@ -20,18 +22,18 @@ use Rattle.rg_netfile.proofs.SetTexts.{AreMembers}
 use Rattle.rg_netfile.proofs.NetTexts.{AreFlows}
 
 -- how many tokens of a place the members stand for
-abbrev pub counted : List ℕ → Member → ℕ
+abbrev pub counted : List ℕ → Member Lexeme → ℕ
 counted name m = cond (bytes_eq name m.place.text) (count_of m.number) 0
 
-abbrev pub members_sum : List ℕ → List Member → ℕ
+abbrev pub members_sum : List ℕ → List (Member Lexeme) → ℕ
 members_sum name ms = sum_by (counted name) ms
 
-here_counts : (name : List ℕ) (m : Member) (more : List Member) → m.place.text ≡ name → members_sum name (m ∷ more) ≡ count_of m.number + members_sum name more
+here_counts : (name : List ℕ) (m : Member Lexeme) (more : List (Member Lexeme)) → m.place.text ≡ name → members_sum name (m ∷ more) ≡ count_of m.number + members_sum name more
 here_counts name m more same =
     sum_by-cons (counted name) m more
     ∙ ap (λ n. n + members_sum name more) (cond-true (bytes_eq name m.place.text) (count_of m.number) 0 ((bytes_eq-Decides name m.place.text).1 (sym same)))
 
-other_counts : (name : List ℕ) (m : Member) (more : List Member) → (name ≡ m.place.text → ⊥) → members_sum name (m ∷ more) ≡ members_sum name more
+other_counts : (name : List ℕ) (m : Member Lexeme) (more : List (Member Lexeme)) → (name ≡ m.place.text → ⊥) → members_sum name (m ∷ more) ≡ members_sum name more
 other_counts name m more ne =
     sum_by-cons (counted name) m more
     ∙ ap (λ n. n + members_sum name more)
@@ -39,7 +41,7 @@ other_counts name m more ne =
     (false_from_ne_true (bytes_eq name m.place.text) (λ e. ne ((bytes_eq-Decides name m.place.text).0 e)))) ∙ omega arith
 
 -- a place before all of them isn't counted
-sum_before : (q : List ℕ) (i : ℕ) (ws : List ℕ) (ms : List Member) (j : ℕ) → AreMembers q i ws ms → j < i → i + length ws < 10 ^ 64 → members_sum (place_name q j) ms ≡ 0
+sum_before : (q : List ℕ) (i : ℕ) (ws : List ℕ) (ms : List (Member Lexeme)) (j : ℕ) → AreMembers q i ws ms → j < i → i + length ws < 10 ^ 64 → members_sum (place_name q j) ms ≡ 0
 sum_before q i [] ms j are lt small = ap (members_sum (place_name q j)) are
 sum_before q i (w ∷ ws) ms j (inl skip) lt small = sum_before q (i + 1) ws ms j skip.1 (omega arith) (omega arith)
 sum_before q i (w ∷ ws) ms j (inr (m, more, is, text, count, rest)) lt small =
@@ -47,7 +49,7 @@ sum_before q i (w ∷ ws) ms j (inr (m, more, is, text, count, rest)) lt small =
     ∙ other_counts (place_name q j) m more (λ same. let e = one_place q j i (omega arith) (omega arith) (same ∙ text) in omega arith)
     ∙ sum_before q (i + 1) ws more j rest (omega arith) (omega arith)
 
-pub members_weight : (q : List ℕ) (i : ℕ) (ws : List ℕ) (ms : List Member) (k : ℕ) → AreMembers q i ws ms → i + length ws < 10 ^ 64 → i + k < 10 ^ 64
+pub members_weight : (q : List ℕ) (i : ℕ) (ws : List ℕ) (ms : List (Member Lexeme)) (k : ℕ) → AreMembers q i ws ms → i + length ws < 10 ^ 64 → i + k < 10 ^ 64
     → members_sum (place_name q (i + k)) ms ≡ get_or ws k 0
 members_weight q i [] ms k are small lt = ap (members_sum (place_name q (i + k))) are
 members_weight q i (w ∷ ws) ms zero (inl skip) small lt =
@@ -66,13 +68,13 @@ members_weight q i (w ∷ ws) ms (suc k) (inr (m, more, is, text, count, rest)) 
     ∙ ap (λ n. members_sum (place_name q n) more) same ∙ members_weight q (i + 1) ws more k rest (omega arith) (omega arith)
 
 -- the members' steps
-added_in : (cell c : Cell) (name : List ℕ) (m : Member) → same_cell cell c ≡ true → added cell name (adds c m) ≡ counted name m
+added_in : (cell c : Cell) (name : List ℕ) (m : Member Lexeme) → same_cell cell c ≡ true → added cell name (adds c m) ≡ counted name m
 added_in cell c name m e = ap (λ b. cond (b && bytes_eq name m.place.text) (count_of m.number) 0) e
 
-added_out : (cell c : Cell) (name : List ℕ) (m : Member) → same_cell cell c ≡ false → added cell name (adds c m) ≡ 0
+added_out : (cell c : Cell) (name : List ℕ) (m : Member Lexeme) → same_cell cell c ≡ false → added cell name (adds c m) ≡ 0
 added_out cell c name m e = ap (λ b. cond (b && bytes_eq name m.place.text) (count_of m.number) 0) e
 
-pub total_in : (cell c : Cell) (name : List ℕ) (ms : List Member) → same_cell cell c ≡ true → total cell name (map (adds c) ms) ≡ members_sum name ms
+pub total_in : (cell c : Cell) (name : List ℕ) (ms : List (Member Lexeme)) → same_cell cell c ≡ true → total cell name (map (adds c) ms) ≡ members_sum name ms
 total_in cell c name [] e = refl
 total_in cell c name (m ∷ ms) e =
     let first = sum_by-cons (added cell name) (adds c m) (map (adds c) ms) in
@@ -81,7 +83,7 @@ total_in cell c name (m ∷ ms) e =
     let more = total_in cell c name ms e in
     omega (arith, first, second, one, more)
 
-pub total_out : (cell c : Cell) (name : List ℕ) (ms : List Member) → same_cell cell c ≡ false → total cell name (map (adds c) ms) ≡ 0
+pub total_out : (cell c : Cell) (name : List ℕ) (ms : List (Member Lexeme)) → same_cell cell c ≡ false → total cell name (map (adds c) ms) ≡ 0
 total_out cell c name [] e = refl
 total_out cell c name (m ∷ ms) e =
     let first = sum_by-cons (added cell name) (adds c m) (map (adds c) ms) in
@@ -168,7 +170,7 @@ flows_starts q net name t (n ∷ names) fs (f, more, is, text, pre, post, rest) 
     let later = flows_starts q net name (t + 1) names more rest in
     ap (λ l. total start name (flat_map steps_of_flow l)) is ∙ flows_cons start name f more ∙ omega (arith, here, later)
 
-flows_at : (cell : List ℕ → Cell) (weights : ℕ → List ℕ) (part : Flow → List Member) (q : List ℕ) (net : Net) (j : ℕ) (label : List ℕ)
+flows_at : (cell : List ℕ → Cell) (weights : ℕ → List ℕ) (part : Flow → List (Member Lexeme)) (q : List ℕ) (net : Net) (j : ℕ) (label : List ℕ)
     → ((f : Flow) → label ≡ f.name.text → total (cell label) (place_name q j) (steps_of_flow f) ≡ members_sum (place_name q j) (part f))
     → ((f : Flow) → (label ≡ f.name.text → ⊥) → total (cell label) (place_name q j) (steps_of_flow f) ≡ 0)
     → ((t : ℕ) (f : Flow) → AreMembers q 0 (taken_by net t) f.pre → AreMembers q 0 (put_by net t) f.post → members_sum (place_name q j) (part f) ≡ get_or (weights t) j 0)
@@ -192,7 +194,7 @@ flows_at cell weights part q net j label inside beside weigh t (n ∷ names) fs 
 -- what all flows add up to
 module _ (q : List ℕ) (net : Net) (j : ℕ) (small : j < 10 ^ 64) (few : length net.places < 10 ^ 64) (names : List (List ℕ)) (fs : List Flow)
     (are : AreFlows q net 0 names fs) (apart : AreApart names) where
-  weigh_in : (ws : List ℕ) (ms : List Member) → length ws ≡ length net.places → AreMembers q 0 ws ms → members_sum (place_name q j) ms ≡ get_or ws j 0
+  weigh_in : (ws : List ℕ) (ms : List (Member Lexeme)) → length ws ≡ length net.places → AreMembers q 0 ws ms → members_sum (place_name q j) ms ≡ get_or ws j 0
   weigh_in ws ms long members =
       let same : 0 + j ≡ j = omega arith in
       ap (λ n. members_sum (place_name q n) ms) (sym same) ∙ members_weight q 0 ws ms j members (omega arith) (omega arith)
@@ -212,7 +214,7 @@ module _ (q : List ℕ) (net : Net) (j : ℕ) (small : j < 10 ^ 64) (few : lengt
       ∙ ap (λ u. get_or (put_by net u) j 0) same
 
   -- and with the marking
-  module _ (ms : List Member) (marking : AreMembers q 0 (starts net) ms) where
+  module _ (ms : List (Member Lexeme)) (marking : AreMembers q 0 (starts net) ms) where
     pub all_starts : total start (place_name q j) (flat_map steps_of_flow fs ++ map (adds start) ms) ≡ get_or (starts net) j 0
     all_starts =
         let none = flows_starts q net (place_name q j) 0 names fs are in

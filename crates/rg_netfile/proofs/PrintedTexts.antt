@@ -1,5 +1,5 @@
 -- The text of a net spells that net.
-use Rattle.std.proofs.Common.{◌≡◌, ℕ, zero, suc, ◌<◌, ◌≤◌, ◌^◌, ◌⊎◌, inl, inr, true, List, [], ◌∷◌, ◌++◌, length, map, codes, get_or, All, refl, sym, ap, subst, ◌∙◌, arith, append-nil}
+use Rattle.std.proofs.Common.{◌≡◌, ℕ, zero, suc, ◌<◌, ◌≤◌, ◌^◌, ◌⊎◌, inl, inr, true, List, [], ◌∷◌, ◌++◌, length, map, None, codes, get_or, All, refl, sym, ap, subst, ◌∙◌, arith, append-nil}
 use Rattle.std.specs.List.{range_with_len}
 use Rattle.std.proofs.lemmas.List.{length-map}
 use Rattle.std.proofs.lemmas.List.FromFn.{get_or-map-range_with_len, length-range_with_len}
@@ -18,30 +18,30 @@ use Rattle.rg_integers.specs.Range.{greatest}
 use Rattle.rg_net.specs.NetText.{place_name, place_prefix, net_text}
 use Rattle.rg_net_grammar.specs.Item.{Item, AreItems}
 use Rattle.rg_net_grammar.specs.Item as item
-use Rattle.rg_net_grammar.specs.Contents.{Transition, Declared, declared, label_of as label_by, first_label}
+use Rattle.rg_net_grammar.specs.declared.found.Transition.{Transition}
+use Rattle.rg_net_grammar.specs.Contents.{Declared, declared, first_label, label_of}
 use Rattle.rg_netfile.specs.Contents.{most_places}
 use Rattle.rg_netfile.specs.Spells.{Spells}
 use Rattle.rg_netfile.proofs.PlaceNames.{prefix_is, place_name_is}
 use Rattle.rg_netfile.proofs.NetTexts.{IsPrintable, TypeSection, typed_lines, reads_net}
-use Rattle.rg_netfile.proofs.PrintedFaults.{label_of}
 use Rattle.rg_netfile.proofs.PrintedNets.{Declares, names_of, declares_none, declares_net}
 
-abbrev transition_of : Entry → Transition
-transition_of e = record { name = e.name; label = label_by e.name (first_label e.settings) }
+abbrev transition_of : Entry → Transition Lexeme
+transition_of e = record { name = e.name; label = first_label e.settings }
 
 bare_names : (xs : List Lexeme) → map (λ (e : Entry). e.name) (map bare xs) ≡ xs
 bare_names [] = refl
 bare_names (x ∷ xs) = ap (λ l. x ∷ l) (bare_names xs)
 
 -- a transition without options has its own name as its label
-abbrev plain : Lexeme → Transition
-plain x = record { name = x; label = x.text }
+abbrev plain : Lexeme → Transition Lexeme
+plain x = record { name = x; label = None }
 
 bare_transitions : (xs : List Lexeme) → map transition_of (map bare xs) ≡ map plain xs
 bare_transitions [] = refl
 bare_transitions (x ∷ xs) = ap (λ l. plain x ∷ l) (bare_transitions xs)
 
-plain_names : (xs : List Lexeme) → map (λ (t : Transition). t.name.text) (map plain xs) ≡ map lexeme_text xs
+plain_names : (xs : List Lexeme) → map (λ (t : Transition Lexeme). t.name.text) (map plain xs) ≡ map lexeme_text xs
 plain_names [] = refl
 plain_names (x ∷ xs) = ap (λ l. x.text ∷ l) (plain_names xs)
 

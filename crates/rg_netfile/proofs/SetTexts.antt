@@ -12,20 +12,21 @@ use Rattle.rg_lexer.proofs.Printed.{Reads, Then, reads_same, reads_more, reads_t
 use Rattle.rg_grammar.specs.Entry.{AreSeparated}
 use Rattle.rg_netfile.proofs.Decimals.{decimal_digits, decimal_name}
 use Rattle.rg_net.specs.NetText.{place_name, member_text, members_text, set_text}
-use Rattle.rg_net_grammar.specs.Item.{Member, IsMember, IsSet}
+use Rattle.rg_net_grammar.specs.declared.found.Member.{Member}
+use Rattle.rg_net_grammar.specs.Item.{IsMember, IsSet}
 use Rattle.rg_netfile.specs.Contents.{count_of}
 use Rattle.rg_netfile.proofs.PlaceNames.{IsPrefix, place_name_is, decimal_value}
 
 -- these are the members of the set of these weights, of which the first is that of place i
-abbrev pub AreMembers : List ℕ → ℕ → List ℕ → List Member → Type 0
+abbrev pub AreMembers : List ℕ → ℕ → List ℕ → List (Member Lexeme) → Type 0
 AreMembers q i [] ms = ms ≡ []
 AreMembers q i (w ∷ ws) ms =
     ((w ≡ 0) × AreMembers q (i + 1) ws ms)
-    ⊎ ((m : Member) × (more : List Member) × (ms ≡ m ∷ more) × (m.place.text ≡ place_name q i) × (count_of m.number ≡ w) × AreMembers q (i + 1) ws more)
+    ⊎ ((m : Member Lexeme) × (more : List (Member Lexeme)) × (ms ≡ m ∷ more) × (m.place.text ≡ place_name q i) × (count_of m.number ≡ w) × AreMembers q (i + 1) ws more)
 
 -- a member of so many, and then tokens of which P holds
 pub record MemberThen (name : List ℕ) (w : ℕ) (P : List Lexeme → Type 0) (xs : List Lexeme) : Type 0 where
-  pub member : Member
+  pub member : Member Lexeme
   pub front : List Lexeme
   pub others : List Lexeme
   pub is : IsMember member front
@@ -84,12 +85,12 @@ reads_member q i w text P prefix lt small stops reads = by (w == 1) refl
         (reads_token Name (place_name q i) text P (place_name_is q i prefix lt) stops reads))))
 
 -- members, each after a comma
-abbrev AreTail : List Member → List Lexeme → Type 0
+abbrev AreTail : List (Member Lexeme) → List Lexeme → Type 0
 AreTail [] xs = xs ≡ []
 AreTail (m ∷ more) xs = (comma : Lexeme) × (front : List Lexeme) × (rest : List Lexeme) × (comma.kind ≡ Comma) × IsMember m front × AreTail more rest
     × (xs ≡ comma ∷ (front ++ rest))
 
-separated_from : (m : Member) (more : List Member) (front rest : List Lexeme) → IsMember m front → AreTail more rest
+separated_from : (m : Member Lexeme) (more : List (Member Lexeme)) (front rest : List Lexeme) → IsMember m front → AreTail more rest
     → AreSeparated IsMember (m ∷ more) (front ++ rest)
 separated_from m [] front rest is tail = subst (IsMember m) (sym (ap (λ l. front ++ l) tail ∙ append-nil front)) is
 separated_from m (n ∷ more) front rest is (comma, after, others, kind, is', tail, whole) =
@@ -97,7 +98,7 @@ separated_from m (n ∷ more) front rest is (comma, after, others, kind, is', ta
 
 -- the members from place i on, the closing brace, and then tokens of which P holds
 pub record TailThen (q : List ℕ) (i : ℕ) (ws : List ℕ) (P : List Lexeme → Type 0) (xs : List Lexeme) : Type 0 where
-  pub members : List Member
+  pub members : List (Member Lexeme)
   pub inner : List Lexeme
   pub right : Lexeme
   pub others : List Lexeme
@@ -108,7 +109,7 @@ pub record TailThen (q : List ℕ) (i : ℕ) (ws : List ℕ) (P : List Lexeme �
   pub whole : xs ≡ inner ++ right ∷ others
 
 pub record InnerThen (q : List ℕ) (i : ℕ) (ws : List ℕ) (P : List Lexeme → Type 0) (xs : List Lexeme) : Type 0 where
-  pub members : List Member
+  pub members : List (Member Lexeme)
   pub inner : List Lexeme
   pub right : Lexeme
   pub others : List Lexeme
@@ -234,7 +235,7 @@ reads_inner q i (w ∷ ws) text P prefix lt small reads =
 
 -- a set, and then tokens of which P holds
 pub record SetThen (q : List ℕ) (ws : List ℕ) (P : List Lexeme → Type 0) (xs : List Lexeme) : Type 0 where
-  pub members : List Member
+  pub members : List (Member Lexeme)
   pub front : List Lexeme
   pub others : List Lexeme
   pub are : AreMembers q 0 ws members

@@ -10,7 +10,8 @@ use Rattle.rg_theory.specs.Net.{Net, HasAllWeights, IsPlaceAt}
 use Rattle.rg_lexer.specs.Lexeme.{Lexeme}
 use Rattle.rg_lts.specs.WellFormed.{IsWellFormed}
 use Rattle.rg_text.specs.Faults.{if_not, IsFirst, AreNone}
-use Rattle.rg_net_grammar.specs.Contents.{Transition, Declared}
+use Rattle.rg_net_grammar.specs.declared.found.Transition.{Transition}
+use Rattle.rg_net_grammar.specs.Contents.{Declared, label_of}
 use Rattle.rg_netfile.specs.declared.fault.NetFault.{NetFault}
 use Rattle.rg_netfile.specs.declared.slot.Slot.{Slot}
 use Rattle.rg_netfile.specs.declared.slot.Slot.TheVariants.{Start, Taken, Put}
@@ -28,18 +29,18 @@ pub if_first : (b : Bool) (g f : NetFault) → b ≡ false → f ≡ g → IsFir
 if_first true g f e same = absurd cc
 if_first false g f e same = same
 
-pub numbers_long : (names : List (List ℕ)) (transitions : List Transition) (numbers : List ℕ) → AreNumbers names transitions numbers → length numbers ≡ length transitions
+pub numbers_long : (names : List (List ℕ)) (transitions : List (Transition Lexeme)) (numbers : List ℕ) → AreNumbers names transitions numbers → length numbers ≡ length transitions
 numbers_long names [] [] are = refl
 numbers_long names [] (n ∷ numbers) are = absurd are
 numbers_long names (t ∷ transitions) [] are = absurd are
 numbers_long names (t ∷ transitions) (n ∷ numbers) are = omega (arith, numbers_long names transitions numbers are.1)
 
-pub number_at : (names : List (List ℕ)) (transitions : List Transition) (numbers : List ℕ) (i : ℕ) (t : Transition) → AreNumbers names transitions numbers
-    → slice_get transitions i ≡ Some t → (n : ℕ) × (slice_get numbers i ≡ Some n) × (slice_get names n ≡ Some t.label)
+pub number_at : (names : List (List ℕ)) (transitions : List (Transition Lexeme)) (numbers : List ℕ) (i : ℕ) (t : Transition Lexeme) → AreNumbers names transitions numbers
+    → slice_get transitions i ≡ Some t → (n : ℕ) × (slice_get numbers i ≡ Some n) × (slice_get names n ≡ Some (label_of t))
 number_at names [] [] i t are at = absurd cc
 number_at names [] (n ∷ numbers) i t are at = absurd are
 number_at names (s ∷ transitions) [] i t are at = absurd are
-number_at names (s ∷ transitions) (n ∷ numbers) zero t are at = let same : s ≡ t = cc in (n, refl, are.0 ∙ ap (λ (u : Transition). Some u.label) same)
+number_at names (s ∷ transitions) (n ∷ numbers) zero t are at = let same : s ≡ t = cc in (n, refl, are.0 ∙ ap (λ (u : Transition Lexeme). Some (label_of u)) same)
 number_at names (s ∷ transitions) (n ∷ numbers) (suc i) t are at = number_at names transitions numbers i t are.1 at
 
 -- a place without tokens has what no step adds up to
@@ -65,12 +66,12 @@ named : {X : Type 0} (text : X → List ℕ) (xs : List X) (names : List (List �
 named text xs names i x is at = ap (λ l. slice_get l i) is ∙ slice_get-map text xs i ∙ ap (λ o. option_map text o) at
 
 -- the labels of the transitions, as the known names have them
-label_is : (lts : System) (d : Declared) (k : KnownNames) → IsKnownOf lts d k → IsWellFormed lts → (i n : ℕ) (t : Transition) → slice_get d.transitions i ≡ Some t
-    → slice_get lts.label_names n ≡ Some t.label → HasLabel k t.name.text n
+label_is : (lts : System) (d : Declared) (k : KnownNames) → IsKnownOf lts d k → IsWellFormed lts → (i n : ℕ) (t : Transition Lexeme) → slice_get d.transitions i ≡ Some t
+    → slice_get lts.label_names n ≡ Some (label_of t) → HasLabel k t.name.text n
 label_is lts d k known formed i n t at label =
     let number = number_at lts.label_names d.transitions k.labels i t known.numbers at in
-    let same = (apart_pairs lts.label_names formed.label_names.differ).same number.0 n t.label number.2 label in
-    (i, named (λ (s : Transition). s.name.text) d.transitions k.transitions i t known.transitions at, number.1 ∙ ap Some same)
+    let same = (apart_pairs lts.label_names formed.label_names.differ).same number.0 n (label_of t) number.2 label in
+    (i, named (λ (s : Transition Lexeme). s.name.text) d.transitions k.transitions i t known.transitions at, number.1 ∙ ap Some same)
 
 pub net_is : (lts : System) (d : Declared) (k : KnownNames) (net : Net) → IsKnownOf lts d k → IsWellFormed lts → HasSums k (steps d) net → HasAllWeights net
     → net.labels ≡ labels lts → length net.places ≡ length d.places → IsNetOf lts d net

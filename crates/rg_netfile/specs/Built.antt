@@ -1,9 +1,11 @@
 -- How far a net is built of what is declared. Contracts of the crate's private functions cite it.
 use Rattle.std.specs.Prelude.{◌≡◌, ℕ, ◌+◌, ◌<◌, ◌≤◌, ◌==◌, List, [], ◌∷◌, ◌++◌, length, All, Some, slice_get, slice_set, slice_index, count_by}
+use Rattle.rg_lexer.specs.Lexeme.{Lexeme}
 use Rattle.rg_theory.specs.Net.{Place, Net, IsPlaceAt, pre_weight, post_weight}
 use Rattle.rg_theory.specs.System.{System}
 use Rattle.rg_text.specs.Faults.{faults_after, IsFirst, AreNone}
-use Rattle.rg_net_grammar.specs.Contents.{Transition, Declared}
+use Rattle.rg_net_grammar.specs.declared.found.Transition.{Transition}
+use Rattle.rg_net_grammar.specs.Contents.{Declared, label_of}
 use Rattle.rg_netfile.specs.declared.fault.NetFault.{NetFault}
 use Rattle.rg_netfile.specs.declared.slot.Slot.{Slot}
 use Rattle.rg_netfile.specs.declared.slot.Slot.TheVariants.{Start, Taken, Put}
@@ -31,9 +33,9 @@ abbrev pub HasLabel : KnownNames → List ℕ → ℕ → Type 0
 HasLabel k name t = (i : ℕ) × (slice_get k.transitions i ≡ Some name) × (slice_get k.labels i ≡ Some t)
 
 -- the numbers of the transitions' labels
-abbrev pub AreNumbers : List (List ℕ) → List Transition → List ℕ → Type 0
+abbrev pub AreNumbers : List (List ℕ) → List (Transition Lexeme) → List ℕ → Type 0
 AreNumbers label_names [] [] = Unit {0}
-AreNumbers label_names (t ∷ transitions) (n ∷ numbers) = (slice_get label_names n ≡ Some t.label) × AreNumbers label_names transitions numbers
+AreNumbers label_names (t ∷ transitions) (n ∷ numbers) = (slice_get label_names n ≡ Some (label_of t)) × AreNumbers label_names transitions numbers
 AreNumbers label_names _ _ = ⊥
 
 -- how often each of so many numbers occurs in the list

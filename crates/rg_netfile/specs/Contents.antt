@@ -8,8 +8,10 @@ use Rattle.rg_theory.specs.Net.{Place, Net, HasAllWeights, IsPlaceAt, pre_weight
 use Rattle.rg_lexer.specs.Lexeme.{Lexeme}
 use Rattle.rg_text.specs.Faults.{faults_after, if_not}
 use Rattle.rg_integers.specs.Range.{greatest}
-use Rattle.rg_net_grammar.specs.Item.{Member, Flow}
-use Rattle.rg_net_grammar.specs.Contents.{Transition, Declared}
+use Rattle.rg_net_grammar.specs.declared.found.Member.{Member}
+use Rattle.rg_net_grammar.specs.Item.{Flow}
+use Rattle.rg_net_grammar.specs.declared.found.Transition.{Transition}
+use Rattle.rg_net_grammar.specs.Contents.{Declared, label_of}
 use Rattle.rg_netfile.specs.declared.fault.NetFault.{NetFault}
 use Rattle.rg_netfile.specs.declared.fault.NetFault.TheVariants.{NoType, TwicePlace, TooManyPlaces, TwiceTransition, TransitionsDiffer, UnknownTransition, UnknownPlace, NumberPasses}
 
@@ -21,7 +23,7 @@ abbrev pub place_names : Declared → List (List ℕ)
 place_names d = map (λ (x : Lexeme). x.text) d.places
 
 abbrev pub transition_names : Declared → List (List ℕ)
-transition_names d = map (λ (t : Transition). t.name.text) d.transitions
+transition_names d = map (λ (t : Transition Lexeme). t.name.text) d.transitions
 
 abbrev pub is_among : List (List ℕ) → List ℕ → Bool
 is_among names name = list_any (bytes_eq name) names
@@ -37,7 +39,7 @@ first_token None place = place
 first_token (Some number) place = number
 
 -- the place of a member in the text
-abbrev pub member_at : Member → ℕ
+abbrev pub member_at : Member Lexeme → ℕ
 member_at m = (first_token m.number m.place).at
 
 -- what tokens of a place are counted: those that a transition takes, those that it puts, or those at the start
@@ -55,7 +57,7 @@ same_cell _ _ = false
 -- a flow of the transition with this name begins, or a member adds to what is counted
 pub data Step : Type 0 where
   flow_of : Lexeme → Step
-  adds : Cell → Member → Step
+  adds : Cell → Member Lexeme → Step
 
 abbrev pub steps_of_flow : Flow → List Step
 steps_of_flow f = flow_of f.name ∷ (map (adds (taken f.name.text)) f.pre ++ map (adds (put f.name.text)) f.post)
@@ -81,15 +83,15 @@ place_fault before x =
     else None)
 
 -- the fault of a transition's entry, by the entries before it
-abbrev pub transition_fault : List Transition → Transition → Option NetFault
+abbrev pub transition_fault : List (Transition Lexeme) → Transition Lexeme → Option NetFault
 transition_fault before t =
-    if list_any (λ (b : Transition). bytes_eq t.name.text b.name.text) before then Some (TwiceTransition t.name.at) else None
+    if list_any (λ (b : Transition Lexeme). bytes_eq t.name.text b.name.text) before then Some (TwiceTransition t.name.at) else None
 
 -- each transition has one of the labels, and each label is that of one transition
-abbrev pub have_each_once : List (List ℕ) → List Transition → Bool
+abbrev pub have_each_once : List (List ℕ) → List (Transition Lexeme) → Bool
 have_each_once label_names transitions =
-    list_all (λ (t : Transition). is_among label_names t.label) transitions
-    && list_all (λ label. count_by (λ (t : Transition). bytes_eq label t.label) transitions == 1) label_names
+    list_all (λ (t : Transition Lexeme). is_among label_names (label_of t)) transitions
+    && list_all (λ label. count_by (λ (t : Transition Lexeme). bytes_eq label (label_of t)) transitions == 1) label_names
 
 -- the fault of a step, by the steps before it; names of places and of transitions are given
 abbrev pub step_fault : List (List ℕ) → List (List ℕ) → List Step → Step → Option NetFault
@@ -118,9 +120,9 @@ faults lts d =
 -- the numbers of the place with this name are what the steps add up to; a label's are those of the transition that has it
 pub record IsPlaceOf (lts : System) (d : Declared) (name : List ℕ) (p : Place) : Type 0 where
   pub starts : p.start ≡ total start name (steps d)
-  pub takes : (i k : ℕ) (t : Transition) → slice_get d.transitions i ≡ Some t → slice_get lts.label_names k ≡ Some t.label
+  pub takes : (i k : ℕ) (t : Transition Lexeme) → slice_get d.transitions i ≡ Some t → slice_get lts.label_names k ≡ Some (label_of t)
       → pre_weight p k ≡ total (taken t.name.text) name (steps d)
-  pub puts : (i k : ℕ) (t : Transition) → slice_get d.transitions i ≡ Some t → slice_get lts.label_names k ≡ Some t.label
+  pub puts : (i k : ℕ) (t : Transition Lexeme) → slice_get d.transitions i ≡ Some t → slice_get lts.label_names k ≡ Some (label_of t)
       → post_weight p k ≡ total (put t.name.text) name (steps d)
 
 -- the net of what is declared: a place for each entry, in their order

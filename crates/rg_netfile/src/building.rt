@@ -4,8 +4,8 @@ ghost use Rattle.rg_lexer.specs.Lexeme.{Lexeme};
 ghost use Rattle.rg_theory.specs.System.{labels};
 ghost use Rattle.rg_grammar.specs.Entry.{IsNameOf};
 ghost use Rattle.rg_text.specs.Faults.{faults_after, IsFirst, AreNone};
-ghost use Rattle.rg_net_grammar.specs.Contents.{Transition};
-ghost use Rattle.rg_net_grammar.specs.FoundView.{places_in, transitions_in, found_in, IsTransitionOf, HoldsNames};
+ghost use Rattle.rg_net_grammar.specs.declared.found.Transition.{Transition};
+ghost use Rattle.rg_net_grammar.specs.View.{places_in, transitions_in, found_in, IsTransitionOf, HoldsNames};
 ghost use Rattle.rg_netfile.specs.Contents.{most_places, place_fault, transition_fault, name_faults, faults, IsNetOf};
 ghost use Rattle.rg_netfile.specs.Built.{AreApart, IsKnownOf, IsKnown};
 ghost use Rattle.rg_netfile.specs.declared.fault.NetFault.TheVariants as fault;
@@ -20,7 +20,7 @@ use rg_grammar::name_of;
 use rg_lexer::Token;
 use rg_lts::{Lts, NameList};
 use rg_net::Net;
-use rg_net_grammar::{Found, FoundTransition};
+use rg_net_grammar::{Found, Transition};
 use std::alloc::Global;
 use std::collections::BTreeSet;
 
@@ -68,10 +68,10 @@ fn place_table(alloc: Global, bytes: &[u8], places: &[Token]) -> Result<NameList
 fn check_transition_names(
     alloc: Global,
     bytes: &[u8],
-    transitions: &[FoundTransition],
+    transitions: &[Transition<Token>],
 ) -> Result<(), NetFault>
     requires { All (IsTransitionOf bytes.now) transitions.now }
-    ensures apart { OnOk result (AreApart (map (λ (t : Transition). t.name.text) (transitions_in bytes.now transitions.now))) }
+    ensures apart { OnOk result (AreApart (map (λ (t : Transition Lexeme). t.name.text) (transitions_in bytes.now transitions.now))) }
     ensures none { OnOk result (AreNone (faults_after transition_fault [] (transitions_in bytes.now transitions.now))) }
     ensures fault { IfErr result (λ f. f ≢ fault.NoMemory → IsFirst (faults_after transition_fault [] (transitions_in bytes.now transitions.now)) f) }
 {
@@ -89,10 +89,10 @@ fn check_transition_names(
 fn transition_table(
     alloc: Global,
     bytes: &[u8],
-    transitions: &[FoundTransition],
+    transitions: &[Transition<Token>],
 ) -> Result<NameList, NetFault>
     requires { All (IsTransitionOf bytes.now) transitions.now }
-    ensures names { IfOk result (λ table. table ≡ map (λ (t : Transition). t.name.text) (transitions_in bytes.now transitions.now)) }
+    ensures names { IfOk result (λ table. table ≡ map (λ (t : Transition Lexeme). t.name.text) (transitions_in bytes.now transitions.now)) }
     ensures cause { IfErr result (λ f. f ≡ fault.NoMemory) }
 {
     let mut table = NameList::new(alloc, transitions.len());

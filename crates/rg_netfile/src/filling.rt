@@ -1,7 +1,7 @@
 //! The numbers of a net, flow by flow and member by member.
 ghost use Rattle.std.specs.Prelude.{◌≡◌, ◌∷◌, [], ◌++◌, map, All, IfErr, OnOk};
 ghost use Rattle.std.specs.List.{flat_map};
-ghost use Rattle.rg_net_grammar.specs.FoundView.{member_in, members_in, flow_in, flows_in, found_in, IsMemberOf, IsFlowOf, HoldsNames};
+ghost use Rattle.rg_net_grammar.specs.View.{member_in, members_in, flow_in, flows_in, found_in, IsMemberOf, IsFlowOf, HoldsNames};
 ghost use Rattle.rg_netfile.specs.Contents.{Cell, adds, steps_of_flow, steps};
 ghost use Rattle.rg_netfile.specs.Built.{IsSlotIn, IsSlotFor, SameSize, Fits, Passes, Stops};
 
@@ -11,7 +11,8 @@ use crate::numbers::{count_of, member_at};
 use crate::slot::Slot;
 use crate::sums::Sums;
 use rg_grammar::name_of;
-use rg_net_grammar::{Found, FoundFlow, FoundMember};
+use rg_lexer::Token;
+use rg_net_grammar::{Found, FoundFlow, Member};
 
 // Adds a member to a number of its place.
 fn add_member(
@@ -19,7 +20,7 @@ fn add_member(
     known: &Known,
     bytes: &[u8],
     slot: Slot,
-    member: FoundMember,
+    member: Member<Token>,
 ) -> Result<(), NetFault>
     requires member { IsMemberOf bytes.now member }
     requires fits { Fits known.now sums.old }
@@ -41,7 +42,7 @@ fn add_members(
     known: &Known,
     bytes: &[u8],
     slot: Slot,
-    members: &[FoundMember],
+    members: &[Member<Token>],
 ) -> Result<(), NetFault>
     requires members { All (IsMemberOf bytes.now) members.now }
     requires fits { Fits known.now sums.old }

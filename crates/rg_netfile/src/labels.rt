@@ -2,22 +2,24 @@
 ghost use Rattle.std.specs.Prelude.{◌≡◌, ◌==◌, ◌≢◌, ◌<◌, length, All, Contains, Some, true, false, slice_get, IfOk, IfErr, IfSome, IfNone, OnOk};
 ghost use Rattle.std.specs.List.{list_all};
 ghost use Rattle.rg_theory.specs.System.{labels};
-ghost use Rattle.rg_net_grammar.specs.FoundView.{transition_in, transitions_in, IsTransitionOf};
+ghost use Rattle.rg_net_grammar.specs.Contents.{label_of};
+ghost use Rattle.rg_net_grammar.specs.View.{transition_in, transitions_in, IsTransitionOf};
 ghost use Rattle.rg_netfile.specs.Contents.{have_each_once};
 ghost use Rattle.rg_netfile.specs.Built.{AreApart, AreNumbers, AreCounts};
 ghost use Rattle.rg_netfile.specs.declared.fault.NetFault.TheVariants as fault;
 
 use crate::fault::NetFault;
 use rg_grammar::{text_of, value_of};
+use rg_lexer::Token;
 use rg_lts::Lts;
-use rg_net_grammar::FoundTransition;
+use rg_net_grammar::Transition;
 use std::alloc::Global;
 use std::str;
 
 // The label of a transition.
-fn label_of<'a>(bytes: &'a [u8], transition: FoundTransition) -> &'a [u8]
+fn label_of<'a>(bytes: &'a [u8], transition: Transition<Token>) -> &'a [u8]
     requires { IsTransitionOf bytes.now transition }
-    ensures { result.now ≡ (transition_in bytes.entry.now transition).label }
+    ensures { result.now ≡ label_of (transition_in bytes.entry.now transition) }
 {
     match transition.label {
         Some(value) => value_of(bytes, value),
@@ -43,7 +45,7 @@ fn numbers(
     alloc: Global,
     bytes: &[u8],
     lts: &Lts,
-    transitions: &[FoundTransition],
+    transitions: &[Transition<Token>],
 ) -> Result<Vec<u32>, NetFault>
     requires { All (IsTransitionOf bytes.now) transitions.now }
     ensures numbers { IfOk result (λ v. AreNumbers lts.now.label_names (transitions_in bytes.now transitions.now) v.items) }
@@ -87,7 +89,7 @@ pub(crate) fn label_numbers(
     alloc: Global,
     bytes: &[u8],
     lts: &Lts,
-    transitions: &[FoundTransition],
+    transitions: &[Transition<Token>],
 ) -> Result<Vec<u32>, NetFault>
     requires { All (IsTransitionOf bytes.now) transitions.now }
     ensures numbers { IfOk result (λ v. AreNumbers lts.now.label_names (transitions_in bytes.now transitions.now) v.items) }

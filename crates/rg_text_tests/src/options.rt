@@ -2,8 +2,7 @@
 ghost use Rattle.std.specs.Prelude.{◌<◌};
 
 use rg_grammar::{
-    FoundSetting, ListPosition, ListStep, list_lead, list_wanted, name_of, setting_of, text_of,
-    value_of,
+    ListPosition, ListStep, Setting, list_lead, list_wanted, name_of, setting_of, text_of, value_of,
 };
 use rg_lexer::{Kind, Token, Want, tokens};
 use std::test::Fail;
@@ -44,6 +43,6 @@ fn option_lists(rt: HostRuntime) {
     );
     assert!(rt; list_lead(ListPosition::NextKey, comma) == None);
     assert!(rt; list_wanted(ListPosition::NextKey) == Want::Key);
-    assert!(rt; setting_of(ListPosition::AfterKey(key), comma) == Some(FoundSetting::Alone(key)));
-    assert!(rt; setting_of(ListPosition::Value(key), key) == Some(FoundSetting::Valued(key, key)));
+    assert!(rt; setting_of(ListPosition::AfterKey(key), comma) == Some(Setting::Alone(key)));
+    assert!(rt; setting_of(ListPosition::Value(key), key) == Some(Setting::Valued(key, key)));
 }

@@ -3,7 +3,7 @@ use Rattle.std.proofs.lemmas.Result.{err_from_is_err_and}
 use Rattle.rg_lts.specs.Draft.{IsArcNamed}
 use Rattle.rg_lts.proofs.Drafts.{named_there, over_limit}
 use Rattle.rg_apt.specs.Built.{IsUnknown, IsArcOfNames}
-use Rattle.rg_apt.specs.FoundView.{arc_in}
+use Rattle.rg_apt.specs.View.{arc_in}
 use Rattle.rg_apt.proofs.building.add_arc.Goals as goal
 
 -- the same three names

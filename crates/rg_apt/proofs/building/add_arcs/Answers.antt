@@ -3,9 +3,8 @@ use Rattle.std.proofs.lemmas.List.{get_or_default}
 use Rattle.std.proofs.lemmas.Result.{err_from_is_err_and}
 use Rattle.rg_lexer.specs.declared.token.Kind.TheVariants.{Name}
 use Rattle.rg_lexer.specs.declared.token.Token.{Token}
-use Rattle.rg_apt.specs.declared.found.FoundArc.{FoundArc}
-use Rattle.rg_apt.specs.Contents.{arc_fault}
-use Rattle.rg_apt.specs.FoundView.{arc_in, arcs_in}
+use Rattle.rg_apt.specs.Contents.{ArcNames, arc_fault}
+use Rattle.rg_apt.specs.View.{arc_in, arcs_in}
 use Rattle.rg_apt.specs.Built.{HasArcs}
 use Rattle.rg_text.proofs.Left.{left_start, left_more, left_first, left_end, before_is, all_before}
 use Rattle.rg_apt.proofs.ArcSteps.{unknown_fault, limit_fault, arc_step}
@@ -16,10 +15,10 @@ use Rattle.rg_apt.proofs.building.add_arcs.Goals as goal
 abbrev no_token : Token
 no_token = record { kind = Name; from = 0; to = 0 }
 
-abbrev past_end : FoundArc
+abbrev past_end : ArcNames Token
 past_end = record { from = no_token; label = no_token; to = no_token }
 
-same_read : (xs : List FoundArc) (i : ℕ) → i < length xs → get_or xs i past_end ≡ get_or xs i (get_or xs i past_end)
+same_read : (xs : List (ArcNames Token)) (i : ℕ) → i < length xs → get_or xs i past_end ≡ get_or xs i (get_or xs i past_end)
 same_read xs i within = get_or_default xs i past_end (get_or xs i past_end) within
 
 pub loop-arc-init : goal.loop-arc-init

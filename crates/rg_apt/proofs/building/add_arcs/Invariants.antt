@@ -1,6 +1,6 @@
 use Rattle.std.proofs.Common.{take}
 use Rattle.rg_apt.specs.Contents.{Declared, arc_fault}
-use Rattle.rg_apt.specs.FoundView.{arc_in, arcs_in}
+use Rattle.rg_apt.specs.View.{arc_in, arcs_in}
 use Rattle.rg_apt.specs.Built.{HasLabels, HasArcs}
 use Rattle.rg_text.proofs.Left.{LeftAt}
 use Rattle.rg_apt.proofs.building.add_arcs.Given as goal

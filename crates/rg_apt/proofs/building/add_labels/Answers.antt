@@ -6,7 +6,7 @@ use Rattle.rg_lexer.specs.declared.token.Token.{Token}
 use Rattle.rg_lexer.specs.Lexeme.{lexeme}
 use Rattle.rg_lts.specs.Draft.{Draft}
 use Rattle.rg_apt.specs.Contents.{label_fault}
-use Rattle.rg_apt.specs.FoundView.{labels_in}
+use Rattle.rg_apt.specs.View.{labels_in}
 use Rattle.rg_apt.specs.Built.{label_text}
 use Rattle.rg_text.proofs.Left.{left_start, left_more, left_first, left_end, before_is, all_before}
 use Rattle.rg_apt.proofs.StateSteps.{label_name_fault, label_fine}

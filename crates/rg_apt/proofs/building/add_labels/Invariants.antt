@@ -1,7 +1,7 @@
 use Rattle.std.proofs.Common.{◌≡◌, map, take}
 use Rattle.rg_lexer.specs.Lexeme.{lexeme}
 use Rattle.rg_apt.specs.Contents.{label_fault}
-use Rattle.rg_apt.specs.FoundView.{labels_in}
+use Rattle.rg_apt.specs.View.{labels_in}
 use Rattle.rg_apt.specs.Built.{label_text}
 use Rattle.rg_text.proofs.Left.{LeftAt}
 use Rattle.rg_apt.proofs.building.add_labels.Given as goal

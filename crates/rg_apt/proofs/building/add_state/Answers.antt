@@ -2,7 +2,7 @@ use Rattle.std.proofs.Common.{Contains, subst, sym}
 use Rattle.std.proofs.lemmas.List.Elements.{Contains-push}
 use Rattle.std.proofs.lemmas.Result.{err_from_is_err_and}
 use Rattle.rg_lts.specs.Draft.{Draft}
-use Rattle.rg_apt.specs.FoundView.{state_in}
+use Rattle.rg_apt.specs.View.{state_in}
 use Rattle.rg_apt.proofs.StateSteps.{name_fault, mark_fault, plain_state, marked_state}
 use Rattle.rg_apt.proofs.building.add_state.Goals as goal
 

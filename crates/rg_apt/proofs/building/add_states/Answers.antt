@@ -1,19 +1,19 @@
 use Rattle.std.proofs.Common.{◌≡◌, ◌<◌, ℕ, List, [], length, get_or, take, false, refl, sym, subst, arith}
 use Rattle.std.proofs.lemmas.List.{get_or_default}
 use Rattle.std.proofs.lemmas.Result.{err_from_is_err_and}
+use Rattle.rg_lexer.specs.declared.token.Token.{Token}
 use Rattle.rg_lexer.specs.declared.token.Kind.TheVariants.{Name}
-use Rattle.rg_apt.specs.declared.found.FoundState.{FoundState}
-use Rattle.rg_apt.specs.Contents.{state_fault}
-use Rattle.rg_apt.specs.FoundView.{state_in, states_in}
+use Rattle.rg_apt.specs.Contents.{StateEntry, state_fault}
+use Rattle.rg_apt.specs.View.{state_in, states_in}
 use Rattle.rg_apt.specs.Built.{HasStates}
 use Rattle.rg_text.proofs.Left.{left_start, left_more, left_first, left_end, before_is, all_before}
 use Rattle.rg_apt.proofs.building.add_states.Goals as goal
 
 -- what a read past the end would give
-abbrev past_end : FoundState
+abbrev past_end : StateEntry Token
 past_end = record { name = record { kind = Name; from = 0; to = 0 }; initial = false }
 
-same_read : (xs : List FoundState) (i : ℕ) → i < length xs → get_or xs i past_end ≡ get_or xs i (get_or xs i past_end)
+same_read : (xs : List (StateEntry Token)) (i : ℕ) → i < length xs → get_or xs i past_end ≡ get_or xs i (get_or xs i past_end)
 same_read xs i within = get_or_default xs i past_end (get_or xs i past_end) within
 
 pub loop-state-init : goal.loop-state-init

@@ -1,6 +1,6 @@
 use Rattle.std.proofs.Common.{take}
 use Rattle.rg_apt.specs.Contents.{state_fault}
-use Rattle.rg_apt.specs.FoundView.{state_in, states_in}
+use Rattle.rg_apt.specs.View.{state_in, states_in}
 use Rattle.rg_apt.specs.Built.{HasStates}
 use Rattle.rg_text.proofs.Left.{LeftAt}
 use Rattle.rg_apt.proofs.building.add_states.Given as goal

@@ -2,7 +2,7 @@ use Rattle.std.proofs.Common.{[], map, Err, sym, ap, subst, ◌∙◌}
 use Rattle.std.proofs.lemmas.Result.{err_from_is_err_and}
 use Rattle.rg_text.specs.Faults.{faults_after, IsFirst, AreNone}
 use Rattle.rg_apt.specs.Contents.{state_fault, label_fault, arc_fault}
-use Rattle.rg_apt.specs.FoundView.{states_in, labels_in, arcs_in, found_in}
+use Rattle.rg_apt.specs.View.{states_in, labels_in, arcs_in, found_in}
 use Rattle.rg_apt.specs.Built.{label_text, HasStates, HasArcs}
 use Rattle.rg_apt.proofs.Built.{of_states, of_labels, of_arcs, of_mark, all_none, with_labels, system_is}
 use Rattle.rg_apt.proofs.building.build.Goals as goal

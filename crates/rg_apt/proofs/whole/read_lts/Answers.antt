@@ -8,7 +8,7 @@ use Rattle.rg_grammar.proofs.Described.{found_items}
 use Rattle.rg_apt.specs.declared.fault.TextFault.TheVariants.{NoMemory}
 use Rattle.rg_apt.specs.Item.{AreItems}
 use Rattle.rg_apt.specs.Contents.{Declared, declared, faults, IsSystemOf}
-use Rattle.rg_apt.specs.FoundView.{found_in}
+use Rattle.rg_apt.specs.View.{found_in}
 use Rattle.rg_apt.specs.Reading.{system_grammar}
 use Rattle.rg_apt.specs.Spells.{FirstFault, of_items, in_items, in_system}
 use Rattle.rg_apt.proofs.Grammars.{describes}

@@ -4,7 +4,7 @@ use Rattle.std.proofs.lemmas.List.{map-append}
 use Rattle.std.proofs.lemmas.List.Elements.{All-push}
 use Rattle.rg_net_grammar.specs.Item.{Flow}
 use Rattle.rg_net_grammar.specs.Reading.{with_post}
-use Rattle.rg_net_grammar.specs.FoundView.{member_in, members_in, flow_in, IsMemberOf, IsFlowOf}
+use Rattle.rg_net_grammar.specs.View.{member_in, members_in, flow_in, IsMemberOf, IsFlowOf}
 use Rattle.rg_lexer.specs.Lexeme.{lexeme}
 use Rattle.rg_grammar.proofs.Last.{last_set, all_set}
 use Rattle.rg_net_grammar.proofs.found.add_post.Goals as goal

@@ -1,10 +1,11 @@
 use Rattle.std.proofs.Common.{◌≡◌, ◌-◌, Option, None, Some, option_map, refl, sym, ap, ◌∙◌, arith}
 use Rattle.std.specs.Option.{option_or}
 use Rattle.std.proofs.lemmas.List.{get_or_default}
+use Rattle.rg_lexer.specs.declared.token.Token.{Token}
 use Rattle.rg_lexer.specs.Lexeme.{Lexeme, lexeme}
-use Rattle.rg_net_grammar.specs.declared.found.FoundTransition.{FoundTransition}
-use Rattle.rg_net_grammar.specs.Reading.{Labelled, with_value}
-use Rattle.rg_net_grammar.specs.FoundView.{labelled_in}
+use Rattle.rg_net_grammar.specs.Contents.{Transition}
+use Rattle.rg_net_grammar.specs.Reading.{with_value}
+use Rattle.rg_net_grammar.specs.View.{transition_in}
 use Rattle.rg_grammar.proofs.Last.{last_set}
 use Rattle.rg_net_grammar.proofs.found.label_last.Goals as goal
 
@@ -18,8 +19,8 @@ returns-then-n-gt0-clause-found c = λ bytes setting label.
     let items = c.args.transitions.now.items in
     let same : c.index.result.now ≡ old =
     c.index.ensures ∙ get_or_default items (c.len-n.result - 1) c.index.result.now old (omega arith) ∙ sym c.index_mut.ensures.value in
-    last_set (labelled_in bytes) (with_value setting) items (c.len-n.result - 1) old _ (omega arith) c.index_mut.ensures.value
-    (ap {B = Labelled} (λ (o : Option Lexeme). record { name = lexeme bytes old.name; value = o })
+    last_set (transition_in bytes) (with_value setting) items (c.len-n.result - 1) old _ (omega arith) c.index_mut.ensures.value
+    (ap {B = Transition Lexeme} (λ (o : Option Lexeme). record { name = lexeme bytes old.name; label = o })
     (ap (option_map (lexeme bytes)) c.or.ensures ∙ or_map (lexeme bytes) c.index.result.now.label c.args.label
-    ∙ ap (λ (t : FoundTransition). option_or (option_map (lexeme bytes) t.label) (option_map (lexeme bytes) c.args.label)) same
+    ∙ ap (λ (t : Transition Token). option_or (option_map (lexeme bytes) t.label) (option_map (lexeme bytes) c.args.label)) same
     ∙ ap (option_or (option_map (lexeme bytes) old.label)) label))

@@ -1,4 +1,4 @@
-use Rattle.std.proofs.Common.{◌≡◌, List, sym, ap, ◌∙◌}
+use Rattle.std.proofs.Common.{◌≡◌, List}
 use Rattle.std.proofs.lemmas.Result.{IfOk-weaker}
 use Rattle.rg_lexer.specs.Lexeme.{Lexeme, AreLexemes}
 use Rattle.rg_grammar.specs.Grammar.{Finds}
@@ -6,11 +6,9 @@ use Rattle.rg_grammar.proofs.Described.{found_items}
 use Rattle.rg_net_grammar.specs.declared.found.Found.{Found}
 use Rattle.rg_net_grammar.specs.Item.{Item, AreItems}
 use Rattle.rg_net_grammar.specs.Contents.{declared}
-use Rattle.rg_net_grammar.specs.Reading.{declared_by, net_grammar}
+use Rattle.rg_net_grammar.specs.Reading.{net_grammar}
 use Rattle.rg_net_grammar.specs.Text.{AreItemsOf}
-use Rattle.rg_net_grammar.specs.FoundView.{progress_in, found_in}
-use Rattle.rg_net_grammar.proofs.Items.{progress_of, declared_is}
-use Rattle.rg_net_grammar.proofs.FoundLemmas.{found_is}
+use Rattle.rg_net_grammar.specs.View.{found_in}
 use Rattle.rg_net_grammar.proofs.WholeTexts.{describes}
 use Rattle.rg_net_grammar.proofs.whole.read_items.Goals as goal
 
@@ -18,9 +16,9 @@ pub returns-clause-ok : goal.returns-clause-ok
 returns-clause-ok c =
     let bytes = c.args.bytes.now in
     IfOk-weaker c.read.result
-    (λ (f : Found). (xs : List Lexeme) × AreLexemes bytes xs × Finds net_grammar xs (progress_in bytes f))
+    (λ (f : Found). (xs : List Lexeme) × AreLexemes bytes xs × Finds net_grammar xs (found_in bytes f))
     (λ (f : Found). (items : List Item) × AreItemsOf bytes items × (found_in bytes f ≡ declared items))
     (λ f found.
-    let items = found_items net_grammar AreItems progress_of describes found.0 (progress_in bytes f) found.2 in
-    (items.0, (found.0, found.1, items.1), found_is bytes f ∙ ap declared_by items.2 ∙ sym (declared_is items.0)))
+    let items = found_items net_grammar AreItems declared describes found.0 (found_in bytes f) found.2 in
+    (items.0, (found.0, found.1, items.1), items.2))
     c.read.ensures.ok

@@ -5,7 +5,7 @@ use Rattle.rg_theory.specs.Net.{Net}
 use Rattle.rg_lexer.specs.Lexeme.{lexeme}
 use Rattle.rg_text.specs.Faults.{faults_after, if_not, IsFirst, AreNone}
 use Rattle.rg_text.proofs.Left.{first_left, first_right, none_joined}
-use Rattle.rg_net_grammar.specs.FoundView.{found_in}
+use Rattle.rg_net_grammar.specs.View.{found_in}
 use Rattle.rg_netfile.specs.declared.fault.NetFault.TheVariants.{NoType}
 use Rattle.rg_netfile.specs.Contents.{name_faults, step_fault, steps, place_names, transition_names, IsNetOf}
 use Rattle.rg_netfile.proofs.Ranges.{zero_place}

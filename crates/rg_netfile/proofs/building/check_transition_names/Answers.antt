@@ -1,20 +1,21 @@
 use Rattle.std.proofs.Common.{None, ◌≡◌, Contains, ◌<◌, ℕ, List, [], length, get_or, take, map, Bool, true, false, not, ◌↔◌, ◌+◌, ◌++◌, ◌∷◌, refl, sym, ap, subst, ◌∙◌, arith, rules}
 use Rattle.std.specs.BTreeSet.{contains_text}
 use Rattle.std.proofs.lemmas.List.{get_or_default}
+use Rattle.rg_lexer.specs.declared.token.Token.{Token}
 use Rattle.rg_lexer.specs.declared.token.Kind.TheVariants.{Name}
-use Rattle.rg_net_grammar.specs.declared.found.FoundTransition.{FoundTransition}
+use Rattle.rg_net_grammar.specs.declared.found.Transition.{Transition}
 use Rattle.rg_text.proofs.Left.{left_start, left_more, left_first, left_end, before_is, all_before}
-use Rattle.rg_net_grammar.specs.FoundView.{transition_in, transitions_in}
+use Rattle.rg_net_grammar.specs.View.{transition_in, transitions_in}
 use Rattle.rg_netfile.specs.Contents.{transition_fault}
 use Rattle.rg_netfile.proofs.Apart.{apart_from, apart_none, apart_more, seen_more}
 use Rattle.rg_netfile.proofs.EntryFaults.{name_of, transition_twice, transition_fine, transition_names_more}
 use Rattle.rg_netfile.proofs.building.check_transition_names.Goals as goal
 
 -- what a read past the end would give
-abbrev pub past_end : FoundTransition
+abbrev pub past_end : Transition Token
 past_end = record { name = record { kind = Name; from = 0; to = 0 }; label = None }
 
-same_read : (xs : List FoundTransition) (i : ℕ) → i < length xs → get_or xs i past_end ≡ get_or xs i (get_or xs i past_end)
+same_read : (xs : List (Transition Token)) (i : ℕ) → i < length xs → get_or xs i past_end ≡ get_or xs i (get_or xs i past_end)
 same_read xs i within = get_or_default xs i past_end (get_or xs i past_end) within
 
 seen_is : (b : Bool) → not b ≡ false → b ≡ true

@@ -1,7 +1,7 @@
 use Rattle.std.proofs.Common.{◌≡◌, ◌↔◌, ℕ, List, true, Contains, map, take}
 use Rattle.std.specs.BTreeSet.{contains_text}
 use Rattle.rg_text.proofs.Left.{LeftAt}
-use Rattle.rg_net_grammar.specs.FoundView.{transition_in, transitions_in}
+use Rattle.rg_net_grammar.specs.View.{transition_in, transitions_in}
 use Rattle.rg_netfile.specs.Contents.{transition_fault}
 use Rattle.rg_netfile.specs.Built.{AreApart}
 use Rattle.rg_netfile.proofs.EntryFaults.{name_of}

@@ -3,7 +3,7 @@ use Rattle.std.proofs.lemmas.List.{length-map}
 use Rattle.std.proofs.lemmas.Result.{err_from_is_err_and}
 use Rattle.rg_text.specs.Faults.{faults_after, if_not, IsFirst, AreNone}
 use Rattle.rg_text.proofs.Left.{first_left, first_right, none_joined}
-use Rattle.rg_net_grammar.specs.FoundView.{places_in, transitions_in, found_in}
+use Rattle.rg_net_grammar.specs.View.{places_in, transitions_in, found_in}
 use Rattle.rg_netfile.specs.declared.fault.NetFault.TheVariants.{TransitionsDiffer}
 use Rattle.rg_netfile.specs.Contents.{place_fault, transition_fault, have_each_once}
 use Rattle.rg_netfile.specs.Built.{IsKnownOf, AreNumbers}

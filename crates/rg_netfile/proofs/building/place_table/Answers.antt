@@ -5,7 +5,7 @@ use Rattle.rg_lexer.specs.declared.token.Kind.TheVariants.{Name}
 use Rattle.rg_lexer.specs.declared.token.Token.{Token}
 use Rattle.rg_lexer.specs.Lexeme.{lexeme}
 use Rattle.rg_text.proofs.Left.{left_start, left_more, left_first, left_end, before_is, all_before}
-use Rattle.rg_net_grammar.specs.FoundView.{places_in}
+use Rattle.rg_net_grammar.specs.View.{places_in}
 use Rattle.rg_netfile.specs.Contents.{place_fault, most_places}
 use Rattle.rg_netfile.proofs.Apart.{apart_from, apart_none, apart_more}
 use Rattle.rg_netfile.proofs.EntryFaults.{text_of, place_fault_of, place_fine, names_more}

@@ -1,7 +1,7 @@
 use Rattle.std.proofs.Common.{◌≡◌, ◌≤◌, map, take}
 use Rattle.rg_lexer.specs.Lexeme.{Lexeme, lexeme}
 use Rattle.rg_text.proofs.Left.{LeftAt}
-use Rattle.rg_net_grammar.specs.FoundView.{places_in}
+use Rattle.rg_net_grammar.specs.View.{places_in}
 use Rattle.rg_netfile.specs.Contents.{place_fault, most_places}
 use Rattle.rg_netfile.specs.Built.{AreApart}
 use Rattle.rg_netfile.proofs.building.place_table.Given as goal

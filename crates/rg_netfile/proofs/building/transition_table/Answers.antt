@@ -1,17 +1,18 @@
 use Rattle.std.proofs.Common.{None, ◌≡◌, ◌<◌, ℕ, List, length, get_or, take, map, sym, ap, ◌∙◌, arith}
 use Rattle.std.proofs.lemmas.List.{get_or_default}
+use Rattle.rg_lexer.specs.declared.token.Token.{Token}
 use Rattle.rg_lexer.specs.declared.token.Kind.TheVariants.{Name}
-use Rattle.rg_net_grammar.specs.declared.found.FoundTransition.{FoundTransition}
+use Rattle.rg_net_grammar.specs.declared.found.Transition.{Transition}
 use Rattle.rg_text.proofs.Left.{before_is, all_before}
-use Rattle.rg_net_grammar.specs.FoundView.{transition_in, transitions_in}
+use Rattle.rg_net_grammar.specs.View.{transition_in, transitions_in}
 use Rattle.rg_netfile.proofs.EntryFaults.{name_of, transition_names_more}
 use Rattle.rg_netfile.proofs.building.transition_table.Goals as goal
 
 -- what a read past the end would give
-abbrev pub past_end : FoundTransition
+abbrev pub past_end : Transition Token
 past_end = record { name = record { kind = Name; from = 0; to = 0 }; label = None }
 
-same_read : (xs : List FoundTransition) (i : ℕ) → i < length xs → get_or xs i past_end ≡ get_or xs i (get_or xs i past_end)
+same_read : (xs : List (Transition Token)) (i : ℕ) → i < length xs → get_or xs i past_end ≡ get_or xs i (get_or xs i past_end)
 same_read xs i within = get_or_default xs i past_end (get_or xs i past_end) within
 
 pub loop-transition-init : goal.loop-transition-init

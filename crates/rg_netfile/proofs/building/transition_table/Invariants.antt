@@ -1,5 +1,5 @@
 use Rattle.std.proofs.Common.{◌≡◌, map, take}
-use Rattle.rg_net_grammar.specs.FoundView.{transitions_in}
+use Rattle.rg_net_grammar.specs.View.{transitions_in}
 use Rattle.rg_netfile.proofs.EntryFaults.{name_of}
 use Rattle.rg_netfile.proofs.building.transition_table.Given as goal
 

@@ -1,6 +1,6 @@
 use Rattle.std.proofs.Common.{Contains, map, subst}
 use Rattle.std.proofs.lemmas.Result.{err_from_is_err_and, on_ok_weaker, IfErr-weaker}
-use Rattle.rg_net_grammar.specs.FoundView.{members_in, flow_in}
+use Rattle.rg_net_grammar.specs.View.{members_in, flow_in}
 use Rattle.rg_netfile.specs.declared.slot.Slot.TheVariants.{Taken}
 use Rattle.rg_netfile.specs.Contents.{taken, put, adds}
 use Rattle.rg_netfile.specs.Built.{HasLabel, Passes, Stops}

@@ -1,6 +1,6 @@
 use Rattle.std.proofs.Common.{◌<◌, length, arith}
 use Rattle.std.proofs.lemmas.Result.{err_from_is_err_and}
-use Rattle.rg_net_grammar.specs.FoundView.{flow_in}
+use Rattle.rg_net_grammar.specs.View.{flow_in}
 use Rattle.rg_netfile.specs.Contents.{steps_of_flow}
 use Rattle.rg_netfile.proofs.Segments.{some_pass, some_stop}
 use Rattle.rg_netfile.proofs.Steps.{passes_none}

@@ -1,6 +1,6 @@
 use Rattle.std.proofs.Common.{take}
 use Rattle.std.specs.List.{flat_map}
-use Rattle.rg_net_grammar.specs.FoundView.{flows_in}
+use Rattle.rg_net_grammar.specs.View.{flows_in}
 use Rattle.rg_netfile.specs.Contents.{steps_of_flow}
 use Rattle.rg_netfile.specs.Built.{SameSize, Passes}
 use Rattle.rg_netfile.proofs.filling.add_flows.Given as goal

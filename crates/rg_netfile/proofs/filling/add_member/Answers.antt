@@ -1,7 +1,7 @@
 use Rattle.std.proofs.Common.{◌∷◌, [], ◌≤◌, Contains, Some, sym, ap, subst, ◌∙◌}
 use Rattle.std.proofs.lemmas.Result.{IfErr-weaker}
 use Rattle.rg_integers.specs.Range.{greatest}
-use Rattle.rg_net_grammar.specs.FoundView.{member_in}
+use Rattle.rg_net_grammar.specs.View.{member_in}
 use Rattle.rg_netfile.specs.declared.fault.NetFault.TheVariants.{NumberPasses}
 use Rattle.rg_netfile.specs.Contents.{adds}
 use Rattle.rg_netfile.specs.Built.{Stops}

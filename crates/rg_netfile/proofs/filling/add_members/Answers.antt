@@ -1,9 +1,10 @@
 use Rattle.std.proofs.Common.{◌≡◌, ◌<◌, ℕ, List, length, get_or, None, arith}
 use Rattle.std.proofs.lemmas.List.{get_or_default}
 use Rattle.std.proofs.lemmas.Result.{err_from_is_err_and}
+use Rattle.rg_lexer.specs.declared.token.Token.{Token}
 use Rattle.rg_lexer.specs.declared.token.Kind.TheVariants.{Name}
-use Rattle.rg_net_grammar.specs.declared.found.FoundMember.{FoundMember}
-use Rattle.rg_net_grammar.specs.FoundView.{member_in}
+use Rattle.rg_net_grammar.specs.declared.found.Member.{Member}
+use Rattle.rg_net_grammar.specs.View.{member_in}
 use Rattle.rg_netfile.specs.Contents.{adds}
 use Rattle.rg_netfile.proofs.Segments.{one_passes, one_stops}
 use Rattle.rg_netfile.proofs.Steps.{passes_none}
@@ -11,10 +12,10 @@ use Rattle.rg_netfile.proofs.Slots.{fits_too, slot_too, same_size, same_sizes}
 use Rattle.rg_netfile.proofs.filling.add_members.Goals as goal
 
 -- what a read past the end would give
-abbrev past_end : FoundMember
+abbrev past_end : Member Token
 past_end = record { number = None; place = record { kind = Name; from = 0; to = 0 } }
 
-same_read : (xs : List FoundMember) (i : ℕ) → i < length xs → get_or xs i past_end ≡ get_or xs i (get_or xs i past_end)
+same_read : (xs : List (Member Token)) (i : ℕ) → i < length xs → get_or xs i past_end ≡ get_or xs i (get_or xs i past_end)
 same_read xs i within = get_or_default xs i past_end (get_or xs i past_end) within
 
 pub add_member-requires-clause-fits : goal.add_member-requires-clause-fits

@@ -1,5 +1,5 @@
 use Rattle.std.proofs.Common.{map, take}
-use Rattle.rg_net_grammar.specs.FoundView.{members_in}
+use Rattle.rg_net_grammar.specs.View.{members_in}
 use Rattle.rg_netfile.specs.Contents.{Cell, adds}
 use Rattle.rg_netfile.specs.Built.{IsSlotFor, SameSize, Passes}
 use Rattle.rg_netfile.proofs.filling.add_members.Given as goal

@@ -1,7 +1,7 @@
 use Rattle.std.proofs.Common.{map, subst}
 use Rattle.std.specs.List.{flat_map}
 use Rattle.std.proofs.lemmas.Result.{err_from_is_err_and, on_ok_weaker, IfErr-weaker}
-use Rattle.rg_net_grammar.specs.FoundView.{flows_in, members_in}
+use Rattle.rg_net_grammar.specs.View.{flows_in, members_in}
 use Rattle.rg_netfile.specs.Contents.{start, adds, steps_of_flow}
 use Rattle.rg_netfile.specs.Built.{Passes, Stops}
 use Rattle.rg_netfile.proofs.Steps.{passes_both, stops_sooner, stops_later}

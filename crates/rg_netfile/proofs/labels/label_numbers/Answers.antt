@@ -1,5 +1,5 @@
 use Rattle.std.proofs.Common.{refl, sym, ◌∙◌}
-use Rattle.rg_net_grammar.specs.FoundView.{transitions_in}
+use Rattle.rg_net_grammar.specs.View.{transitions_in}
 use Rattle.rg_netfile.proofs.LabelCounts.{numbers_apart, each_once, not_each, counted}
 use Rattle.rg_netfile.proofs.labels.label_numbers.Goals as goal
 

@@ -1,20 +1,21 @@
 use Rattle.std.proofs.Common.{◌≡◌, ◌++◌, ◌∷◌, [], ◌<◌, ◌+◌, Contains, refl, ℕ, List, length, get_or, take, All, None, Some, sym, ap, subst, ◌∙◌, arith}
 use Rattle.std.proofs.lemmas.List.{get_or_default, get_or-map, length-map}
 use Rattle.std.proofs.lemmas.List.Elements.{All-push}
+use Rattle.rg_lexer.specs.declared.token.Token.{Token}
 use Rattle.rg_lexer.specs.declared.token.Kind.TheVariants.{Name}
 use Rattle.rg_theory.specs.System.{labels}
 use Rattle.rg_text.proofs.Left.{before_is}
-use Rattle.rg_net_grammar.specs.declared.found.FoundTransition.{FoundTransition}
-use Rattle.rg_net_grammar.specs.FoundView.{transition_in, transitions_in}
+use Rattle.rg_net_grammar.specs.declared.found.Transition.{Transition}
+use Rattle.rg_net_grammar.specs.View.{transition_in, transitions_in}
 use Rattle.rg_netfile.specs.Built.{AreNumbers}
 use Rattle.rg_netfile.proofs.Counts.{numbers_more, not_each_once}
 use Rattle.rg_netfile.proofs.labels.numbers.Goals as goal
 
 -- what a read past the end would give
-abbrev past_end : FoundTransition
+abbrev past_end : Transition Token
 past_end = record { name = record { kind = Name; from = 0; to = 0 }; label = None }
 
-same_read : (xs : List FoundTransition) (i : ℕ) → i < length xs → get_or xs i past_end ≡ get_or xs i (get_or xs i past_end)
+same_read : (xs : List (Transition Token)) (i : ℕ) → i < length xs → get_or xs i past_end ≡ get_or xs i (get_or xs i past_end)
 same_read xs i within = get_or_default xs i past_end (get_or xs i past_end) within
 
 pub loop-transition-preserved : goal.loop-transition-preserved

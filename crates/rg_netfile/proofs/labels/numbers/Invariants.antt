@@ -1,6 +1,6 @@
 use Rattle.std.proofs.Common.{◌<◌, take, All}
 use Rattle.rg_theory.specs.System.{labels}
-use Rattle.rg_net_grammar.specs.FoundView.{transitions_in}
+use Rattle.rg_net_grammar.specs.View.{transitions_in}
 use Rattle.rg_netfile.specs.Built.{AreNumbers}
 use Rattle.rg_netfile.proofs.labels.numbers.Given as goal
 

@@ -1,12 +1,13 @@
 use Rattle.std.proofs.Common.{◌≡◌, ℕ, List, [], sym, subst, arith}
 use Rattle.std.specs.List.{All}
 use Rattle.std.proofs.lemmas.List.Elements.{All-push}
-use Rattle.rg_net_grammar.specs.declared.found.FoundMember.{FoundMember}
+use Rattle.rg_lexer.specs.declared.token.Token.{Token}
+use Rattle.rg_net_grammar.specs.Item.{Member}
 use Rattle.rg_net_grammar.specs.declared.found.FoundFlow.{FoundFlow}
-use Rattle.rg_net_grammar.specs.FoundView.{IsMemberOf, IsFlowOf}
+use Rattle.rg_net_grammar.specs.View.{IsMemberOf, IsFlowOf}
 use Rattle.rg_net_grammar.proofs.found.Found.at_flow.Goals as goal
 
-no_members : (bytes : List ℕ) (members : List FoundMember) → members ≡ [] → All (IsMemberOf bytes) members
+no_members : (bytes : List ℕ) (members : List (Member Token)) → members ≡ [] → All (IsMemberOf bytes) members
 no_members bytes members none = subst (All (IsMemberOf bytes)) (sym none) (λ k d within. absurd (omega arith))
 
 pub returns-in_ok-push-in-Name-clause-names : goal.returns-in_ok-push-in-Name-clause-names
