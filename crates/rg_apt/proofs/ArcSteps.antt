@@ -1,10 +1,12 @@
 -- One arc more: its fault, or that there is none; and how many different arcs there are.
-use Rattle.std.proofs.Common.{◌≡◌, ◌⊎◌, inl, inr, ⊎_elim, ℕ, ◌+◌, Bool, true, false, cond, not, ◌&&◌, nat_le, List, [], ◌∷◌, ◌++◌, length, get_or, slice_get, Contains, Any, Option, None, Some, refl, sym, ap, subst, ◌∙◌, arith}
+use Rattle.std.proofs.Common.{◌≡◌, ◌⊎◌, inl, inr, ⊎_elim, ◌+◌, Bool, true, false, cond, not, ◌&&◌, nat_le, List, [], ◌∷◌, ◌++◌, length, get_or, slice_get, Contains, Any, Option, None, Some, refl, sym, ap, subst, ◌∙◌, arith}
 use Rattle.std.specs.List.{list_any}
 use Rattle.std.specs.Str.{bytes_eq}
-use Rattle.std.proofs.lemmas.Bool.{cond-true, cond-false, or_cases}
+use Rattle.std.proofs.lemmas.Bool.{cond-true, cond-false, or_cases, or_right, le-leb}
 use Rattle.std.proofs.lemmas.List.Elements.{All-push}
 use Rattle.std.proofs.lemmas.Slice.Eq.{bytes_eq-Decides}
+use Rattle.std.proofs.lemmas.Option.{same_Some}
+use Rattle.rg_text.proofs.NameBytes.{absent_none, contains_any}
 use Rattle.rg_theory.specs.Limits.{most_arcs}
 use Rattle.rg_theory.specs.declared.Arc.{Arc}
 use Rattle.rg_lexer.specs.Lexeme.{Lexeme}
@@ -16,7 +18,7 @@ use Rattle.rg_apt.specs.declared.fault.TextFault.TheVariants.{UnknownState, Unkn
 use Rattle.rg_apt.specs.Contents.{ArcNames, Declared, arc_fault, is_state, is_label, same_arc, different}
 use Rattle.rg_apt.specs.Built.{state_text, label_text, HasArcs, IsArcOfNames, IsUnknownOf, HasNamesOf, IsOverLimit}
 use Rattle.rg_apt.proofs.Existing.{Among, among-append, among-last, among_at, index_of}
-use Rattle.rg_apt.proofs.Names.{contains_any, absent_none, or_right, le_true, le_says}
+use Rattle.rg_apt.proofs.Names.{le_says}
 
 any_among : {X : Type 0} (p : X → Bool) (xs : List X) → list_any p xs ≡ true → (x : X) × Among x xs × (p x ≡ true)
 any_among p [] e = absurd cc
@@ -64,15 +66,12 @@ same_says a b e =
     by true false r x y z e = absurd cc
     by true true false x y z e = absurd cc
 
-some_text : (a b : List ℕ) → Some a ≡ Some b → a ≡ b
-some_text a b e = cc
-
 -- an arc has one triple of names
 one_names : (d : Draft) (x y : ArcNames Lexeme) (a : Arc) → IsArcOfNames d x a → IsArcOfNames d y a → AreSame x y
 one_names d x y a n m = record {
-  from = some_text x.from.text y.from.text (sym n.from ∙ m.from);
-  label = some_text x.label.text y.label.text (sym n.label ∙ m.label);
-  to = some_text x.to.text y.to.text (sym n.to ∙ m.to);
+  from = same_Some x.from.text y.from.text (sym n.from ∙ m.from);
+  label = same_Some x.label.text y.label.text (sym n.label ∙ m.label);
+  to = same_Some x.to.text y.to.text (sym n.to ∙ m.to);
 }
 
 named_too : (d : Draft) (x y : ArcNames Lexeme) (a : Arc) → AreSame x y → IsArcOfNames d x a → IsArcOfNames d y a
@@ -210,7 +209,7 @@ module _ (d : Declared) (before : List (ArcNames Lexeme)) (x : ArcNames Lexeme) 
   pub limit_fault : (f : TextFault) → IsWellFormedDraft draft → (f ≡ TooManyArcs x.from.at) × IsOverLimit draft x → arc_fault d before x ≡ Some f
   limit_fault f formed (is, over) =
       let count = how_many d before draft formed h in
-      let many = le_true most_arcs (different before) (omega (arith, over.limit)) in
+      let many = le-leb most_arcs (different before) (omega (arith, over.limit)) in
       names_there over.names ∙ by (list_any (same_arc x) before) refl many ∙ ap Some (sym is)
     where
       by : (b : Bool) → list_any (same_arc x) before ≡ b → nat_le most_arcs (different before) ≡ true → last_test before x ≡ Some (TooManyArcs x.from.at)

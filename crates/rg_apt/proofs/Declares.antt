@@ -13,9 +13,10 @@ use Rattle.rg_lexer.specs.Lexeme.{Lexeme}
 use Rattle.rg_lts.specs.WellFormed.{IsWellFormed}
 use Rattle.rg_lts.specs.Draft.{Draft, draft_of, IsWellFormedDraft}
 use Rattle.rg_text.specs.Faults.{faults_after, AreNone}
+use Rattle.rg_text.proofs.NameBytes.{absent_none, contains_any}
 use Rattle.rg_apt.specs.Contents.{StateEntry, ArcNames, Declared, faults, state_fault, label_fault, arc_fault, same_text, same_arc, different, is_state, is_label, HasNames, IsSystemOf}
 use Rattle.rg_apt.specs.Built.{state_text, label_text, is_marked, IsArcOfNames}
-use Rattle.rg_apt.proofs.Names.{contains_any, absent_none, le_says}
+use Rattle.rg_apt.proofs.Names.{le_says}
 use Rattle.rg_lts.proofs.OrderedArcs.{Has, has_from, contains_from, Ordered, ordered_from, after_has, before_itself, before_back}
 use Rattle.rg_lts.proofs.Drafts.{there}
 use Rattle.rg_apt.proofs.Existing.{Among, among_at}

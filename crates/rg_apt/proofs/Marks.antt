@@ -1,16 +1,13 @@
 -- The index of the first that is marked.
 use Rattle.std.proofs.Common.{◌≡◌, ℕ, ◌+◌, ◌<◌, Bool, true, false, cond, not, eqb, nat_lt, List, [], ◌∷◌, ◌++◌, length, position, Option, None, Some, IsSomeAnd, refl, sym, ap, subst, ◌∙◌, arith, length-append}
 use Rattle.std.specs.List.{list_any, position_or_len}
-use Rattle.std.proofs.lemmas.Bool.{or_parts, cond-true, cond-false, lt-ltb}
+use Rattle.std.proofs.lemmas.Bool.{or_parts, cond-true, cond-false, lt-ltb, eq-eqb}
 use Rattle.std.proofs.lemmas.Bool.Decides.{nat_tests}
 use Rattle.std.proofs.lemmas.List.Folds.{position_or_len_push}
 use Rattle.rg_apt.proofs.Existing.{marked_within}
 
 not_less : (m n : ℕ) → m ≡ n → nat_lt m n ≡ false
 not_less m n e = grind (arith, nat_tests)
-
-same_eqb : (m n : ℕ) → m ≡ n → eqb m n ≡ true
-same_eqb m n e = grind (arith, nat_tests)
 
 less_eqb : (m n : ℕ) → m < n → eqb m n ≡ false
 less_eqb m n lt = grind (arith, nat_tests)
@@ -57,7 +54,7 @@ push_marked p xs y none mark =
     let all = all_fail p xs none in
     let longer = length-append xs (y ∷ []) in
     let index : position_or_len p (xs ++ y ∷ []) ≡ length xs =
-    position_or_len_push p xs y ∙ cond-true (eqb (position_or_len p xs) (length xs)) (length xs + cond (p y) 0 1) (position_or_len p xs) (same_eqb (position_or_len p xs) (length xs) all)
+    position_or_len_push p xs y ∙ cond-true (eqb (position_or_len p xs) (length xs)) (length xs + cond (p y) 0 1) (position_or_len p xs) (eq-eqb (position_or_len p xs) (length xs) all)
     ∙ ap (λ b. length xs + cond b 0 1) mark ∙ omega arith in
     at_index p (xs ++ y ∷ []) (length xs) index (omega (arith, longer))
 
@@ -76,6 +73,6 @@ push_unmarked p xs y plain = by (list_any p xs) refl
         let all = all_fail p xs e in
         let longer = length-append xs (y ∷ []) in
         let index : position_or_len p (xs ++ y ∷ []) ≡ length (xs ++ y ∷ []) =
-        position_or_len_push p xs y ∙ cond-true (eqb (position_or_len p xs) (length xs)) (length xs + cond (p y) 0 1) (position_or_len p xs) (same_eqb (position_or_len p xs) (length xs) all)
+        position_or_len_push p xs y ∙ cond-true (eqb (position_or_len p xs) (length xs)) (length xs + cond (p y) 0 1) (position_or_len p xs) (eq-eqb (position_or_len p xs) (length xs) all)
         ∙ ap (λ b. length xs + cond b 0 1) plain ∙ omega (arith, longer) in
         nowhere p (xs ++ y ∷ []) index ∙ sym (nowhere p xs all)

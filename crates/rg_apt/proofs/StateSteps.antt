@@ -1,10 +1,11 @@
 -- One state more, and one label more: its fault, or that there is none.
 use Rattle.std.proofs.Common.{◌≡◌, ◌≢◌, inl, inr, ℕ, ◌<◌, ◌≤◌, Bool, true, false, cond, ◌&&◌, nat_le, List, [], ◌∷◌, ◌++◌, length, map, slice_get, Contains, Option, None, Some, IsSomeAnd, refl, sym, ap, ap₂, subst, ◌∙◌, arith, length-append}
 use Rattle.std.specs.List.{list_any}
-use Rattle.std.proofs.lemmas.Bool.{cond-true, cond-false, and_from}
+use Rattle.std.proofs.lemmas.Bool.{cond-true, cond-false, and_from, and_right, lt-leb, le-leb}
 use Rattle.std.proofs.lemmas.List.{map-append, length-map}
 use Rattle.std.proofs.lemmas.List.Elements.{Contains-push}
 use Rattle.std.proofs.lemmas.Option.{slice_get_within}
+use Rattle.rg_text.proofs.NameBytes.{absent_none, contains_any}
 use Rattle.rg_theory.specs.Limits.{most_states, most_labels}
 use Rattle.rg_lexer.specs.Lexeme.{Lexeme}
 use Rattle.rg_lts.specs.Draft.{Draft, IsStateNamed, IsOtherInitial}
@@ -12,7 +13,7 @@ use Rattle.rg_apt.specs.declared.fault.TextFault.{TextFault}
 use Rattle.rg_apt.specs.declared.fault.TextFault.TheVariants.{TwiceState, TwiceLabel, TwoInitial, TooManyStates, TooManyLabels}
 use Rattle.rg_apt.specs.Contents.{StateEntry, state_fault, label_fault, same_text}
 use Rattle.rg_apt.specs.Built.{state_text, label_text, is_marked, HasStates, IsNewName, IsNameFault}
-use Rattle.rg_apt.proofs.Names.{contains_any, absent_none, moved, earlier, le_true, le_false}
+use Rattle.rg_apt.proofs.Names.{moved, earlier}
 use Rattle.rg_apt.proofs.Marks.{some_marked, marked_any, push_marked, push_unmarked}
 
 -- the tests of a state's fault
@@ -36,11 +37,11 @@ to_room before e a = cond-false (again before e) (Some (TwiceState e.name.at)) (
 
 is_full : (before : List (StateEntry Lexeme)) (e : StateEntry Lexeme) → again before e ≡ false → most_states ≤ length before → state_fault before e ≡ Some (TooManyStates e.name.at)
 is_full before e a full =
-    to_room before e a ∙ cond-true (nat_le most_states (length before)) (Some (TooManyStates e.name.at)) (last_test before e) (le_true most_states (length before) full)
+    to_room before e a ∙ cond-true (nat_le most_states (length before)) (Some (TooManyStates e.name.at)) (last_test before e) (le-leb most_states (length before) full)
 
 to_last : (before : List (StateEntry Lexeme)) (e : StateEntry Lexeme) → again before e ≡ false → length before < most_states → state_fault before e ≡ last_test before e
 to_last before e a room =
-    to_room before e a ∙ cond-false (nat_le most_states (length before)) (Some (TooManyStates e.name.at)) (last_test before e) (le_false most_states (length before) room)
+    to_room before e a ∙ cond-false (nat_le most_states (length before)) (Some (TooManyStates e.name.at)) (last_test before e) (lt-leb most_states (length before) room)
 
 is_two : (before : List (StateEntry Lexeme)) (e : StateEntry Lexeme) → again before e ≡ false → length before < most_states → two before e ≡ true → state_fault before e ≡ Some (TwoInitial e.name.at)
 is_two before e a room t = to_last before e a room ∙ cond-true (two before e) (Some (TwoInitial e.name.at)) None t
@@ -85,10 +86,6 @@ state_names_more before e d name is h = ap₂ (λ ns n. ns ++ n ∷ []) h.state_
 and_false : (a b : Bool) → a ≡ false → (a && b) ≡ false
 and_false true b e = absurd cc
 and_false false b e = refl
-
-right_false : (a b : Bool) → b ≡ false → (a && b) ≡ false
-right_false true b e = e
-right_false false b e = refl
 
 pub plain_state : (before : List (StateEntry Lexeme)) (e : StateEntry Lexeme) (d d' : Draft) (name : List ℕ) → name ≡ e.name.text → e.initial ≡ false
     → d' ≡ WithState d name → IsNewName d.state_names most_states name → HasStates before d
@@ -138,7 +135,7 @@ marked_state before e d d' d'' name is mark made new (s, at, set) alone h =
     let number = last_number d.state_names name s new.new (subst (λ (v : Draft). IsStateNamed v s name) made at) in
     let same : s ≡ length before = number ∙ count in
     let made_too : d'' ≡ record (WithState d name) { initial = Some s } = set ∙ ap (λ (v : Draft). record v { initial = Some s }) made in (
-      is_fine before e (fresh before e d name is h new.new) (omega (arith, new.room)) (right_false e.initial (list_any is_marked before) none),
+      is_fine before e (fresh before e d name is h new.new) (omega (arith, new.room)) (and_right e.initial (list_any is_marked before) none),
       subst (HasStates (before ++ e ∷ [])) (sym made_too) (record {
         state_names = state_names_more before e d name is h;
         initial = ap Some same ∙ sym (push_marked is_marked before e none mark);
@@ -160,11 +157,11 @@ label_name_fault before x names f has (inr (at, new, full)) =
     let count = how_many label_text names before has in
     cond-false (list_any (same_text x) before) (Some (TwiceLabel x.at)) (label_room before x)
     (absent_none label_text x.text before (λ there. new (subst (λ l. Contains l x.text) (sym has) there)))
-    ∙ cond-true (nat_le most_labels (length before)) (Some (TooManyLabels x.at)) None (le_true most_labels (length before) (omega arith)) ∙ ap Some (sym at)
+    ∙ cond-true (nat_le most_labels (length before)) (Some (TooManyLabels x.at)) None (le-leb most_labels (length before) (omega arith)) ∙ ap Some (sym at)
 
 pub label_fine : (before : List Lexeme) (x : Lexeme) (names : List (List ℕ)) → names ≡ map label_text before → IsNewName names most_labels x.text → label_fault before x ≡ None
 label_fine before x names has new =
     let count = how_many label_text names before has in
     cond-false (list_any (same_text x) before) (Some (TwiceLabel x.at)) (label_room before x)
     (absent_none label_text x.text before (λ there. new.new (subst (λ l. Contains l x.text) (sym has) there)))
-    ∙ cond-false (nat_le most_labels (length before)) (Some (TooManyLabels x.at)) None (le_false most_labels (length before) (omega (arith, new.room)))
+    ∙ cond-false (nat_le most_labels (length before)) (Some (TooManyLabels x.at)) None (lt-leb most_labels (length before) (omega (arith, new.room)))

@@ -10,6 +10,7 @@ use Rattle.rg_theory.specs.Net.{Place}
 use Rattle.rg_theory.specs.declared.Problem.{Problem}
 use Rattle.rg_theory.specs.declared.Problem.TheVariants.{Event, States}
 use Rattle.rg_theory.specs.Problem.{ComesBefore}
+use Rattle.rg_theory.proofs.Arcs.{label_rises}
 use Rattle.rg_marks.specs.Cells.{AreAllApart}
 use Rattle.rg_outcome.specs.Coming.{IsLeft, IsNext}
 use Rattle.rg_outcome.specs.Blocks.{IsBlock, last_of}
@@ -31,12 +32,6 @@ some_found (Some problem) P Q f some = f problem some
 -- the labels of the first arcs of the state, so many, come before the next label
 abbrev pub ArePassed : List Arc → ℕ → ℕ → Type 0
 ArePassed leaving i next = (k : ℕ) (d : Arc) → k < i → (get_or leaving k d).label < next
-
--- in order, the labels of one state rise
-label_rises : (a b : Arc) → a.from ≡ b.from → IsArcBefore a b → a.label ≤ b.label
-label_rises a b same (inl less) = absurd (omega (arith, same))
-label_rises a b same (inr (e, inl less)) = omega arith
-label_rises a b same (inr (e, inr (f, less))) = omega (arith, f)
 
 module _ (lts : System) (s : ℕ) (leaving : List Arc) (members : (a : Arc) → Contains leaving a ↔ (Contains lts.arcs a × (a.from ≡ s))) where
   -- no label from the next one on has an arc, after the last one

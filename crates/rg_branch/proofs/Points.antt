@@ -26,9 +26,6 @@ use Rattle.rg_branch.specs.Points.{IsBetween, HasFloor, IsWholeThere, AreWholeBe
 use Rattle.rg_branch.proofs.Nodes.{form_here}
 use Rattle.rg_branch.proofs.Values.{form_value, zero_value, above, below, equal, not_below, not_above}
 
-pub zero_of : (z : ℤ) → InRange z → cast_unsigned w128 z ≡ 0 → z ≡ pos 0
-zero_of z h e = sym (back z h) ∙ ap (cast_signed w128) e ∙ cast_size 0 (omega arith)
-
 pub one_of : (z : ℤ) → InRange z → cast_unsigned w128 z ≡ 1 → z ≡ pos 1
 one_of z h e = sym (back z h) ∙ ap (cast_signed w128) e ∙ cast_size 1 (omega arith)
 

@@ -12,6 +12,7 @@ use Rattle.rg_theory.specs.declared.Problem.TheVariants.{Event, States}
 use Rattle.rg_theory.specs.Limits.{most_states}
 use Rattle.rg_theory.specs.System.{System, IsInRange, states, labels}
 use Rattle.rg_theory.specs.Tree.{IsTree}
+use Rattle.rg_theory.proofs.Lists.{map_there}
 use Rattle.rg_integers.proofs.Ring.{mul-one}
 use Rattle.rg_integers.specs.Range.{InRange}
 use Rattle.rg_integers.specs.Divisor.{int_gcd}
@@ -31,7 +32,6 @@ use Rattle.rg_case_folds.specs.Rewriting.{Scaled, has_start, terms_fold, form_fo
 use Rattle.rg_case_folds.specs.Meaning.{IsCaseOver}
 use Rattle.rg_case_folds.specs.FormRows.{form_row, IsMultipleOfRow}
 use Rattle.rg_case_folds.proofs.OneResult.{terms_one}
-use Rattle.rg_case_folds.proofs.Lists.{Contains-map}
 use Rattle.rg_case_folds.proofs.Opposites.{same_multiple}
 use Rattle.rg_case_folds.proofs.LeftOut.{left_out}
 use Rattle.rg_case_folds.proofs.CaseRows.{tokens_stand}
@@ -143,7 +143,7 @@ module _ (case : CaseSystem) (form : Form) (k : KeptRow) (divisor : ℕ) (e : fo
   some_multiple (inl (zeros, weak)) = (0, pos 0, multiple_of_none zeros)
   some_multiple (inr (inl (i, below, at))) = absurd (omega arith)
   some_multiple (inr (inr (y, has, same))) =
-      let (i, below, at) : Contains rows k.row = subst (Contains rows) same (Contains-map (λ (x : KeptRow). x.row) case.kept y has) in
+      let (i, below, at) : Contains rows k.row = subst (Contains rows) same (map_there (λ (x : KeptRow). x.row) case.kept y has) in
       (i, many, multiple_of_kept i (subst (λ n. i < n) (length-map case.kept (λ (x : KeptRow). x.row)) below) at)
 
 -- ---- the bounds, times the scale

@@ -10,7 +10,7 @@ use Rattle.rg_theory.specs.declared.Problem.{Problem}
 use Rattle.rg_theory.specs.declared.Problem.TheVariants.{Event, States}
 use Rattle.rg_theory.specs.ClassWords.{HasNumbersInRange}
 use Rattle.rg_theory.specs.System.{System, states, labels}
-use Rattle.rg_theory.proofs.Lists.{Contains-cons_cases}
+use Rattle.rg_theory.proofs.Lists.{Contains-cons_cases, map_there, map_from}
 use Rattle.rg_integers.specs.Sum.{dot, number_at}
 use Rattle.rg_integers.proofs.Ring.{ring, mul_left_comm}
 use Rattle.rg_integers.proofs.Order.{mul-cancel_left, positive_differs, mul_positive}
@@ -27,7 +27,7 @@ use Rattle.rg_case_folds.specs.Values.{NamesLabels, numbers_along, column_values
 use Rattle.rg_case_folds.proofs.ExactRows.{terms_value}
 use Rattle.rg_case_folds.proofs.Signs.{terms_positive}
 use Rattle.rg_case_folds.specs.Meaning.{IsCaseOver, AreEffects, AreGivenBy}
-use Rattle.rg_case_folds.proofs.Lists.{first, nothing, Contains-map, Contains-of_map, where_is, where_has, if_true, if_false, of_if, of_optional}
+use Rattle.rg_case_folds.proofs.Lists.{first, nothing, where_is, where_has, if_true, if_false, of_if, of_optional}
 use Rattle.rg_case_folds.proofs.ColumnValues.{row_sum}
 use Rattle.rg_case_folds.proofs.Products.{grouped, once}
 use Rattle.rg_cert_meaning.specs.declared.Form.TheVariants as split_form
@@ -114,13 +114,13 @@ module _ (lts : System) (class : Class) (problem : Problem) where
   pub bounded_has : (q : ℕ) → is_some class.bound ≡ true → q < states lts → HasForm (split_form.Tokens q)
   bounded_has q bound lt = Contains-append_left first_forms start_form (split_form.Tokens q)
       (if_true (is_some class.bound) tokens plain_effects (split_form.Tokens q) bound
-      (Contains-map split_form.Tokens (all_numbers (states lts)) q (where_has (λ q. true) 0 (states lts) q refl (omega arith) (omega arith))))
+      (map_there split_form.Tokens (all_numbers (states lts)) q (where_has (λ q. true) 0 (states lts) q refl (omega arith) (omega arith))))
 
   pub plain_has : (t : ℕ) → is_some class.bound ≡ false → class.plain ≡ true → t < labels lts → has_label t lts.arcs ≡ true → HasForm (split_form.Effect t)
   plain_has t bound plain lt used = Contains-append_left first_forms start_form (split_form.Effect t)
       (if_false (is_some class.bound) tokens plain_effects (split_form.Effect t) bound
       (if_true class.plain effects [] (split_form.Effect t) plain
-      (Contains-map split_form.Effect (used_labels lts) t (where_has (λ t. has_label t lts.arcs) 0 (labels lts) t used (omega arith) (omega arith)))))
+      (map_there split_form.Effect (used_labels lts) t (where_has (λ t. has_label t lts.arcs) 0 (labels lts) t used (omega arith) (omega arith)))))
 
   pub start_has : splits_start class problem ≡ true → HasForm split_form.Start
   start_has splits = Contains-append_right first_forms start_form split_form.Start
@@ -137,14 +137,14 @@ module _ (lts : System) (class : Class) (problem : Problem) where
     where
       of_tokens : (is_some class.bound ≡ true) × Contains tokens split → IsSplitOf split
       of_tokens (bound, within) =
-          let (q, at, is) = Contains-of_map split_form.Tokens (all_numbers (states lts)) split within in
+          let (q, at, is) = map_from split_form.Tokens (all_numbers (states lts)) split within in
           let (_, _, below) = where_is (λ q. true) 0 (states lts) q at in
           subst IsSplitOf is (bound, omega arith)
 
       of_effects : (is_some class.bound ≡ false) × Contains plain_effects split → IsSplitOf split
       of_effects (bound, rest) =
           let (plain, within) = of_optional class.plain effects split rest in
-          let (t, at, is) = Contains-of_map split_form.Effect (used_labels lts) split within in
+          let (t, at, is) = map_from split_form.Effect (used_labels lts) split within in
           let (used, _, below) = where_is (λ t. has_label t lts.arcs) 0 (labels lts) t at in
           subst IsSplitOf is (bound, plain, used, omega arith)
 

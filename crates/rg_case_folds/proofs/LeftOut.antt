@@ -8,14 +8,14 @@ use Rattle.rg_theory.specs.declared.Problem.{Problem}
 use Rattle.rg_theory.specs.declared.Problem.TheVariants.{Event, States}
 use Rattle.rg_theory.specs.System.{System, IsInRange, states, labels}
 use Rattle.rg_theory.proofs.Arcs.{arc_in_range}
-use Rattle.rg_theory.proofs.Lists.{Contains-cons_cases}
+use Rattle.rg_theory.proofs.Lists.{Contains-cons_cases, map_there}
 use Rattle.rg_cert_meaning.specs.declared.RowName.{RowName}
 use Rattle.rg_cert_meaning.specs.Row.{HasArcAt, SharedStands}
 use Rattle.rg_cert_meaning.specs.Row.{RowStands, case_consumer}
 use Rattle.rg_case_folds.specs.Rewriting.{has_label, has_label_at, used_labels, has_start, all_numbers, states_with, problem_rows, names_of}
 use Rattle.rg_case_folds.specs.Meaning.{IsLeftOut}
 use Rattle.rg_case_folds.proofs.Names.{tokens_names, cap_names, effect_names, may_make, makers, makes_names, plain_names, impure_names, IsPart}
-use Rattle.rg_case_folds.proofs.Lists.{nothing, first, behind, Contains-map, where_has, if_true, if_false, from_one_of}
+use Rattle.rg_case_folds.proofs.Lists.{nothing, first, behind, where_has, if_true, if_false, from_one_of}
 use Rattle.rg_cert_meaning.specs.declared.RowName.TheVariants as row_name
 
 -- the state of an arc of the label is found
@@ -49,10 +49,10 @@ from_part lts class problem number name part =
     from_one_of (problem_rows lts class problem) (tokens_names lts class) (cap_names lts class) (effect_names lts class) (makes_names lts class problem number) name part
 
 state_named : (lts : System) (row : ℕ → RowName) (q : ℕ) → q < states lts → Contains (map row (all_numbers (states lts))) (row q)
-state_named lts row q lt = Contains-map row (all_numbers (states lts)) q (where_has (λ q. true) 0 (states lts) q refl (omega arith) (omega arith))
+state_named lts row q lt = map_there row (all_numbers (states lts)) q (where_has (λ q. true) 0 (states lts) q refl (omega arith) (omega arith))
 
 label_named : (lts : System) (row : ℕ → RowName) (t : ℕ) → t < labels lts → has_label t lts.arcs ≡ true → Contains (map row (used_labels lts)) (row t)
-label_named lts row t lt e = Contains-map row (used_labels lts) t (where_has (λ t. has_label t lts.arcs) 0 (labels lts) t e (omega arith) (omega arith))
+label_named lts row t lt e = map_there row (used_labels lts) t (where_has (λ t. has_label t lts.arcs) 0 (labels lts) t e (omega arith) (omega arith))
 
 -- the rows of no problem, where the consumer is that of the case
 shared_part : (lts : System) (class : Class) (problem : Problem) (number : ℕ) (name : RowName) → SharedStands lts class (case_consumer lts problem number) [] name
@@ -81,7 +81,7 @@ shared_part lts class problem number (row_name.Makes t) (lt, nonbranching, diffe
     ⊎_elim
     (λ e. inl (inr (inr (inr (inr (if_true class.nonbranching
     (map row_name.Makes (makers lts problem number)) [] (row_name.Makes t) nonbranching
-    (Contains-map row_name.Makes (makers lts problem number) t
+    (map_there row_name.Makes (makers lts problem number) t
     (where_has (may_make lts problem number) 0 (labels lts) t
     (and_from (has_label t lts.arcs) (not (t == case_consumer lts problem number)) e
     (not_from_false (t == case_consumer lts problem number) (ne_eqb t (case_consumer lts problem number) differ))) (omega arith) (omega arith)))))))))
@@ -103,7 +103,7 @@ event_part : (lts : System) (class : Class) (s t number : ℕ) (name : RowName) 
     → IsPart lts class (Event s t) number name ⊎ IsLeftOut lts class name
 event_part lts class s t number (row_name.Stop q) fine (pure, plain, at) =
     inl (inl (if_false class.pure (row_name.Block ∷ []) (impure_names lts class t) (row_name.Stop q) pure
-    (if_false class.plain (plain_names lts t) (map row_name.Stop (states_with lts t)) (row_name.Stop q) plain (Contains-map row_name.Stop (states_with lts t) q (with_arc lts q t fine at)))))
+    (if_false class.plain (plain_names lts t) (map row_name.Stop (states_with lts t)) (row_name.Stop q) plain (map_there row_name.Stop (states_with lts t) q (with_arc lts q t fine at)))))
 event_part lts class s t number row_name.Block fine pure =
     inl (inl (if_true class.pure (row_name.Block ∷ []) (impure_names lts class t) row_name.Block pure (first row_name.Block [])))
 event_part lts class s t number row_name.Empty fine (plain, pure) =
@@ -111,7 +111,7 @@ event_part lts class s t number row_name.Empty fine (plain, pure) =
 event_part lts class s t number (row_name.Full q) fine (plain, pure, at) = inl
     (inl (plain_rows lts class s t (row_name.Full q) plain pure
     (behind row_name.Empty (row_name.Full q) (map row_name.Full (states_with lts t) ++ row_name.Keep ∷ [])
-    (Contains-append_left (map row_name.Full (states_with lts t)) (row_name.Keep ∷ []) (row_name.Full q) (Contains-map row_name.Full (states_with lts t) q (with_arc lts q t fine at))))))
+    (Contains-append_left (map row_name.Full (states_with lts t)) (row_name.Keep ∷ []) (row_name.Full q) (map_there row_name.Full (states_with lts t) q (with_arc lts q t fine at))))))
 event_part lts class s t number row_name.Keep fine (plain, pure) = inl
     (inl (plain_rows lts class s t row_name.Keep plain pure
     (behind row_name.Empty row_name.Keep (map row_name.Full (states_with lts t) ++ row_name.Keep ∷ [])

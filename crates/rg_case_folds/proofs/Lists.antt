@@ -1,5 +1,5 @@
 -- Members of lists made by maps, tests and conditions, and of joined lists.
-use Rattle.std.proofs.Common.{◌≡◌, ◌⊎◌, ⊎_elim, ℕ, zero, suc, ◌+◌, ◌<◌, ◌≤◌, ◌==◌, Bool, true, false, if◌then◌else◌, List, [], ◌∷◌, ◌++◌, map, Contains, inl, inr, refl, sym, subst, ap, ◌∙◌, arith, eq-eqb}
+use Rattle.std.proofs.Common.{◌≡◌, ◌⊎◌, ⊎_elim, ℕ, zero, suc, ◌+◌, ◌<◌, ◌≤◌, ◌==◌, Bool, true, false, if◌then◌else◌, List, [], ◌∷◌, ◌++◌, Contains, inl, inr, refl, sym, subst, ap, ◌∙◌, arith, eq-eqb}
 use Rattle.std.proofs.lemmas.Bool.{true≢false, cases_eq}
 use Rattle.std.proofs.lemmas.List.Elements.{Contains-append_left, Contains-append_right, Contains-append_cases}
 use Rattle.rg_theory.proofs.Lists.{Contains-cons_cases}
@@ -31,16 +31,6 @@ pub not_in : (xs : List ℕ) (m : ℕ) → is_in xs m ≡ false → Contains xs 
 not_in xs m e has = true≢false (sym (has_in xs m has) ∙ e)
 
 -- ---- maps
-
-pub Contains-map : {X Y : Type 0} (f : X → Y) (xs : List X) (x : X) → Contains xs x → Contains (map f xs) (f x)
-Contains-map f [] x has = absurd (nothing x has)
-Contains-map f (y ∷ xs) x has =
-    ⊎_elim (λ is. subst (λ z. Contains (f y ∷ map f xs) z) (ap f is) (first (f y) (map f xs))) (λ there. behind (f y) (f x) (map f xs) (Contains-map f xs x there)) (Contains-cons_cases y x xs has)
-
-pub Contains-of_map : {X Y : Type 0} (f : X → Y) (xs : List X) (y : Y) → Contains (map f xs) y → (x : X) × Contains xs x × (f x ≡ y)
-Contains-of_map f [] y has = absurd (nothing y has)
-Contains-of_map f (x ∷ xs) y has =
-    ⊎_elim (λ is. (x, first x xs, is)) (λ there. (let (z, has', is) = Contains-of_map f xs y there in (z, behind x z xs has', is))) (Contains-cons_cases (f x) y (map f xs) has)
 
 -- ---- numbers that pass a test
 

@@ -13,6 +13,7 @@ use Rattle.rg_theory.specs.Net.{Place}
 use Rattle.rg_theory.specs.Region.{RegionIn}
 use Rattle.rg_theory.specs.Problem.{Separates}
 use Rattle.rg_theory.proofs.Arcs.{arc_in_range}
+use Rattle.rg_theory.proofs.Lists.{map_there, map_from}
 use Rattle.rg_cert_meaning.specs.Expression.{numbers_by}
 use Rattle.rg_cert_meaning.specs.declared.Variable.{Variable}
 use Rattle.rg_cert_meaning.specs.Row.{KeepsRows, consumer_of}
@@ -27,7 +28,7 @@ use Rattle.rg_case_folds.specs.Rewriting.{has_label_at, all_numbers, states_with
 use Rattle.rg_case_folds.specs.Shown.{IsLive}
 use Rattle.rg_case_folds.specs.Placing.{effect_fold, made_whole, along_tree, shift_fold, ratio_at, least_of, top_at, taken_by_effect, taken, place_of, pre_of, put_fold, place_fold}
 use Rattle.rg_case_folds.specs.Meaning.{IsCaseOver, AreEffects, MeetsCase}
-use Rattle.rg_case_folds.proofs.Lists.{Contains-map, Contains-of_map, where_is, where_has}
+use Rattle.rg_case_folds.proofs.Lists.{where_is, where_has}
 use Rattle.rg_case_folds.proofs.Names.{found_at}
 use Rattle.rg_case_folds.proofs.LeftOut.{finds_at}
 use Rattle.rg_case_folds.proofs.Whole.{tokens_in, effects_in, tokens_are, whole_keeps}
@@ -139,7 +140,7 @@ module _ (lts : System) (class : Class) (problem : Problem) (t number : ℕ) (fo
       (let lt = (arc_in_range lts fine q t q' has).0 in omega arith)
 
   some : 0 < length (map (ratio_at numbers) (states_with lts t))
-  some = ⊎_elim (λ lt. lt) (λ le. absurd (live (λ q q' has. none le (Contains-map (ratio_at numbers) (states_with lts t) q (within_states q q' has)))))
+  some = ⊎_elim (λ lt. lt) (λ le. absurd (live (λ q q' has. none le (map_there (ratio_at numbers) (states_with lts t) q (within_states q q' has)))))
       (cases_lt 0 (length (map (ratio_at numbers) (states_with lts t))))
     where
       none : length (map (ratio_at numbers) (states_with lts t)) ≤ 0 → {r : Ratio} → Contains (map (ratio_at numbers) (states_with lts t)) r → ⊥
@@ -147,14 +148,14 @@ module _ (lts : System) (class : Class) (problem : Problem) (t number : ℕ) (fo
 
   whole_list : AllWhole (map (ratio_at numbers) (states_with lts t))
   whole_list r has =
-      let (q, within, is) = Contains-of_map (ratio_at numbers) (states_with lts t) r has in
+      let (q, within, is) = map_from (ratio_at numbers) (states_with lts t) r has in
       let (_, _, lt) = where_is (λ u. has_label_at u t lts.arcs) 0 (states lts) q within in
       ap (λ (f : Ratio). f.bottom) (sym is ∙ (k.at.1 q (omega arith)).0)
 
   stops_at : StopsAt lts t numbers x
   stops_at =
       let (has, low) = least_is (map (ratio_at numbers) (states_with lts t)) some whole_list in
-      let (q, within, is) = Contains-of_map (ratio_at numbers) (states_with lts t) (least_at lts numbers t) has in
+      let (q, within, is) = map_from (ratio_at numbers) (states_with lts t) (least_at lts numbers t) has in
       let (e, _, lt) = where_is (λ u. has_label_at u t lts.arcs) 0 (states lts) q within in
       let (q', arc) = found_at q t lts.arcs e in
       record {
@@ -164,7 +165,7 @@ module _ (lts : System) (class : Class) (problem : Problem) (t number : ℕ) (fo
         below_states = omega arith;
         is = ap (λ (r : Ratio). r.top) (sym is ∙ (k.at.1 q (omega arith)).0);
         low = λ p p' has'. subst (λ (r : Ratio). (least_at lts numbers t).top ≤ℤ r.top) (k.at.1 p (arc_in_range lts fine p t p' has').0).0
-            (low (ratio_at numbers p) (Contains-map (ratio_at numbers) (states_with lts t) p (within_states p p' has')));
+            (low (ratio_at numbers p) (map_there (ratio_at numbers) (states_with lts t) p (within_states p p' has')));
       }
 
 module _ (lts : System) (class : Class) (s t number : ℕ) (found numbers : List Ratio) (x : Variable → ℤ) (given : List ℤ) (fine : IsInRange lts)

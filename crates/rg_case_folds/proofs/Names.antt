@@ -6,7 +6,7 @@ use Rattle.rg_theory.specs.declared.Class.{Class}
 use Rattle.rg_theory.specs.declared.Problem.{Problem}
 use Rattle.rg_theory.specs.declared.Problem.TheVariants.{Event, States}
 use Rattle.rg_theory.specs.System.{System, states, labels}
-use Rattle.rg_theory.proofs.Lists.{Contains-cons_cases}
+use Rattle.rg_theory.proofs.Lists.{Contains-cons_cases, map_from}
 use Rattle.rg_cert_meaning.specs.declared.RowName.{RowName}
 use Rattle.rg_cert_meaning.specs.Row.{HasArcAt, RowStands, row_expression, apart_expression}
 use Rattle.rg_cert_meaning.specs.Row.{order_of, case_consumer}
@@ -15,7 +15,7 @@ use Rattle.rg_folds.specs.Substitution.{numbers_where}
 use Rattle.rg_case_folds.specs.Rewriting.{has_label, has_label_at, used_labels, has_start, all_numbers, states_with, problem_rows, names_of}
 use Rattle.rg_case_folds.specs.Values.{NamesLabels}
 use Rattle.std.proofs.lemmas.List.Elements.{Contains-append_cases}
-use Rattle.rg_case_folds.proofs.Lists.{nothing, first, behind, Contains-of_map, where_is, of_if, of_optional, InOneOf, in_one_of}
+use Rattle.rg_case_folds.proofs.Lists.{nothing, first, behind, where_is, of_if, of_optional, InOneOf, in_one_of}
 use Rattle.rg_cert_meaning.specs.declared.RowName.TheVariants as row_name
 
 -- a state with an arc of the label
@@ -77,7 +77,7 @@ each_problem_name lts class s t P block empty full keep stop name has =
     (λ (pure, h).
     ⊎_elim
     (λ (plain, h'). plain_name pure plain h')
-    (λ (plain, h'). (let (q, has', is) = Contains-of_map row_name.Stop (states_with lts t) name h' in subst P is (stop pure plain q has')))
+    (λ (plain, h'). (let (q, has', is) = map_from row_name.Stop (states_with lts t) name h' in subst P is (stop pure plain q has')))
     (of_if class.plain (plain_names lts t) (map row_name.Stop (states_with lts t)) name h))
     (of_if class.pure (row_name.Block ∷ []) (impure_names lts class t) name has)
   where
@@ -90,7 +90,7 @@ each_problem_name lts class s t P block empty full keep stop name has =
         (λ is. subst P is (empty pure plain))
         (λ there.
         ⊎_elim
-        (λ among. (let (q, has', is) = Contains-of_map row_name.Full (states_with lts t) name among in subst P is (full pure plain q has')))
+        (λ among. (let (q, has', is) = map_from row_name.Full (states_with lts t) name among in subst P is (full pure plain q has')))
         (λ last. subst P (only row_name.Keep last) (keep pure plain))
         (Contains-append_cases (map row_name.Full (states_with lts t)) (row_name.Keep ∷ []) name there))
         (Contains-cons_cases row_name.Empty name (map row_name.Full (states_with lts t) ++ row_name.Keep ∷ []) h)
@@ -110,13 +110,13 @@ each_name lts class problem number P of_problem tokens cap up down makes name ha
   where
     of_states : (row : ℕ → RowName) → ((q : ℕ) → q < states lts → P (row q)) → Contains (map row (all_numbers (states lts))) name → P name
     of_states row each h =
-        let (q, has', is) = Contains-of_map row (all_numbers (states lts)) name h in
+        let (q, has', is) = map_from row (all_numbers (states lts)) name h in
         let (_, _, lt) = where_is (λ q. true) 0 (states lts) q has' in
         subst P is (each q (omega arith))
 
     of_labels : (test : ℕ → Bool) (row : ℕ → RowName) → ((u : ℕ) → u < labels lts → test u ≡ true → P (row u)) → Contains (map row (numbers_where test 0 (labels lts))) name → P name
     of_labels test row each h =
-        let (u, has', is) = Contains-of_map row (numbers_where test 0 (labels lts)) name h in
+        let (u, has', is) = map_from row (numbers_where test 0 (labels lts)) name h in
         let (e, _, lt) = where_is test 0 (labels lts) u has' in
         subst P is (each u (omega arith) e)
 

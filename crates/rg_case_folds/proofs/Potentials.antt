@@ -1,11 +1,10 @@
 -- Numbers of states that the effects of labels give along the tree.
-use Rattle.std.proofs.Common.{◌≡◌, ◌≢◌, ◌⊎◌, ⊎_elim, ◌↔◌, ℕ, suc, ◌+◌, ◌<◌, ◌==◌, ◌&&◌, eq-eqb, ne_eqb, Bool, true, false, if◌then◌else◌, List, [], ◌∷◌, ◌++◌, Contains, inl, inr, ap, ap₂, refl, subst, sym, ◌∙◌, arith, zero-add}
+use Rattle.std.proofs.Common.{◌≡◌, ◌≢◌, ◌⊎◌, ⊎_elim, ◌↔◌, ℕ, suc, ◌+◌, ◌<◌, ◌==◌, eq-eqb, ne_eqb, Bool, true, false, if◌then◌else◌, List, [], ◌∷◌, ◌++◌, Contains, inl, inr, ap, ap₂, refl, subst, sym, ◌∙◌, arith, zero-add}
 use Rattle.std.specs.Prelude.{ℤ, pos, ◌+ℤ◌, ◌-ℤ◌, ◌*ℤ◌}
 use Rattle.std.proofs.lemmas.Int.{ints}
-use Rattle.std.proofs.lemmas.Bool.{cases_eq}
 use Rattle.rg_theory.specs.declared.Arc.{Arc}
 use Rattle.rg_theory.specs.System.{System, labels, arc, Leads, IsReachable, IsInRange}
-use Rattle.rg_theory.proofs.Arcs.{arc_in_range}
+use Rattle.rg_theory.proofs.Arcs.{arc_in_range, same_arc_is}
 use Rattle.rg_theory.proofs.Lists.{Contains-cons_cases}
 use Rattle.rg_integers.specs.Sum.{sum_below, sum_over}
 use Rattle.rg_integers.proofs.Ring.{ring, add-mul, one-mul}
@@ -125,27 +124,6 @@ tree_sum lts tree effect a g has = sum_below-zero (labels lts) (λ t. chord_entr
 
 pub arc_label : (lts : System) (a : Arc) → IsInRange lts → Contains lts.arcs a → a.label < labels lts
 arc_label lts a fine has = (arc_in_range lts fine a.from a.label a.to has).1
-
-same_arc_is : (a b : Arc) → same_arc a b ≡ true → a ≡ b
-same_arc_is a b e = go (cases_eq a.from b.from) (cases_eq a.label b.label) (cases_eq a.to b.to)
-  where
-    true≢false : true ≡ false → ⊥
-    true≢false p = cc
-
-    and_true : (x y z : Bool) → x && (y && z) ≡ true → (x ≡ true) × (y ≡ true) × (z ≡ true)
-    and_true true true true p = (refl, refl, refl)
-    and_true true true false p = absurd (true≢false (sym p))
-    and_true true false z p = absurd (true≢false (sym p))
-    and_true false y z p = absurd (true≢false (sym p))
-
-    parts : ((a.from == b.from) ≡ true) × ((a.label == b.label) ≡ true) × ((a.to == b.to) ≡ true)
-    parts = and_true (a.from == b.from) (a.label == b.label) (a.to == b.to) e
-
-    go : (a.from ≡ b.from) ⊎ (a.from ≡ b.from → ⊥) → (a.label ≡ b.label) ⊎ (a.label ≡ b.label → ⊥) → (a.to ≡ b.to) ⊎ (a.to ≡ b.to → ⊥) → a ≡ b
-    go (inl p) (inl q) (inl r) = λ i. record { from = p i; label = q i; to = r i }
-    go (inr n) _ _ = absurd (true≢false (sym parts.0 ∙ ne_eqb a.from b.from n))
-    go (inl _) (inr n) _ = absurd (true≢false (sym parts.1 ∙ ne_eqb a.label b.label n))
-    go (inl _) (inl _) (inr n) = absurd (true≢false (sym parts.2 ∙ ne_eqb a.to b.to n))
 
 -- an arc that the test finds is among the arcs
 pub among_is : (arcs : List Arc) (a : Arc) → is_among arcs a ≡ true → Contains arcs a

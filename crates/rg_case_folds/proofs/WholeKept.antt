@@ -32,10 +32,11 @@ use Rattle.rg_case_folds.proofs.CaseMeaning.{start_means}
 use Rattle.rg_case_folds.proofs.Forms.{form_of_variable, form_value, form_positive, form_names, bounded_has, start_has}
 use Rattle.rg_case_folds.proofs.Times.{rest_none, allows_by}
 use Rattle.rg_theory.specs.Class.{AllowsStart}
+use Rattle.rg_theory.proofs.Lists.{map_from}
 use Rattle.rg_cert_meaning.specs.Refutes.{IsSeparationProblem}
 use Rattle.rg_case_folds.proofs.WholeParts.{whole_tokens, whole_rows}
 use Rattle.rg_case_folds.proofs.WholePoints.{bounded_parts, plain_parts, plain_splits, allowed}
-use Rattle.rg_case_folds.proofs.Lists.{Contains-of_map, where_is}
+use Rattle.rg_case_folds.proofs.Lists.{where_is}
 use Rattle.rg_case_folds.specs.Places.{IsReduced, AreValuesOf, AreFormsWhole}
 use Rattle.rg_case_folds.proofs.Wholes.{each_at}
 use Rattle.rg_case_folds.proofs.Found.{IsOverAt, all_length, all_at, whole_by, label_at, start_at}
@@ -158,7 +159,7 @@ module _ (it : CaseSetting) (case : CaseSystem) (first : ℤ) (effect : ℕ → 
 
   all_over : AreOver scale list
   all_over r has =
-      let (s, within, is) = Contains-of_map out (all_numbers (states it.lts)) r has in
+      let (s, within, is) = map_from out (all_numbers (states it.lts)) r has in
       let (_, _, lt) = where_is (λ q. true) 0 (states it.lts) s within in
       (x (Tokens s), subst (λ q. IsOverAt scale q (x (Tokens s))) is (state_over s (omega arith)).0)
 
@@ -326,7 +327,7 @@ module _ (it : CaseSetting) (case : CaseSystem) (first : ℤ) (effect : ℕ → 
   plain_kept bound plain =
       let (y, parts, start_steps) = plain_parts it c.in_range c.is_tree scale v.positive first effect e keeps variable_whole start_whole bound plain in
       let (least, over, has, low) = least_over scale list (subst (λ k. 0 < k) (sym list_length) (let lt = c.in_range.initial in omega arith)) v.positive all_over in
-      let (l, within, is) = Contains-of_map out (all_numbers (states it.lts)) (least_of list) has in
+      let (l, within, is) = map_from out (all_numbers (states it.lts)) (least_of list) has in
       let (_, _, below) = where_is (λ q. true) 0 (states it.lts) l within in
       let l_lt : l < states it.lts = omega arith in (
         lowered (states it.lts) (neg_ℤ (y (Tokens l))) y,

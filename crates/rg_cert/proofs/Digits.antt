@@ -25,11 +25,6 @@ plain_numeral text is = (pos (digits_value 10 text), inl (is, refl))
 pub minus_numeral : (text digits : List ℕ) → text ≡ 45 ∷ digits → IsPlain digits → digits ≢ 48 ∷ [] → (z : ℤ) × IsNumeral text z
 minus_numeral text digits at is other = (neg_ℤ (pos (digits_value 10 digits)), inr (digits, at, is, other, refl))
 
--- a test that turns another one
-pub turned : (b : Bool) → not b ≡ true → b ≡ false
-turned true h = absurd cc
-turned false h = refl
-
 pub turned_back : (b : Bool) → (b ≡ true → ⊥) → not b ≡ true
 turned_back true other = absurd (other refl)
 turned_back false other = refl

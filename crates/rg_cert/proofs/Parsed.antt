@@ -6,13 +6,11 @@ use Rattle.std.specs.Result.{OkIff}
 use Rattle.std.specs.Str.Parse.{digits_value, ParsesSigned}
 use Rattle.std.proofs.lemmas.Bool.{cases_lt}
 use Rattle.std.proofs.lemmas.List.Elements.{All-weaker}
-use Rattle.std.proofs.lemmas.Str.Parse.{IsNumeralModel, numerals_by_value, parse_signed_digits, parse_signed_minus}
+use Rattle.std.proofs.lemmas.Str.Parse.{parse_signed_digits, parse_signed_minus}
+use Rattle.rg_theory.proofs.ClassTexts.{numerals}
 use Rattle.rg_cert.specs.Numerals.{IsNumeral}
 use Rattle.rg_cert.proofs.Decimal.{numeral_shown, one_number}
 use mir.Syntax.{w128}
-
-numerals : IsNumeralModel (λ ds. list_all is_ascii_digit ds ≡ true) (digits_value 10)
-numerals = numerals_by_value (λ ds. list_all is_ascii_digit ds ≡ true) (search rules)
 
 abs_minus : (v : ℕ) → nat_abs (neg_ℤ (pos v)) ≡ v
 abs_minus zero = refl

@@ -7,6 +7,7 @@ use Rattle.std.proofs.lemmas.List.{get_or_default}
 use Rattle.std.proofs.lemmas.List.Elements.{Contains-get_or}
 use Rattle.rg_theory.specs.declared.Arc.{Arc}
 use Rattle.rg_theory.specs.System.{System, arc, IsArcBefore}
+use Rattle.rg_theory.proofs.Arcs.{label_rises}
 use Rattle.rg_checks.proofs.Runs.{IsRun, part, part_at, part_short, run_members}
 
 -- the arcs leave the state
@@ -15,11 +16,6 @@ AreLeaving s arcs = (a : Arc) → Contains arcs a → a.from ≡ s
 
 from_is : (s : ℕ) (arcs : List Arc) (k : ℕ) (d : Arc) → AreLeaving s arcs → k < length arcs → (get_or arcs k d).from ≡ s
 from_is s arcs k d leaves lt = leaves (get_or arcs k d) (Contains-get_or arcs k d lt)
-
-label_rises : (a b : Arc) → a.from ≡ b.from → IsArcBefore a b → a.label ≤ b.label
-label_rises a b same (inl lt) = absurd (omega (arith, same))
-label_rises a b same (inr (e, inl lt)) = omega arith
-label_rises a b same (inr (e, inr (f, lt))) = omega (arith, f)
 
 target_rises : (a b : Arc) → a.from ≡ b.from → a.label ≡ b.label → IsArcBefore a b → a.to < b.to
 target_rises a b from label (inl lt) = absurd (omega (arith, from))

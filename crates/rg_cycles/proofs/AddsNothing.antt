@@ -1,11 +1,11 @@
 -- One step of the sum for a free label: a term that is added, and one of value 0 that is passed over.
-use Rattle.std.proofs.Common.{◌≡◌, ◌≢◌, ◌∙◌, Result, Ok, Err, inr, ap, subst, sym, arith}
+use Rattle.std.proofs.Common.{◌≡◌, ◌≢◌, Result, Ok, Err, inr, subst, sym, arith}
 use Rattle.std.specs.Prelude.{ℤ, pos, ◌*ℤ◌, ◌-ℤ◌}
 use Rattle.std.proofs.Math.IntN.{*ℤ_comm}
 use Rattle.std.proofs.lemmas.Int.{ints}
-use Rattle.std.specs.Int.{w128, cast_signed, cast_unsigned}
+use Rattle.std.specs.Int.{w128, cast_unsigned}
 use Rattle.rg_integers.specs.Range.{InRange}
-use Rattle.rg_integers.proofs.Casts.{back}
+use Rattle.rg_integers.proofs.Casts.{zero_of_bits}
 use Rattle.rg_integers.specs.declared.term.Wide.{Wide}
 use Rattle.rg_fraction.specs.declared.fraction.Fraction.{Fraction}
 use Rattle.rg_fraction.specs.Fractions.{numerator_of, denominator_of}
@@ -14,10 +14,6 @@ use Rattle.rg_integers.specs.Term.{FitsTerm}
 use Rattle.rg_folds.specs.Fold.{and_then, Ratio, whole, ratio_of, shown_result, IsRatio, quotient, add, mul}
 use Rattle.rg_folds.proofs.Zeros.{count_adds_nothing, entry_adds_nothing, plus_zero, zero_count, zero_ratio, fraction_within}
 use Rattle.rg_folds.proofs.Folding.{whole_is}
-
--- a number whose bits are 0
-pub zero_of_bits : (z : ℤ) → InRange z → cast_unsigned w128 z ≡ 0 → z ≡ pos 0
-zero_of_bits z h e = sym (back z h) ∙ ap (cast_signed w128) e
 
 pub entry_passed_over : (n d count : ℤ) (sum : Fraction) → InRange n → cast_unsigned w128 n ≡ 0 → d ≢ pos 0 → InRange count
     → and_then (and_then (quotient n d) (mul (whole count))) (add (ratio_of sum)) (Ok (ratio_of sum))

@@ -3,13 +3,12 @@ use Rattle.std.proofs.lemmas.List.Elements.{Contains-get_or}
 use Rattle.std.proofs.lemmas.List.{append-nil}
 use Rattle.std.proofs.Common.{◌≡◌, ◌≢◌, ℕ, arith, ◌+◌, ◌-◌, ◌<◌, ◌≤◌, nat_lt, not, ◌&&◌, Contains, Bool, true, false, cond, List, [], ◌∷◌, ◌++◌, length, map, filter, take, ap, refl, sym, ◌∙◌}
 use Rattle.std.specs.Prelude.{slice_index, ℤ, pos}
-use Rattle.std.specs.Int.{w128, cast_signed, cast_unsigned}
+use Rattle.std.specs.Int.{w128, cast_unsigned}
 use Rattle.std.specs.Ordering.{int_eq}
 use Rattle.std.proofs.lemmas.Bool.Decides.{Decides-int_eq}
 use Rattle.std.proofs.lemmas.List.{map-append}
 use Rattle.std.proofs.lemmas.List.Elements.{filter_more}
 use Rattle.rg_integers.specs.Range.{InRange}
-use Rattle.rg_integers.proofs.Casts.{back}
 use Rattle.rg_linear.proofs.Columns.{below_test, past_test}
 
 -- one member more, which passes the test or doesn't
@@ -29,9 +28,6 @@ module _ {Y : Type 0} (f : ℕ → Y) (p : ℕ → Bool) (members : List ℕ) (i
 -- what code tells of a number by its bits
 pub differs_from_zero : (z : ℤ) → InRange z → (cast_unsigned w128 z ≡ 0 → ⊥) → z ≢ pos 0
 differs_from_zero z h ne e = ne (ap (cast_unsigned w128) e)
-
-pub equals_zero : (z : ℤ) → InRange z → cast_unsigned w128 z ≡ 0 → z ≡ pos 0
-equals_zero z h e = sym (back z h) ∙ ap (cast_signed w128) e
 
 module _ (labels m : ℕ) (z : ℤ) where
   pub is_chord : labels ≤ m → z ≢ pos 0 → (not (nat_lt m labels) && not (int_eq z (pos 0))) ≡ true

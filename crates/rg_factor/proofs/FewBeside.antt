@@ -7,8 +7,9 @@ use Rattle.std.proofs.lemmas.List.FromFn.{length-range_with_len}
 use Rattle.std.proofs.lemmas.List.Elements.{Contains-append_cases, All-head, All-tail}
 use Rattle.rg_theory.specs.System.{System, states, labels}
 use Rattle.rg_theory.specs.Net.{Net}
+use Rattle.rg_theory.proofs.Lists.{index_of}
 use Rattle.rg_lts.specs.WellFormed.{IsWellFormed}
-use Rattle.rg_line_formats.proofs.Things.{pigeons, at_number}
+use Rattle.rg_line_formats.proofs.Things.{pigeons}
 use Rattle.rg_product.specs.Product.{Factor, IsFactorAt, IsLabelAt, ShareLabels, name_at}
 use Rattle.rg_product.specs.Factoring.{AreFactors, IsFactoring, IsFactoring.of_factors, Factoring.factors as of_all, choices}
 use Rattle.rg_product.specs.Beside.{widened, places_beside}
@@ -39,7 +40,7 @@ home [] t (k, lt, at) = absurd (omega arith)
 home (f ∷ fs) t has = by (Contains-append_cases f.labels (all_labels fs) t has) (home fs t)
   where
     by : Contains f.labels t ⊎ Contains (all_labels fs) t → (Contains (all_labels fs) t → HasHome fs t) → HasHome (f ∷ fs) t
-    by (inl here) more = let (k, at) = at_number f.labels t here in record { i = zero; k = k; f = f; at = refl; label = at }
+    by (inl here) more = let (k, at) = index_of f.labels t here in record { i = zero; k = k; f = f; at = refl; label = at }
     by (inr rest) more = let h = more rest in record { i = suc h.i; k = h.k; f = h.f; at = h.at; label = h.label }
 
 append_differ : (xs ys : List ℕ) → AllPairs (λ a b. a ≢ b) xs → AllPairs (λ a b. a ≢ b) ys → ((x : ℕ) → Contains xs x → Contains ys x → ⊥) → AllPairs (λ a b. a ≢ b) (xs ++ ys)
@@ -68,7 +69,7 @@ labels_differ (f ∷ fs) once = append_differ f.labels (all_labels fs) own
 
     apart : (t : ℕ) → Contains f.labels t → Contains (all_labels fs) t → ⊥
     apart t here rest =
-        let (k, at) = at_number f.labels t here in
+        let (k, at) = index_of f.labels t here in
         let h = home fs t rest in
         let (same, equal) = once t zero k (suc h.i) h.k f h.f refl at h.at h.label in
         omega arith

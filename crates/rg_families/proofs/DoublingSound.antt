@@ -3,7 +3,8 @@ use Rattle.std.proofs.Common.{◌≡◌, ◌⊎◌, inl, inr, ⊎_elim, ℕ, zer
 use Rattle.std.specs.List.{range_with_len}
 use Rattle.std.proofs.lemmas.List.FromFn.{length-range_with_len, length-map-range_with_len}
 use Rattle.rg_text.specs.Byte.{IsName}
-use Rattle.rg_line_formats.proofs.Things.{there_later, there_one}
+use Rattle.rg_theory.proofs.Lists.{there_later}
+use Rattle.rg_line_formats.proofs.Things.{there_one}
 use Rattle.rg_families.specs.Named.{Triple, IsKnown, IsSound, each_below, row}
 use Rattle.rg_families.specs.Doubling.{corner, middle, step, doubled, doubling}
 use Rattle.rg_families.proofs.Lists.{Differ, differ_nil, differ_cons, differ_each, differ_row, each_from, each_has, row_from, row_has, flat_short, all_members}

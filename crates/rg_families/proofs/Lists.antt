@@ -7,15 +7,8 @@ use Rattle.std.proofs.lemmas.List.Concat.{flat_map-cons}
 use Rattle.std.proofs.lemmas.List.Elements.{Contains-get_or, Contains-append_left, Contains-append_right, Contains-append_cases}
 use Rattle.std.proofs.lemmas.List.FromFn.{map-range_with_len_more}
 use Rattle.std.proofs.lemmas.Grind.{flat_map-append}
-use Rattle.rg_line_formats.proofs.Things.{there_later, map_from, map_there}
+use Rattle.rg_theory.proofs.Lists.{range_more, there_later, map_there, map_from}
 use Rattle.rg_families.specs.Named.{each_below, row}
-
-range_more : (a n : ℕ) → range_with_len a (n + 1) ≡ range_with_len a n ++ (a + n) ∷ []
-range_more a zero = ap (λ m. m ∷ []) (omega arith)
-range_more a (suc n) =
-    let e : suc n + 1 ≡ suc (n + 1) = omega arith in
-    let s : (a + 1) + n ≡ a + suc n = omega arith in
-    ap (range_with_len a) e ∙ ap (λ l. a ∷ l) (range_more (a + 1) n ∙ ap (λ m. range_with_len (a + 1) n ++ m ∷ []) s)
 
 flat_one : {X Y : Type 0} (f : X → List Y) (x : X) → flat_map f (x ∷ []) ≡ f x
 flat_one f x = flat_map-cons f x [] ∙ append-nil (f x)

@@ -3,7 +3,8 @@ use Rattle.std.proofs.Common.{◌≡◌, ℕ, zero, suc, ◌+◌, ◌<◌, ◌�
 use Rattle.std.specs.List.{flat_map}
 use Rattle.std.proofs.lemmas.List.{length-append, length-replicate}
 use Rattle.rg_theory.specs.System.{System, IsAllReachable, IsForkFree}
-use Rattle.rg_line_formats.proofs.Things.{map_from, there_one}
+use Rattle.rg_theory.proofs.Lists.{map_from}
+use Rattle.rg_line_formats.proofs.Things.{there_one}
 use Rattle.rg_families.specs.declared.lock.User.{User}
 use Rattle.rg_families.specs.declared.lock.User.TheVariants.{Idle, Waiting, Critical}
 use Rattle.rg_families.specs.Named.{Triple, triple, IsSystemOf}

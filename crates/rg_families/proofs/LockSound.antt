@@ -5,8 +5,9 @@ use Rattle.std.proofs.lemmas.List.{length-map}
 use Rattle.std.proofs.lemmas.List.Elements.{All-map}
 use Rattle.std.proofs.lemmas.List.FromFn.{length-range_with_len}
 use Rattle.rg_text.specs.Byte.{IsName, is_name_byte}
+use Rattle.rg_theory.proofs.Lists.{map_there, map_from}
 use Rattle.rg_lts.specs.WellFormed.{AreNames}
-use Rattle.rg_line_formats.proofs.Things.{there_one, map_from, map_there}
+use Rattle.rg_line_formats.proofs.Things.{there_one}
 use Rattle.rg_families.specs.declared.lock.User.{User}
 use Rattle.rg_families.specs.declared.lock.User.TheVariants.{Idle, Waiting, Critical}
 use Rattle.rg_families.specs.Named.{Triple, triple, IsKnown, IsSound, each_below}

@@ -2,7 +2,8 @@
 use Rattle.std.proofs.Common.{◌≡◌, ◌⊎◌, inl, inr, ⊎_elim, ℕ, zero, suc, ◌+◌, ◌-◌, ◌<◌, ◌≤◌, ◌^◌, false, List, [], ◌∷◌, ◌++◌, length, map, set, replicate, Contains, refl, sym, ap, subst, ◌∙◌, append_assoc, arith}
 use Rattle.std.proofs.lemmas.List.{length-append, length-map, length-replicate, length-set}
 use Rattle.std.proofs.lemmas.List.Elements.{Contains-append_left, Contains-append_right, Contains-append_cases}
-use Rattle.rg_line_formats.proofs.Things.{there_one, map_from, map_there}
+use Rattle.rg_theory.proofs.Lists.{map_there, map_from}
+use Rattle.rg_line_formats.proofs.Things.{there_one}
 use Rattle.rg_families.specs.declared.lock.User.{User}
 use Rattle.rg_families.specs.declared.lock.User.TheVariants.{Idle, Waiting, Critical}
 use Rattle.rg_families.specs.Lock.{Users, is_taken, with_lock, without_lock}

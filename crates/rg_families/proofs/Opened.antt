@@ -1,26 +1,23 @@
 -- When the system of a drawing is open, by the names of its states.
-use Rattle.std.proofs.Common.{◌≡◌, ℕ, ◌<◌, List, [], length, map, get_or, slice_get, Contains, Some, sym, ap, subst, ◌∙◌}
+use Rattle.std.proofs.Common.{◌≡◌, ℕ, ◌<◌, List, [], length, map, get_or, slice_get, Contains, sym, ap, subst, ◌∙◌}
 use Rattle.std.specs.Str.{bytes_eq}
 use Rattle.std.proofs.lemmas.List.Elements.{Contains-get_or}
-use Rattle.std.proofs.lemmas.Option.{slice_get-get_or}
+use Rattle.std.proofs.lemmas.Option.{slice_get-get_or, same_Some}
 use Rattle.rg_theory.specs.declared.Arc.{Arc}
 use Rattle.rg_theory.specs.System.{System, IsReachable, IsAllReachable, IsForkFree}
 use Rattle.rg_theory.proofs.Closed.{reached_more}
+use Rattle.rg_theory.proofs.Lists.{map_there, map_from}
 use Rattle.rg_line_formats.specs.First.{number_of}
 use Rattle.rg_line_formats.proofs.Numbers.{number_is, number_at}
 use Rattle.rg_line_formats.proofs.Parts.{one_with}
-use Rattle.rg_line_formats.proofs.Things.{map_there, map_from}
 use Rattle.rg_families.specs.Named.{Triple, Drawing, arc_of, IsSystemOf, IsSound}
 
 pub one_system : (d : Drawing) (a b : System) → IsSystemOf d a → IsSystemOf d b → a ≡ b
 one_system d a b x y = one_with d.states d.labels (map (arc_of d.states d.labels) d.arcs) (number_of bytes_eq d.states d.initial) a b x y
 
-some_same : (a b : List ℕ) → Some a ≡ Some b → a ≡ b
-some_same a b e = cc
-
 -- names of the same number are the same
 pub same_named : (names : List (List ℕ)) (a b : List ℕ) → Contains names a → Contains names b → number_of bytes_eq names a ≡ number_of bytes_eq names b → a ≡ b
-same_named names a b ha hb e = some_same a b (sym (number_at names a ha) ∙ ap (slice_get names) e ∙ number_at names b hb)
+same_named names a b ha hb e = same_Some a b (sym (number_at names a ha) ∙ ap (slice_get names) e ∙ number_at names b hb)
 
 module _ (d : Drawing) (sound : IsSound d) (lts : System) (is : IsSystemOf d lts) where
   -- the state of this name can be reached

@@ -1,27 +1,12 @@
 -- Names made of letters and numbers.
 use Rattle.std.proofs.Common.{◌≡◌, ◌≢◌, ℕ, ◌+◌, ◌<◌, ◌≤◌, ◌^◌, ◌%◌, true, List, [], ◌∷◌, ◌++◌, length, All, decimal, refl, ap, ◌∙◌, arith}
 use Rattle.std.specs.List.{AllPass, list_all}
-use Rattle.std.proofs.lemmas.Bool.Decides.{nat_tests}
 use Rattle.std.proofs.lemmas.Fmt.{decimal_by_steps_wide, length-decimal-le_wide, decimal_injective}
 use Rattle.std.proofs.lemmas.List.{length-append}
 use Rattle.std.proofs.lemmas.List.Elements.{All-push, All-append, All-head, All-tail}
 use Rattle.std.proofs.lemmas.List.Sums.{AllPass-from_list_all}
 use Rattle.rg_text.specs.Byte.{is_name_byte, IsName}
-
-digit_byte : (d : ℕ) → d < 10 → is_name_byte (48 + d) ≡ true
-digit_byte d lt = grind (arith, nat_tests)
-
-decimal_passes : (n : ℕ) → n < 2 ^ 32 → AllPass is_name_byte (decimal n)
-decimal_passes n lt = decimal_by_steps_wide (λ m ds. AllPass is_name_byte ds) one more n (omega arith)
-  where
-    push : (ds : List ℕ) (d : ℕ) → d < 10 → AllPass is_name_byte ds → AllPass is_name_byte (ds ++ (48 + d) ∷ [])
-    push ds d lt all = All-push (λ b. is_name_byte b ≡ true) ds (48 + d) all (digit_byte d lt)
-
-    one : (m : ℕ) → m < 10 → AllPass is_name_byte ((48 + m) ∷ [])
-    one m lt = push [] m lt (AllPass-from_list_all is_name_byte [] refl)
-
-    more : (m : ℕ) (ds : List ℕ) → 10 ≤ m → AllPass is_name_byte ds → AllPass is_name_byte (ds ++ ((48 + m % 10) ∷ []))
-    more m ds ge all = push ds (m % 10) (omega arith) all
+use Rattle.rg_text.proofs.NameBytes.{decimal_passes}
 
 decimal_lineless : (n : ℕ) → n < 2 ^ 32 → All (λ b. b ≢ 95) (decimal n)
 decimal_lineless n lt = decimal_by_steps_wide (λ m ds. All (λ b. b ≢ 95) ds) one more n (omega arith)

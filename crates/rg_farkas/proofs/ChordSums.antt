@@ -3,8 +3,7 @@ use Rattle.std.proofs.Common.{◌≡◌, ◌≢◌, ⊎_elim, ℕ, suc, ◌+◌,
 use Rattle.std.specs.Prelude.{ℤ, pos, neg_ℤ, ◌+ℤ◌, ◌*ℤ◌, ◌<ℤ◌}
 use Rattle.std.proofs.lemmas.Int.{ints}
 use Rattle.std.proofs.lemmas.List.Elements.{All-contains, Contains-append_cases}
-use Rattle.rg_theory.proofs.Lists.{Contains-cons_cases}
-use Rattle.rg_case_folds.proofs.Lists.{Contains-of_map}
+use Rattle.rg_theory.proofs.Lists.{Contains-cons_cases, map_from}
 use Rattle.rg_theory.specs.declared.Arc.{Arc}
 use Rattle.rg_theory.specs.System.{System, IsInRange, states, labels}
 use Rattle.rg_theory.specs.Tree.{IsTree}
@@ -59,7 +58,7 @@ pairs_sum f (s ∷ shares) ts = sum_over-append f (map (λ t. record { share = s
 pub in_pairs : (shares : List Share) (ts : List ℕ) (p : Pair) → Contains (pairs_of shares ts) p → Contains shares p.share × Contains ts p.label
 in_pairs [] ts p (k, lt, e) = absurd (omega arith)
 in_pairs (s ∷ shares) ts p has = ⊎_elim
-    (λ here. (let (t, has', e) = Contains-of_map (λ t. record { share = s; label = t }) ts p here in
+    (λ here. (let (t, has', e) = map_from (λ t. record { share = s; label = t }) ts p here in
     ((0, omega arith, ap (λ (q : Pair). q.share) e), subst (Contains ts) (ap (λ (q : Pair). q.label) e) has')))
     (λ there. (let ((k, lt, e), has') = in_pairs shares ts p there in ((suc k, omega arith, e), has')))
     (Contains-append_cases (map (λ t. record { share = s; label = t }) ts) (pairs_of shares ts) p has)

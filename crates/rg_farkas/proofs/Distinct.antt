@@ -5,7 +5,7 @@ use Rattle.std.proofs.lemmas.List.Elements.{Contains-push, Contains-append_left,
 use Rattle.rg_theory.specs.declared.Arc.{Arc}
 use Rattle.rg_theory.specs.System.{System, labels}
 use Rattle.rg_theory.specs.Tree.{Grows, IsTree, is_among, arcs_without, chords}
-use Rattle.rg_theory.proofs.Lists.{Contains-cons_cases}
+use Rattle.rg_theory.proofs.Lists.{Contains-cons_cases, map_from}
 use Rattle.rg_theory.proofs.Trees.{tree_arcs}
 use Rattle.rg_linear.specs.Dictionary.{numbers_from}
 use Rattle.rg_linear.specs.Firsts.{KeepsEqualRows}
@@ -17,7 +17,7 @@ use Rattle.rg_folds.specs.Substitution.{is_in, numbers_where}
 use Rattle.rg_case_folds.specs.Spreading.{used_chords, chord_arcs}
 use Rattle.rg_case_folds.proofs.Potentials.{chord_is_arc}
 use Rattle.rg_spanning.proofs.TreeTables.{among}
-use Rattle.rg_case_folds.proofs.Lists.{Contains-of_map, where_is}
+use Rattle.rg_case_folds.proofs.Lists.{where_is}
 use Rattle.rg_farkas.proofs.Listed.{Differ}
 use Rattle.rg_farkas.proofs.Relations.{used_chord}
 use Rattle.rg_case_folds.proofs.ChordRows.{kept_place as kept_index}
@@ -107,7 +107,7 @@ module _ (lts : System) (tree : List Arc) (basis : CycleBasis) (is : IsBasis lts
     where
       other : Contains (map (used_chord lts tree basis) (numbers_where test (suc a) n)) (used_chord lts tree basis a) → ⊥
       other has =
-          let (c, has', e) = Contains-of_map (used_chord lts tree basis) (numbers_where test (suc a) n) (used_chord lts tree basis a) has in
+          let (c, has', e) = map_from (used_chord lts tree basis) (numbers_where test (suc a) n) (used_chord lts tree basis a) has in
           let (_, low, high) = where_is test (suc a) n c has' in
           chord_differs a c (omega arith) (omega arith) (sym e)
 
@@ -121,7 +121,7 @@ module _ (lts : System) (tree : List Arc) (basis : CycleBasis) (is : IsBasis lts
 
   pub used_is_chord : (a : Arc) → Contains (chord_arcs lts tree basis) a → Contains (chords lts tree) a
   used_is_chord a has =
-      let (c, has', e) = Contains-of_map (used_chord lts tree basis) (used_chords lts basis) a has in
+      let (c, has', e) = map_from (used_chord lts tree basis) (used_chords lts basis) a has in
       let (_, low, high) = where_is (λ c. is_in basis.members (labels lts + c)) 0 (length basis.kept) c has' in
       subst (Contains (chords lts tree)) e (Contains-get_or (chords lts tree) (slice_index_or basis.kept c 0)
       (record { from = 0; label = 0; to = 0 }) (kept_index lts tree basis.kept (slice_index_or basis.kept c 0) is.kept

@@ -8,6 +8,7 @@ use Rattle.rg_theory.specs.declared.Arc.{Arc}
 use Rattle.rg_theory.specs.System.{IsArcBefore}
 use Rattle.rg_theory.specs.Tree.{same_arc}
 use Rattle.rg_theory.proofs.Lists.{Contains-cons_cases}
+use Rattle.rg_theory.proofs.Arcs.{same_arc_itself}
 use Rattle.rg_integers.specs.Sum.{sum_over}
 use Rattle.rg_integers.proofs.Ring.{ring}
 use Rattle.rg_integers.proofs.ListSums.{sum_over-same, sum_over-zero, sum_over-append, sum_over-map, sum_over-plus}
@@ -17,7 +18,6 @@ use Rattle.rg_case_folds.specs.Spreading.{named_from, not_zero, multiplier_among
 use Rattle.rg_case_folds.proofs.Potentials.{among_is}
 use Rattle.rg_farkas.specs.View.{arc_times}
 use Rattle.rg_linear.proofs.Splits.{nonzero_test as zero_of}
-use Rattle.rg_spanning.proofs.TreeTables.{is_same as same_arc_refl}
 
 -- what g of the rows' names adds up to, each times its multiplier
 abbrev pub rows_sum : (RowName → ℤ) → List NamedRow → ℤ
@@ -102,7 +102,7 @@ one_arc h b [] differ (k, lt, e) = absurd (omega arith)
 one_arc h b (a ∷ all) (lacks, differ) has = ⊎_elim here (λ has'. there has' (one_arc h b all differ has')) (Contains-cons_cases a b all has)
   where
     here : a ≡ b → (if same_arc b a then h a else pos 0) +ℤ sum_over (λ u. if same_arc b u then h u else pos 0) all ≡ h b
-    here e = ap₂ (λ t z. (if t then h a else pos 0) +ℤ z) (subst (λ u. same_arc b u ≡ true) (sym e) (same_arc_refl b)) (sum_over-zero _ all others) ∙ last (h a) ∙ ap h e
+    here e = ap₂ (λ t z. (if t then h a else pos 0) +ℤ z) (subst (λ u. same_arc b u ≡ true) (sym e) (same_arc_itself b)) (sum_over-zero _ all others) ∙ last (h a) ∙ ap h e
       where
         others : (u : Arc) → Contains all u → (if same_arc b u then h u else pos 0) ≡ pos 0
         others u has' = ⊎_elim (λ is. absurd (lacks (subst (Contains all) (sym (arc_is b u is) ∙ sym e) has'))) (λ not_is. ap (λ t. if t then h u else pos 0) not_is) (cases_Bool (same_arc b u))

@@ -1,22 +1,22 @@
 -- Where an arc is in a list in order, and the multipliers of the listed arcs.
-use Rattle.std.proofs.Common.{◌≡◌, ◌≢◌, ◌⊎◌, ⊎_elim, ℕ, zero, suc, ◌<◌, ◌≤◌, ◌+◌, ◌-◌, ◌||◌, true, false, if◌then◌else◌, List, [], ◌∷◌, ◌++◌, map, drop, set, length, slice_index_or, Contains, AllPairs, inl, inr, ap, ap₂, refl, subst, sym, ◌∙◌, arith, append_assoc, Ordering, Less, Equal, Greater}
+use Rattle.std.proofs.Common.{◌≡◌, ◌≢◌, ◌⊎◌, ⊎_elim, ℕ, zero, suc, ◌<◌, ◌≤◌, ◌+◌, ◌-◌, ◌||◌, true, false, if◌then◌else◌, List, [], ◌∷◌, ◌++◌, map, drop, set, length, slice_index_or, Contains, AllPairs, inl, inr, ap, ap₂, refl, subst, sym, ◌∙◌, arith, append_assoc, Ordering}
 use Rattle.std.specs.Prelude.{ℤ, pos, int_lt}
 use Rattle.std.proofs.Math.ListN.{replicate}
 use Rattle.std.proofs.lemmas.List.{get_or-map}
 use Rattle.std.proofs.lemmas.Simd.{splat_is_map}
 use Rattle.std.specs.List.Sorted.{IsPartitionedBy}
 use Rattle.std.proofs.lemmas.Bool.{cases_Bool, cases_order, true≢false}
-use Rattle.std.proofs.lemmas.Bool.Decides.{nat_tests}
 use Rattle.rg_theory.specs.declared.Arc.{Arc}
 use Rattle.rg_theory.specs.System.{IsArcBefore}
 use Rattle.rg_theory.specs.Tree.{same_arc}
 use Rattle.std.specs.Ordering.{nat_cmp, ordering_then, is_lt}
+use Rattle.rg_theory.proofs.Arcs.{same_arc_itself}
 use Rattle.rg_lts.proofs.OrderedArcs.{before_itself, before_back, before_trans}
+use Rattle.rg_lts.proofs.ArcSets.{at_less, at_equal, at_greater}
 use Rattle.rg_cert_meaning.specs.Refutes.{NamedRow}
 use Rattle.rg_case_folds.specs.Spreading.{multiplier_among, not_zero, arc_name}
 use Rattle.rg_case_folds.proofs.Items.{from_index}
 use Rattle.rg_farkas.proofs.Listed.{Differ, arc_is}
-use Rattle.rg_spanning.proofs.TreeTables.{is_same as same_arc_refl}
 use Rattle.rg_linear.proofs.Splits.{nonzero_test as zero_of}
 
 -- ---- the order
@@ -24,15 +24,6 @@ use Rattle.rg_linear.proofs.Splits.{nonzero_test as zero_of}
 -- by from, label and to
 abbrev pub arc_cmp : Arc → Arc → Ordering
 arc_cmp a b = ordering_then (nat_cmp a.from b.from) (ordering_then (nat_cmp a.label b.label) (nat_cmp a.to b.to))
-
-at_less : (a b : ℕ) → a < b → nat_cmp a b ≡ Less
-at_less a b h = grind (arith, nat_tests)
-
-at_equal : (a b : ℕ) → a ≡ b → nat_cmp a b ≡ Equal
-at_equal a b h = grind (arith, nat_tests)
-
-at_greater : (a b : ℕ) → b < a → nat_cmp a b ≡ Greater
-at_greater a b h = grind (arith, nat_tests)
 
 -- of two arcs one comes first, or they are the same
 data Compared (a b : Arc) : Type 0 where
@@ -124,7 +115,7 @@ others_same b z f (a ∷ all) lacks =
 one_set : (b : Arc) (z : ℤ) (f : Arc → ℤ) (all : List Arc) (i : ℕ) → Differ all → i < length all → slice_index_or all i b ≡ b → set (map f all) i z ≡ map (with_arc b z f) all
 one_set b z f [] i differ lt at = absurd (omega arith)
 one_set b z f (a ∷ all) zero (lacks, differ) lt at =
-    ap₂ (λ x l. x ∷ l) (ap (λ t. if t then z else f a) (sym (subst (λ u. same_arc b u ≡ true) (sym at) (same_arc_refl b))))
+    ap₂ (λ x l. x ∷ l) (ap (λ t. if t then z else f a) (sym (subst (λ u. same_arc b u ≡ true) (sym at) (same_arc_itself b))))
     (others_same b z f all (λ has. lacks (subst (Contains all) (sym at) has)))
 one_set b z f (a ∷ all) (suc i) (lacks, differ) lt at =
     ap₂ (λ x l. x ∷ l) (ap (λ t. if t then z else f a) (sym (⊎_elim (λ is. absurd (lacks (i, omega arith, there is))) (λ e. e) (cases_Bool (same_arc b a)))))

@@ -10,8 +10,7 @@ use Rattle.rg_theory.specs.declared.Arc.{Arc}
 use Rattle.rg_theory.specs.System.{System, IsInRange, IsAllReachable, states, labels}
 use Rattle.rg_theory.specs.Tree.{Grows, IsTree, parikh}
 use Rattle.rg_theory.proofs.Arcs.{arc_in_range}
-use Rattle.rg_theory.proofs.Lists.{Contains-cons_cases}
-use Rattle.rg_case_folds.proofs.Lists.{Contains-map}
+use Rattle.rg_theory.proofs.Lists.{Contains-cons_cases, map_there}
 use Rattle.rg_theory.proofs.Trees.{reachable_is_met}
 use Rattle.rg_lts.specs.WellFormed.{IsWellFormed}
 use Rattle.rg_integers.specs.Range.{InRange}
@@ -179,7 +178,7 @@ in_times (a ∷ arcs) (z ∷ zs) x has = ⊎_elim (λ e. (0, omega arith, ap (λ
     (Contains-cons_cases (record { arc = a; multiplier = z }) x (arc_times arcs zs) has)
 
 in_arcs : (arcs : List ArcTimes) (x : ArcTimes) → Contains arcs x → Contains (map (λ y. y.arc) arcs) x.arc
-in_arcs arcs x has = Contains-map (λ y. y.arc) arcs x has
+in_arcs arcs x has = map_there (λ y. y.arc) arcs x has
 
 -- the row of an arc names states and a label of the system
 arc_within : (lts : System) (expression : RowName → Expression) → IsInRange lts → SaysArcs expression → (a : Arc) → Contains lts.arcs a

@@ -1,10 +1,11 @@
 -- What relations say of any effects, with the sums of the chords that the basis uses.
-use Rattle.std.proofs.Common.{◌≡◌, ⊎_elim, ℕ, ◌+◌, ◌<◌, Bool, true, false, not, nat_lt, if◌then◌else◌, List, [], length, slice_index_or, Contains, ap, ap₂, refl, subst, sym, ◌∙◌, arith}
+use Rattle.std.proofs.Common.{◌≡◌, ⊎_elim, ℕ, ◌+◌, ◌<◌, not, nat_lt, if◌then◌else◌, List, [], length, slice_index_or, Contains, ap, ap₂, subst, sym, ◌∙◌, arith}
 use Rattle.std.specs.Prelude.{ℤ, pos, ◌+ℤ◌, ◌*ℤ◌}
 use Rattle.std.proofs.Math.IntN.{zero-*ℤ, *ℤ-zero}
 use Rattle.std.proofs.lemmas.Int.{ints}
 use Rattle.std.proofs.lemmas.List.{length-map, get_or-map}
 use Rattle.std.proofs.lemmas.List.Elements.{Contains-get_or}
+use Rattle.std.proofs.lemmas.Bool.{not-true}
 use Rattle.rg_theory.specs.declared.Arc.{Arc}
 use Rattle.rg_theory.specs.System.{System, labels}
 use Rattle.rg_theory.specs.Tree.{chords, chord_entry}
@@ -33,10 +34,6 @@ none_plus i = omega arith
 
 zero_times : (c z : ℤ) → c ≡ pos 0 → c *ℤ z ≡ pos 0
 zero_times c z e = ap (λ x. x *ℤ z) e ∙ zero-*ℤ z
-
-is_false : (b : Bool) → not b ≡ true → b ≡ false
-is_false true p = cc
-is_false false p = refl
 
 -- ---- the rows of the chords' system at a point
 
@@ -116,7 +113,7 @@ module _ (lts : System) (tree : List Arc) (basis : CycleBasis) (is : IsBasis lts
       others = sum_over-zero (λ c. k.coefficient (labels lts + c) *ℤ v c) (numbers_where (λ c. not (is_in basis.members (labels lts + c))) 0 (length basis.kept))
           (λ c has. zero_times (k.coefficient (labels lts + c)) (v c)
           (over (labels lts + c) (not_in basis.members (labels lts + c)
-          (is_false (is_in basis.members (labels lts + c)) (where_contains (λ u. not (is_in basis.members (labels lts + u))) 0 (length basis.kept) c has).0))))
+          (not-true (is_in basis.members (labels lts + c)) (where_contains (λ u. not (is_in basis.members (labels lts + u))) 0 (length basis.kept) c has).0))))
 
       close : (x y s : ℤ) → x +ℤ y ≡ s → y ≡ pos 0 → s ≡ x
       close x y s e z = omega (arith, ints)

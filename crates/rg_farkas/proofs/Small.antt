@@ -6,7 +6,7 @@ use Rattle.std.proofs.lemmas.Bool.{cases_lt}
 use Rattle.std.proofs.lemmas.List.Sums.{sum_by-cons}
 use Rattle.std.proofs.lemmas.List.Elements.{All-head, All-tail, All-weaker, Contains-append_left, Contains-append_right}
 use Rattle.rg_theory.specs.System.{System, states, labels}
-use Rattle.rg_theory.proofs.Lists.{Contains-cons_cases}
+use Rattle.rg_theory.proofs.Lists.{Contains-cons_cases, map_there}
 use Rattle.rg_integers.specs.Range.{InRange, greatest}
 use Rattle.rg_integers.specs.Sign.{size}
 use Rattle.rg_integers.specs.Sum.{sum_over}
@@ -18,7 +18,7 @@ use Rattle.rg_cert_meaning.specs.Refutes.{NamedRow, IsSmall}
 use Rattle.rg_folds.specs.Fold.{and_then, gives, each, further, whole_sum, whole_product}
 use Rattle.rg_case_folds.specs.Rewriting.{all_numbers}
 use Rattle.rg_case_folds.specs.Spreading.{sizes_fold, variables_of, checked_leaf}
-use Rattle.rg_case_folds.proofs.Lists.{Contains-map, where_has}
+use Rattle.rg_case_folds.proofs.Lists.{where_has}
 use Rattle.rg_cert_data.specs.Certificates.{IsVariableWithin, IsTermWithin}
 use Rattle.rg_farkas.proofs.TreeSums.{whole_product_is, joined_whole}
 use Rattle.rg_farkas.proofs.Variables.{outside, RowsWithin}
@@ -70,9 +70,9 @@ size_fits c rows h fold =
 -- a variable of the system is among all of them
 pub has_variable : (lts : System) (v : Variable) → IsVariableWithin (states lts) (labels lts) v → Contains (variables_of lts) v
 has_variable lts (Tokens q) lt = Contains-append_left (map Tokens (all_numbers (states lts))) (map Effect (all_numbers (labels lts))) (Tokens q)
-    (Contains-map Tokens (all_numbers (states lts)) q (where_has (λ i. true) 0 (states lts) q refl (omega arith) (omega arith)))
+    (map_there Tokens (all_numbers (states lts)) q (where_has (λ i. true) 0 (states lts) q refl (omega arith) (omega arith)))
 has_variable lts (Effect u) lt = Contains-append_right (map Tokens (all_numbers (states lts))) (map Effect (all_numbers (labels lts))) (Effect u)
-    (Contains-map Effect (all_numbers (labels lts)) u (where_has (λ i. true) 0 (labels lts) u refl (omega arith) (omega arith)))
+    (map_there Effect (all_numbers (labels lts)) u (where_has (λ i. true) 0 (labels lts) u refl (omega arith) (omega arith)))
 
 -- other variables have no coefficients
 none_outside : (n l : ℕ) (expression : RowName → Expression) (rows : List NamedRow) (v : Variable) → RowsWithin n l expression rows

@@ -2,8 +2,7 @@
 use Rattle.std.proofs.Common.{◌≡◌, ◌⊎◌, inl, inr, ⊎_elim, ℕ, zero, suc, ◌+◌, ◌<◌, ◌≤◌, ◌==◌, Bool, true, ◌||◌, List, [], ◌∷◌, ◌++◌, length, map, All, Contains, refl, sym, ap, subst, ◌∙◌, arith}
 use Rattle.std.specs.List.{after_first, before_first, enumerate_from, flat_map, list_any}
 use Rattle.std.specs.Str.{bytes_eq}
-use Rattle.std.proofs.lemmas.Bool.{or_cases}
-use Rattle.std.proofs.lemmas.Bool.Decides.{nat_tests}
+use Rattle.std.proofs.lemmas.Bool.{or_cases, eqb-true}
 use Rattle.std.proofs.lemmas.List.{length-append, length-map, get_or_default}
 use Rattle.std.proofs.lemmas.List.Elements.{Contains-append_left}
 use Rattle.std.proofs.lemmas.Option.{get_or_from_slice_get}
@@ -13,10 +12,11 @@ use Rattle.rg_theory.specs.System.{System, states, IsArcInRange}
 use Rattle.rg_text.specs.Byte.{IsName}
 use Rattle.rg_text.specs.Faults.{faults_after, if_not, AreNone}
 use Rattle.rg_text.proofs.Left.{none_joined}
+use Rattle.rg_theory.proofs.Lists.{there_later, map_there, map_from}
 use Rattle.rg_lts.specs.WellFormed.{IsWellFormed}
 use Rattle.rg_line_formats.specs.First.{firsts, number_of, same_arc}
 use Rattle.rg_line_formats.specs.Numbered.{Line, numbered}
-use Rattle.rg_line_formats.proofs.Things.{there_later, map_there, map_from, pigeons, firsts_short, firsts_differ, met_from}
+use Rattle.rg_line_formats.proofs.Things.{pigeons, firsts_short, firsts_differ, met_from}
 use Rattle.rg_line_formats.proofs.Present.{any_there}
 use Rattle.rg_line_formats.proofs.Numbers.{met, number_at}
 use Rattle.rg_genet.specs.declared.fault.GraphFault.TheVariants.{NoEnd, UnknownState}
@@ -57,9 +57,6 @@ any_where p (a ∷ arcs) e = by (or_cases (p a) (list_any p arcs) e) (any_where 
     by : (p a ≡ true) ⊎ (list_any p arcs ≡ true) → (list_any p arcs ≡ true → (b : Arc) × Contains arcs b × (p b ≡ true)) → (b : Arc) × Contains (a ∷ arcs) b × (p b ≡ true)
     by (inl here) go = (a, (zero, omega arith, refl), here)
     by (inr more) go = let r = go more in (r.0, there_later a arcs r.0 r.1, r.2)
-
-equal_numbers : (a b : ℕ) → (a == b) ≡ true → a ≡ b
-equal_numbers a b e = grind (arith, nat_tests)
 
 or_there : (names : List (List ℕ)) (marked n : List ℕ) → Contains names n → Contains (or_alone names marked) n
 or_there [] marked n (k, lt, e) = absurd (omega arith)
@@ -151,9 +148,9 @@ module _ (lts : System) (formed : IsWellFormed lts) where
       let has = map_there (names_of lts) lts.arcs w.0 w.1 in
       let there = end_there (names_of lts w.0) (arcs_named lts) has in
       ⊎_elim
-      (λ h. subst (λ k. Contains (state_names (arcs_named lts)) (name_at lts.state_names k)) (equal_numbers w.0.from s h)
+      (λ h. subst (λ k. Contains (state_names (arcs_named lts)) (name_at lts.state_names k)) (eqb-true w.0.from s h)
       (met [] (flat_map ends (arcs_named lts)) (name_at lts.state_names w.0.from) there.0))
-      (λ h. subst (λ k. Contains (state_names (arcs_named lts)) (name_at lts.state_names k)) (equal_numbers w.0.to s h)
+      (λ h. subst (λ k. Contains (state_names (arcs_named lts)) (name_at lts.state_names k)) (eqb-true w.0.to s h)
       (met [] (flat_map ends (arcs_named lts)) (name_at lts.state_names w.0.to) there.1))
       (or_cases (w.0.from == s) (w.0.to == s) w.2)
 
@@ -191,7 +188,7 @@ module _ (lts : System) (formed : IsWellFormed lts) where
       let w = any_where (λ (a : Arc). a.label == k) lts.arcs (kept k lt) in
       let has = map_there (names_of lts) lts.arcs w.0 w.1 in
       let there = label_there (names_of lts w.0) (arcs_named lts) has in
-      subst (Contains (label_names (arcs_named lts))) (ap (name_at lts.label_names) (equal_numbers w.0.label k w.2) ∙ named)
+      subst (Contains (label_names (arcs_named lts))) (ap (name_at lts.label_names) (eqb-true w.0.label k w.2) ∙ named)
       (met [] (map (λ (t : Triple). t.label) (arcs_named lts)) (name_at lts.label_names w.0.label) there)
 
   -- the last faults of the print

@@ -11,11 +11,12 @@ use Rattle.rg_text.specs.Faults.{faults_after, if_not, AreNone}
 use Rattle.rg_theory.specs.Limits.{most_states}
 use Rattle.rg_theory.specs.declared.Arc.{Arc}
 use Rattle.rg_theory.specs.System.{System, IsArcInRange}
+use Rattle.rg_theory.proofs.Lists.{map_from}
 use Rattle.rg_lts.specs.WellFormed.{AreNames, IsWellFormed}
 use Rattle.rg_lts.proofs.OrderedArcs.{has_from, contains_from, ordered_from}
 use Rattle.rg_line_formats.specs.First.{firsts, number_of, same_arc}
 use Rattle.rg_line_formats.specs.Numbered.{Line}
-use Rattle.rg_line_formats.proofs.Things.{met_from, map_from, firsts_differ, there_any}
+use Rattle.rg_line_formats.proofs.Things.{met_from, firsts_differ, there_any}
 use Rattle.rg_line_formats.proofs.Numbers.{number_at, met}
 use Rattle.rg_line_formats.proofs.Counted.{how_many}
 use Rattle.rg_genet.specs.declared.fault.GraphFault.TheVariants.{NoEnd, UnknownState}

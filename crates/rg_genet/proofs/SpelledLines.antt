@@ -1,9 +1,9 @@
 -- The lines of a text without a fault: their names are names, and there are not too many of them.
-use Rattle.std.proofs.Common.{◌≡◌, ℕ, ◌<◌, ◌≤◌, ◌==◌, nat_lt, Bool, true, false, cond, not, ◌&&◌, ◌||◌, List, [], ◌∷◌, ◌++◌, length, codes}
+use Rattle.std.proofs.Common.{◌≡◌, ℕ, ◌<◌, ◌==◌, nat_lt, Bool, true, false, cond, not, ◌&&◌, ◌||◌, List, [], ◌∷◌, ◌++◌, length, codes}
 use Rattle.std.proofs.Common.{Option, None, Some, refl, sym, subst, append_assoc, append-nil, arith}
 use Rattle.std.specs.List.{AllByRecursion, list_all}
 use Rattle.std.specs.Str.{bytes_eq}
-use Rattle.std.proofs.lemmas.Bool.{and_parts}
+use Rattle.std.proofs.lemmas.Bool.{and_parts, ltb-false}
 use Rattle.std.proofs.lemmas.Bool.Decides.{nat_tests}
 use Rattle.std.proofs.lemmas.List.Sums.{AllPass-from_list_all}
 use Rattle.rg_text.specs.Byte.{is_name_byte, IsName}
@@ -64,15 +64,12 @@ named_form (first ∷ second ∷ third ∷ fourth ∷ fifth ∷ more) = tt
 some_length : (n : ℕ) → not (n == 0) ≡ true → 0 < n
 some_length n e = grind (arith, nat_tests)
 
-not_less : (m n : ℕ) → nat_lt m n ≡ false → n ≤ m
-not_less m n e = grind (arith, nat_tests)
-
 name_of : (word : List ℕ) → is_named word ≡ true → is_long word ≡ false → IsName word
 name_of word named short =
     let parts = and_parts (not (length word == 0)) (list_all is_name_byte word) named in
     record {
       some = some_length (length word) parts.0;
-      short = not_less most_name_bytes (length word) short;
+      short = ltb-false most_name_bytes (length word) short;
       bytes = AllPass-from_list_all is_name_byte word parts.1;
     }
 
@@ -103,9 +100,9 @@ right_of n t arcs none =
       label = b;
       to = c;
       few = record {
-        states = not_less most_states (length (state_names arcs)) d;
-        labels = not_less most_labels (length (label_names arcs)) e;
-        arcs = not_less most_arcs (length (firsts same_arc (arcs_of arcs))) f;
+        states = ltb-false most_states (length (state_names arcs)) d;
+        labels = ltb-false most_labels (length (label_names arcs)) e;
+        arcs = ltb-false most_arcs (length (firsts same_arc (arcs_of arcs))) f;
       };
     }
 

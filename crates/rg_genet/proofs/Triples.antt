@@ -3,8 +3,9 @@ use Rattle.std.proofs.Common.{◌≡◌, ℕ, zero, suc, List, [], ◌∷◌, �
 use Rattle.std.specs.List.{flat_map}
 use Rattle.std.specs.Str.{bytes_eq}
 use Rattle.std.proofs.lemmas.List.{map-append}
+use Rattle.rg_theory.proofs.Lists.{there_later}
 use Rattle.rg_line_formats.specs.First.{with_new, firsts}
-use Rattle.rg_line_formats.proofs.Things.{there_later, fold-append, grown}
+use Rattle.rg_line_formats.proofs.Things.{fold-append, grown}
 use Rattle.rg_line_formats.proofs.Numbers.{number_stays, met}
 use Rattle.rg_genet.specs.Contents.{Triple, ends, state_names, label_names, arc_of, arcs_of}
 

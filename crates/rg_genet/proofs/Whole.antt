@@ -3,14 +3,15 @@ use Rattle.std.proofs.Common.{◌≡◌, inl, inr, ℕ, zero, suc, ◌+◌, nat_
 use Rattle.std.specs.List.{after_first, flat_map}
 use Rattle.std.specs.Str.{bytes_eq}
 use Rattle.std.proofs.lemmas.Bool.Decides.{nat_tests}
+use Rattle.std.proofs.lemmas.Option.{same_Some}
 use Rattle.rg_theory.specs.System.{System}
 use Rattle.rg_lts.specs.WellFormed.{IsWellFormed}
 use Rattle.rg_lts.specs.Draft.{Draft, finished}
 use Rattle.rg_text.specs.Faults.{faults_after, if_not, IsFirst, AreNone}
 use Rattle.rg_text.proofs.Left.{first_left, first_right, none_joined}
+use Rattle.rg_theory.proofs.Lists.{there_at}
 use Rattle.rg_line_formats.specs.First.{number_of}
 use Rattle.rg_line_formats.specs.Numbered.{Line, numbered}
-use Rattle.rg_line_formats.proofs.Things.{there_at}
 use Rattle.rg_line_formats.proofs.Present.{any_there, any_absent}
 use Rattle.rg_line_formats.proofs.Numbers.{number_is, met}
 use Rattle.rg_genet.specs.declared.fault.GraphFault.{GraphFault}
@@ -21,13 +22,10 @@ use Rattle.rg_genet.specs.Spells.{or_alone, IsGraphOf, Spells, FirstFault}
 use Rattle.rg_genet.specs.Reading.{Shows, marking_in, rest_faults, IsHeadFault, IsMarked, IsFinished, IsUnfinished}
 use Rattle.rg_genet.proofs.Triples.{end_there}
 
-some_number : (a b : ℕ) → Some a ≡ Some b → a ≡ b
-some_number a b e = cc
-
 pub finished_is : (old new : Draft) (name : List ℕ) (lts : System) (m : Marking) (marking : Option Marking) → IsMarked old new name
     → (new.initial ≡ Some lts.initial) × (lts ≡ finished new lts.initial) → IsWellFormed lts → marking ≡ Some m → name ≡ string_bytes m.name → IsFinished old marking lts
 finished_is old new name lts m marking marked (initial, is) formed some name_is =
-    let start = some_number marked.state lts.initial (sym (ap (λ (d : Draft). d.initial) marked.new_is) ∙ initial) in
+    let start = same_Some marked.state lts.initial (sym (ap (λ (d : Draft). d.initial) marked.new_is) ∙ initial) in
     let named : slice_get (or_alone old.state_names name) lts.initial ≡ Some name = subst (λ s. slice_get (or_alone old.state_names name) s ≡ Some name) start marked.at in
     record {
       mark = m;

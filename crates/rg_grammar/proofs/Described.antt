@@ -3,10 +3,11 @@
 use Rattle.std.proofs.Common.{◌≡◌, ℕ, ◌+◌, ◌<◌, ◌≤◌, ◌⊎◌, inl, inr, true, false, cond, List, ◌∷◌, length, get_or, drop, map, Option, None, Some, refl, sym, ap, ◌∙◌}
 use Rattle.std.specs.Option.{option_and_then}
 use Rattle.std.proofs.lemmas.List.{drop_more, drop_all}
+use Rattle.std.proofs.lemmas.Option.{same_Some}
 use Rattle.rg_lexer.specs.declared.token.Token.{Token}
 use Rattle.rg_lexer.specs.Lexeme.{Lexeme, lexeme}
 use Rattle.rg_grammar.specs.Grammar.{Grammar, leads_all, read_on, Finds, FirstRefusal}
-use Rattle.rg_grammar.proofs.Refusals.{refusal, refused_is, some_same, read_not_refused, read_leads, refused_from_none, refusal_is}
+use Rattle.rg_grammar.proofs.Refusals.{refusal, refused_is, read_not_refused, read_leads, refused_from_none, refusal_is}
 
 -- the grammar reads such things to what they mean, and what it leads to an end is such things
 pub record Describes (P D F I : Type 0) (g : Grammar P D F) (Are : I → List Lexeme → Type 0) (meaning : I → D) : Type 0 where
@@ -27,7 +28,7 @@ pub one_meaning : {P D F I : Type 0} (g : Grammar P D F) (Are : I → List Lexem
 one_meaning {P} {D} g Are meaning by a b xs x y =
     let r = by.read a xs x in
     let s = by.read b xs y in
-    ap (λ (p : P × D). p.1) (some_same (r.0, meaning a) (s.0, meaning b) (sym r.2 ∙ s.2))
+    ap (λ (p : P × D). p.1) (same_Some (r.0, meaning a) (s.0, meaning b) (sym r.2 ∙ s.2))
 
 -- tokens are items, or one of them is refused
 pub items_or_refused : {P D F I : Type 0} (g : Grammar P D F) (Are : I → List Lexeme → Type 0) (meaning : I → D) → Describes P D F I g Are meaning
@@ -44,7 +45,7 @@ pub found_items : {P D F I : Type 0} (g : Grammar P D F) (Are : I → List Lexem
 found_items {P} {D} g Are meaning by xs d found =
     let items = by.complete found.0 xs (read_leads g g.start found.0 g.nothing d xs found.2) found.1 in
     let meant = by.read items.0 xs items.1 in
-    (items.0, items.1, ap (λ (x : P × D). x.1) (some_same (found.0, d) (meant.0, meaning items.0) (sym found.2 ∙ meant.2)))
+    (items.0, items.1, ap (λ (x : P × D). x.1) (same_Some (found.0, d) (meant.0, meaning items.0) (sym found.2 ∙ meant.2)))
 
 abbrev pub lexemes : List ℕ → List Token → List Lexeme
 lexemes bytes tokens = map (lexeme bytes) tokens

@@ -1,6 +1,7 @@
 -- The first refusal of a list of tokens, computed.
 use Rattle.std.proofs.Common.{◌≡◌, ℕ, Bool, true, false, cond, List, [], ◌∷◌, ◌++◌, Option, None, Some, refl, sym, ap, ◌∙◌}
 use Rattle.std.specs.Option.{option_and_then}
+use Rattle.std.proofs.lemmas.Option.{same_Some}
 use Rattle.rg_lexer.specs.Lexeme.{Lexeme}
 use Rattle.rg_grammar.specs.Grammar.{Grammar, leads_all, read_on, IsRefused, FirstRefusal}
 
@@ -42,13 +43,10 @@ one_refusal g xs end a b x y =
     let one = refused_is g xs end a x in
     let two = refused_is g xs end b y in cc
 
-pub some_same : {X : Type 0} (a b : X) → Some a ≡ Some b → a ≡ b
-some_same a b e = cc
-
 -- what is read is not refused
 pub read_not_refused : {P D F : Type 0} (g : Grammar P D F) (p q : P) (d e : D) (xs : List Lexeme) (end : ℕ) → read_on g p d xs ≡ Some (q, e) → g.may_end q ≡ true → refusal g p xs end ≡ None
 read_not_refused {P} {D} g p q d e [] end is ends =
-    let same : p ≡ q = ap (λ (r : P × D). r.0) (some_same (p, d) (q, e) is) in
+    let same : p ≡ q = ap (λ (r : P × D). r.0) (same_Some (p, d) (q, e) is) in
     ap (λ p. at_end g p end) same ∙ ap (λ b. cond b None (Some (g.ends q end))) ends
 read_not_refused {P} g p q d e (x ∷ xs) end is ends = by (g.leads p x) refl is (λ next h. read_not_refused g next q (g.adds p x d) e xs end h ends)
   where
@@ -59,7 +57,7 @@ read_not_refused {P} g p q d e (x ∷ xs) end is ends = by (g.leads p x) refl is
 
 -- what is read is led to its end
 pub read_leads : {P D F : Type 0} (g : Grammar P D F) (p q : P) (d e : D) (xs : List Lexeme) → read_on g p d xs ≡ Some (q, e) → leads_all g p xs ≡ Some q
-read_leads {P} {D} g p q d e [] is = ap Some (ap (λ (r : P × D). r.0) (some_same (p, d) (q, e) is))
+read_leads {P} {D} g p q d e [] is = ap Some (ap (λ (r : P × D). r.0) (same_Some (p, d) (q, e) is))
 read_leads {P} g p q d e (x ∷ xs) is = by (g.leads p x) refl is (λ next h. read_leads g next q (g.adds p x d) e xs h)
   where
     by : (o : Option P) → g.leads p x ≡ o → option_and_then (λ next. read_on g next (g.adds p x d) xs) o ≡ Some (q, e)

@@ -1,5 +1,5 @@
 -- What is left of numbers that were cast to their bits and back.
-use Rattle.std.proofs.Common.{◌≡◌, ℕ, ◌<◌, ◌^◌}
+use Rattle.std.proofs.Common.{◌≡◌, ℕ, ◌<◌, ◌^◌, sym, ap, ◌∙◌}
 use Rattle.std.specs.Prelude.{ℤ, pos, FitsSigned}
 use Rattle.std.specs.Int.{w128, cast_signed, cast_unsigned}
 use Rattle.std.proofs.lemmas.Int.{to_z-of_z, to_z_pos, fits_signed_from_abs}
@@ -18,3 +18,7 @@ cast_size n h = to_z_pos w128 n h
 
 -- for `using` on a function of signed numbers
 pub ruleset casts = (to_z-of_z)
+
+-- a number whose bits are 0
+pub zero_of_bits : (z : ℤ) → InRange z → cast_unsigned w128 z ≡ 0 → z ≡ pos 0
+zero_of_bits z h e = sym (back z h) ∙ ap (cast_signed w128) e

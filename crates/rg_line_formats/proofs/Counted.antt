@@ -1,43 +1,24 @@
 -- Arcs in order are as many as the different ones of a list with the same members.
-use Rattle.std.proofs.Common.{◌≡◌, ◌⊎◌, inl, inr, ⊎_elim, ℕ, ◌+◌, ◌==◌, Bool, true, false, ◌&&◌, ◌||◌, List, [], ◌∷◌, ◌++◌, length, refl, sym, ap, subst, ◌∙◌, arith}
+use Rattle.std.proofs.Common.{◌≡◌, ◌⊎◌, inl, inr, ⊎_elim, ℕ, ◌+◌, ◌==◌, Bool, true, false, List, [], ◌∷◌, ◌++◌, length, refl, sym, ap, subst, ◌∙◌, arith}
 use Rattle.std.specs.List.{fold, list_any}
-use Rattle.std.proofs.lemmas.Bool.{cond-true, cond-false, or_cases}
+use Rattle.std.proofs.lemmas.Bool.{cond-true, cond-false, or_cases, or_right}
 use Rattle.std.proofs.lemmas.Bool.Decides.{nat_tests}
 use Rattle.std.proofs.lemmas.List.{length-append}
 use Rattle.rg_theory.specs.declared.Arc.{Arc}
+use Rattle.rg_theory.proofs.Arcs.{same_arc_is, same_arc_itself}
 use Rattle.rg_lts.proofs.OrderedArcs.{Has, Ordered, one_order, inserted}
 use Rattle.rg_line_formats.specs.First.{with_new, firsts, same_arc}
-
-same_says : (a b : Arc) → same_arc a b ≡ true → a ≡ b
-same_says a b e = by (a.from == b.from) (a.label == b.label) (a.to == b.to) refl refl refl e
-  where
-    by : (p q r : Bool) → (a.from == b.from) ≡ p → (a.label == b.label) ≡ q → (a.to == b.to) ≡ r → (p && (q && r)) ≡ true → a ≡ b
-    by true true true x y z e =
-        let from : a.from ≡ b.from = grind (arith, nat_tests) in
-        let label : a.label ≡ b.label = grind (arith, nat_tests) in
-        let to : a.to ≡ b.to = grind (arith, nat_tests) in
-        λ i. record { from = from i; label = label i; to = to i }
-    by true true false x y z e = absurd cc
-    by true false r x y z e = absurd cc
-    by false q r x y z e = absurd cc
 
 number_itself : (n : ℕ) → (n == n) ≡ true
 number_itself n = grind (arith, nat_tests)
 
-same_itself : (a : Arc) → same_arc a a ≡ true
-same_itself a = rw (number_itself a.from, number_itself a.label, number_itself a.to) refl
-
-or_right : (a b : Bool) → b ≡ true → (a || b) ≡ true
-or_right true b e = refl
-or_right false b e = e
-
 pub any_has : (x : Arc) (xs : List Arc) → list_any (same_arc x) xs ≡ true → Has xs x
 any_has x [] e = absurd cc
-any_has x (y ∷ xs) e = ⊎_elim (λ here. inl (sym (same_says x y here))) (λ later. inr (any_has x xs later)) (or_cases (same_arc x y) (list_any (same_arc x) xs) e)
+any_has x (y ∷ xs) e = ⊎_elim (λ here. inl (sym (same_arc_is x y here))) (λ later. inr (any_has x xs later)) (or_cases (same_arc x y) (list_any (same_arc x) xs) e)
 
 pub has_any : (x : Arc) (xs : List Arc) → Has xs x → list_any (same_arc x) xs ≡ true
 has_any x [] h = absurd h
-has_any x (y ∷ xs) (inl e) = rw (ap (same_arc x) e ∙ same_itself x) refl
+has_any x (y ∷ xs) (inl e) = rw (ap (same_arc x) e ∙ same_arc_itself x) refl
 has_any x (y ∷ xs) (inr h) = or_right (same_arc x y) (list_any (same_arc x) xs) (has_any x xs h)
 
 pub has_both : (x y : Arc) (xs : List Arc) → Has (xs ++ y ∷ []) x → Has xs x ⊎ (y ≡ x)

@@ -1,27 +1,15 @@
 -- Things by their first indices, under a test that tells whether two are the same.
-use Rattle.std.proofs.Common.{◌≡◌, ◌≢◌, ◌⊎◌, inl, inr, ⊎_elim, ℕ, zero, suc, ◌+◌, ◌<◌, ◌≤◌, Bool, true, false, ◌||◌, List, [], ◌∷◌, ◌++◌, length, map, get_or, slice_get, Contains, AllPairs, Some, refl, sym, ap, subst, ◌∙◌, append-nil, arith}
+use Rattle.std.proofs.Common.{◌≡◌, ◌≢◌, ◌⊎◌, inl, inr, ⊎_elim, ℕ, zero, suc, ◌+◌, ◌<◌, ◌≤◌, Bool, true, false, ◌||◌, List, [], ◌∷◌, ◌++◌, length, get_or, slice_get, Contains, AllPairs, Some, refl, sym, ap, subst, ◌∙◌, append-nil, arith}
 use Rattle.std.specs.Bool.{Decides}
 use Rattle.std.specs.List.{fold, list_any}
-use Rattle.std.proofs.lemmas.Bool.{false_from_ne_true, cond-true, cond-false, or_cases, cases_order}
+use Rattle.std.proofs.lemmas.Bool.{false_from_ne_true, cond-true, cond-false, or_cases, cases_order, or_right}
 use Rattle.std.proofs.lemmas.List.{length-append, get_or_append_left, get_or_default}
 use Rattle.std.proofs.Math.Seq.{get_or-append_seam}
 use Rattle.std.proofs.lemmas.List.Elements.{Contains-append_left, Contains-append_right, Contains-append_cases}
 use Rattle.std.proofs.lemmas.List.Sums.{position_or_len_is}
 use Rattle.std.proofs.lemmas.Option.{slice_get_within, get_or_from_slice_get, slice_get-get_or}
+use Rattle.rg_theory.proofs.Lists.{there_later}
 use Rattle.rg_line_formats.specs.First.{with_new, firsts, number_of}
-
-or_right : (a b : Bool) → b ≡ true → (a || b) ≡ true
-or_right true b e = refl
-or_right false b e = e
-
-pub there_at : {X : Type 0} (xs : List X) (i : ℕ) (x : X) → slice_get xs i ≡ Some x → Contains xs x
-there_at xs i x at = (i, slice_get_within xs i x at, get_or_from_slice_get xs i x x at)
-
-pub at_number : {X : Type 0} (xs : List X) (x : X) → Contains xs x → (i : ℕ) × (slice_get xs i ≡ Some x)
-at_number xs x (k, lt, e) = (k, slice_get-get_or xs k x lt ∙ ap Some e)
-
-pub there_later : {X : Type 0} (x : X) (xs : List X) (y : X) → Contains xs y → Contains (x ∷ xs) y
-there_later x xs y (k, lt, e) = (suc k, omega arith, e)
 
 -- what stands in a list stands there when it grows
 pub stays_at : {X : Type 0} (xs more : List X) (i : ℕ) (x : X) → slice_get xs i ≡ Some x → slice_get (xs ++ more) i ≡ Some x
@@ -171,17 +159,6 @@ module _ {X : Type 0} (same : X → X → Bool) (tells : (a b : X) → Decides (
 
   pub firsts_differ : (xs : List X) → AllPairs (λ a b. a ≢ b) (firsts same xs)
   firsts_differ xs = firsts_from [] xs (λ i j d lt in'. absurd (omega arith))
-
--- a list that is mapped
-pub map_there : {X Y : Type 0} (f : X → Y) (xs : List X) (x : X) → Contains xs x → Contains (map f xs) (f x)
-map_there f [] x (k, lt, e) = absurd (omega arith)
-map_there f (y ∷ xs) x (zero, lt, e) = (zero, omega arith, ap f e)
-map_there f (y ∷ xs) x (suc k, lt, e) = there_later (f y) (map f xs) (f x) (map_there f xs x (k, omega arith, e))
-
-pub map_from : {X Y : Type 0} (f : X → Y) (xs : List X) (y : Y) → Contains (map f xs) y → (x : X) × Contains xs x × (f x ≡ y)
-map_from f [] y (k, lt, e) = absurd (omega arith)
-map_from f (x ∷ xs) y (zero, lt, e) = (x, (zero, omega arith, refl), e)
-map_from f (x ∷ xs) y (suc k, lt, e) = let r = map_from f xs y (k, omega arith, e) in (r.0, there_later x xs r.0 r.1, r.2)
 
 -- no more things come in than there are
 firsts_shorter : {X : Type 0} (same : X → X → Bool) (front xs : List X) → length (fold (with_new same) front xs) ≤ length front + length xs

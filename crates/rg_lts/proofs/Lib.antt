@@ -2,6 +2,6 @@ pub mod OrderedArcs
 pub mod Drafts
 mod ArcOrder
 mod ArcRuns
-mod ArcSets
+pub mod ArcSets
 mod Entering
 mod NameAt

@@ -10,7 +10,7 @@ use Rattle.rg_theory.specs.System.{System, states, labels, IsInRange, IsAllReach
 use Rattle.rg_theory.specs.Net.{Place, pre_weight, post_weight}
 use Rattle.rg_theory.specs.Region.{Region}
 use Rattle.rg_theory.specs.Tree.{Grows, IsTree}
-use Rattle.rg_theory.proofs.Lists.{Contains-cons_cases}
+use Rattle.rg_theory.proofs.Lists.{only_one}
 use Rattle.rg_theory.proofs.Arcs.{arc_in_range}
 use Rattle.rg_theory.proofs.Trees.{source_met, led_is_met}
 use Rattle.rg_integers.specs.Range.{greatest}
@@ -25,9 +25,6 @@ pub record FilledSoFar (lts : System) (p : Place) (rest : List Arc) (tokens : Li
   pub within : (s : ℕ) → Contains met s → s < states lts
   pub one_each : length tokens ≡ states lts
   pub right : (m : ℕ → ℕ) → Region lts p m → (s : ℕ) → Contains met s → get_or tokens s 0 ≡ m s
-
-only_one : (x s : ℕ) → Contains (x ∷ []) s → x ≡ s
-only_one x s has = ⊎_elim (λ e. e) (λ (k, lt, e). absurd (omega arith)) (Contains-cons_cases x s [] has)
 
 pub filled_start : (lts : System) (p : Place) (tree : List Arc) (tokens : List ℕ) → IsInRange lts → IsTree lts tree → length tokens ≡ states lts
     → FilledSoFar lts p tree (set tokens lts.initial p.start)

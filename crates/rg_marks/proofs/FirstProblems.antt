@@ -8,6 +8,7 @@ use Rattle.rg_theory.specs.System.{System, states, labels}
 use Rattle.rg_theory.specs.Net.{Place}
 use Rattle.rg_theory.specs.declared.Problem.TheVariants.{Event, States}
 use Rattle.rg_theory.specs.Problem.{IsSeparatedBy}
+use Rattle.rg_theory.proofs.Lists.{get_cases}
 use Rattle.rg_marks.specs.Tokens.{IsNarrow, AreTokens}
 use Rattle.rg_marks.specs.Stops.{mark_at, MarksStops, IsStoppedBy}
 use Rattle.rg_marks.specs.Cells.{AreCells}
@@ -15,7 +16,7 @@ use Rattle.rg_marks.specs.Separated.{SeparateSoMuch}
 use Rattle.rg_marks.specs.Firsts.{TellsNoMore, AreFirsts, AreAllFirsts}
 use Rattle.rg_marks.specs.declared.firsts.Firsts.{Firsts}
 use Rattle.rg_marks.specs.declared.separated.Separated.{Separated}
-use Rattle.rg_marks.proofs.Members.{adds_any, adds_last, get_before, get_last, get_cases}
+use Rattle.rg_marks.proofs.Members.{adds_any, adds_last, get_before, get_last}
 use Rattle.rg_marks.proofs.Separating.{stopped_is, is_stopped}
 
 -- the problems that a place is the first to separate, from what the places in front separate

@@ -1,6 +1,6 @@
 -- Facts that hold of some element of a list, and of lists with one more.
-use Rattle.std.proofs.Common.{◌≡◌, ℕ, zero, suc, List, [], ◌∷◌, ◌++◌, Any, Some, ◌⊎◌, length, slice_get, inl, inr, ⊎_elim, refl, sym, ap, subst, arith}
-use Rattle.std.proofs.lemmas.Option.{same_Some, none-some}
+use Rattle.std.proofs.Common.{◌≡◌, ℕ, zero, suc, List, [], ◌∷◌, ◌++◌, Any, Some, ◌⊎◌, length, slice_get, inl, inr, ⊎_elim, refl, sym, subst, arith}
+use Rattle.std.proofs.lemmas.Option.{none-some}
 use Rattle.std.proofs.lemmas.List.Elements.{Contains-append_left, Contains-append_right, Contains-append_cases}
 use Rattle.rg_theory.proofs.Lists.{Contains-cons_cases}
 use Rattle.rg_theory.proofs.Among.{one_of, any_of, any_within}
@@ -37,9 +37,3 @@ get_last [] y zero e = refl
 get_last [] y (suc k) e = absurd (omega arith)
 get_last (x ∷ xs) y zero e = absurd (omega arith)
 get_last (x ∷ xs) y (suc k) e = get_last xs y k (omega arith)
-
-pub get_cases : {X : Type 0} (xs : List X) (y : X) (i : ℕ) (x : X) → slice_get (xs ++ y ∷ []) i ≡ Some x → (slice_get xs i ≡ Some x) ⊎ ((i ≡ length xs) × (y ≡ x))
-get_cases [] y zero x e = inr (refl, same_Some y x e)
-get_cases [] y (suc i) x e = absurd (none-some x e)
-get_cases (k ∷ xs) y zero x e = inl e
-get_cases (k ∷ xs) y (suc i) x e = ⊎_elim (λ before. inl before) (λ (at, is). inr (ap suc at, is)) (get_cases xs y i x e)

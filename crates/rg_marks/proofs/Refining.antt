@@ -4,8 +4,9 @@ use Rattle.std.proofs.Common.{eq-eqb, eqb-true, length-append}
 use Rattle.std.specs.List.{list_any}
 use Rattle.std.proofs.lemmas.Bool.{cases_eq, cases_Bool, true≢false}
 use Rattle.std.proofs.lemmas.Option.{same_Some, none-some, slice_get_within, slice_get_read}
+use Rattle.rg_theory.proofs.Lists.{last_of, first_of, get_cases}
 use Rattle.rg_marks.specs.Cells.{AreNumbered, AreRefined}
-use Rattle.rg_marks.proofs.Members.{get_before, get_last, get_cases}
+use Rattle.rg_marks.proofs.Members.{get_before, get_last}
 
 -- the states before s have as many tokens as the states by which their cells are numbered
 abbrev pub SameSoFar : List ℕ → List ℕ → ℕ → Type 0
@@ -51,18 +52,6 @@ among x (k ∷ keys) e = go (cases_Bool (same_pair x k)) (among x keys)
 -- the number that was given is that of the pair
 pub given_number : (keys : List (ℕ × ℕ)) (x : ℕ × ℕ) (number : ℕ) → (k : ℕ × ℕ) × (slice_get keys number ≡ Some k) × (same_pair x k ≡ true) → slice_get keys number ≡ Some x
 given_number keys x number (k, at, same) = at ∙ ap Some (sym (same_is x k same))
-
--- the entry at the end of a list of numbers, and one before it
-last_of : (xs : List ℕ) (y k : ℕ) → k ≡ length xs → get_or (xs ++ y ∷ []) k 0 ≡ y
-last_of [] y zero e = refl
-last_of [] y (suc k) e = absurd (omega arith)
-last_of (x ∷ xs) y zero e = absurd (omega arith)
-last_of (x ∷ xs) y (suc k) e = last_of xs y k (omega arith)
-
-first_of : (xs : List ℕ) (y k : ℕ) → k < length xs → get_or (xs ++ y ∷ []) k 0 ≡ get_or xs k 0
-first_of [] y k lt = absurd (omega arith)
-first_of (x ∷ xs) y zero lt = refl
-first_of (x ∷ xs) y (suc k) lt = first_of xs y k (omega arith)
 
 -- each of the list stands there once
 abbrev pub AreDistinct : {X : Type 0} → List X → Type 0

@@ -1,10 +1,10 @@
 -- The marking after a firing, place by place.
-use Rattle.std.proofs.Common.{◌≡◌, ℕ, zero, suc, ◌+◌, ◌<◌, ◌≤◌, List, [], ◌∷◌, ◌++◌, length, get_or, All, refl, sym, ap, ◌∙◌, arith, length-append}
+use Rattle.std.proofs.Common.{◌≡◌, ℕ, ◌+◌, ◌<◌, ◌≤◌, [], ◌∷◌, ◌++◌, length, All, sym, ap, ◌∙◌, arith, length-append}
 use Rattle.std.proofs.lemmas.Grind.{get_or_default_zero}
 use Rattle.std.proofs.lemmas.Option.{slice_get_within}
 use Rattle.rg_integers.specs.Range.{greatest}
 use Rattle.rg_theory.specs.Net.{Place, Net, Marking, IsPlaceAt, IsEnabled, Fires, tokens}
-use Rattle.rg_theory.proofs.Lists.{slice_get_some}
+use Rattle.rg_theory.proofs.Lists.{slice_get_some, last_of, first_of}
 use Rattle.rg_net.specs.Firing.{left_on, StaysInRange}
 use Rattle.rg_net.proofs.Placing.{placed_more}
 
@@ -12,17 +12,6 @@ use Rattle.rg_net.proofs.Placing.{placed_more}
 pub record MovedSoFar (net : Net) (m : Marking) (t : ℕ) (after : Marking) (i : ℕ) : Type 0 where
   pub long : length after ≡ i
   pub moved : (j : ℕ) (p : Place) → j < i → IsPlaceAt net j p → tokens after j ≡ left_on m j p t
-
-pub last_of : (xs : List ℕ) (y k : ℕ) → k ≡ length xs → get_or (xs ++ y ∷ []) k 0 ≡ y
-last_of [] y zero e = refl
-last_of [] y (suc k) e = absurd (omega arith)
-last_of (x ∷ xs) y zero e = absurd (omega arith)
-last_of (x ∷ xs) y (suc k) e = last_of xs y k (omega arith)
-
-pub first_of : (xs : List ℕ) (y k : ℕ) → k < length xs → get_or (xs ++ y ∷ []) k 0 ≡ get_or xs k 0
-first_of [] y k lt = absurd (omega arith)
-first_of (x ∷ xs) y zero lt = refl
-first_of (x ∷ xs) y (suc k) lt = first_of xs y k (omega arith)
 
 pub moved_next : (net : Net) (m : Marking) (t : ℕ) (after : Marking) (i : ℕ) (p : Place) (n : ℕ) → MovedSoFar net m t after i → IsPlaceAt net i p
     → n ≡ left_on m i p t → MovedSoFar net m t (after ++ n ∷ []) (i + 1)

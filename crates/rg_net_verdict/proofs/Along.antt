@@ -12,7 +12,7 @@ use Rattle.rg_theory.specs.System.{System, states, labels, IsInRange, IsAllReach
 use Rattle.rg_theory.specs.Net.{Net, Marking, IsEnabled, Fires, FiresAll, start_marking}
 use Rattle.rg_theory.specs.Solves.{marking_of}
 use Rattle.rg_theory.specs.Tree.{Grows, IsTree, way_to}
-use Rattle.rg_theory.proofs.Lists.{Contains-cons_cases, slice_get_some}
+use Rattle.rg_theory.proofs.Lists.{slice_get_some, only_one}
 use Rattle.rg_theory.proofs.Arcs.{arc_in_range}
 use Rattle.rg_theory.proofs.Firing.{length-start_marking, tokens-start_marking}
 use Rattle.rg_theory.proofs.Trees.{source_met, led_is_met, way_joins, way_of_initial}
@@ -44,9 +44,6 @@ pub record AlongSoFar (lts : System) (net : Net) (tree : List Arc) (ms : List Ma
   pub each : (s : ℕ) → Contains met s → IsMarkingOf net tree s (marking_of ms s)
   pub places : (s : ℕ) → Contains met s → length (marking_of ms s) ≡ length net.places
   pub in_range : (s : ℕ) → Contains met s → All (λ n. n ≤ greatest) (marking_of ms s)
-
-only_one : (x s : ℕ) → Contains (x ∷ []) s → x ≡ s
-only_one x s has = ⊎_elim (λ e. e) (λ (k, lt, e). absurd (omega arith)) (Contains-cons_cases x s [] has)
 
 start_in_range : (net : Net) → IsNetInRange net → All (λ n. n ≤ greatest) (start_marking net)
 start_in_range net range k d lt =

@@ -1,6 +1,6 @@
 -- A net is of a class as far as markings show, or has a first break.
-use Rattle.std.proofs.Common.{◌≡◌, ◌⊎◌, inl, inr, ℕ, zero, suc, ◌+◌, ◌*◌, ◌<◌, ◌≤◌, Bool, true, false}
-use Rattle.std.proofs.Common.{true≢false, IsTrue, List, length, Option, None, Some, IfSome, slice_get, refl, sym, subst, ◌∙◌, arith}
+use Rattle.std.proofs.Common.{◌≡◌, ◌⊎◌, inl, inr, ℕ, zero, suc, ◌+◌, ◌*◌, ◌<◌, ◌≤◌}
+use Rattle.std.proofs.Common.{IsTrue, List, length, Option, None, Some, IfSome, slice_get, refl, sym, subst, ◌∙◌, arith}
 use Rattle.std.specs.Option.{IsSomeAnd}
 use Rattle.std.proofs.lemmas.Bool.{cases_lt, cases_eq, cases_order}
 use Rattle.std.proofs.lemmas.Option.{same_Some, none-some, slice_get_within}
@@ -8,7 +8,7 @@ use Rattle.rg_theory.specs.Net.{Place, Net, Marking, pre_weight, post_weight, to
 use Rattle.rg_theory.specs.declared.Class.{Class}
 use Rattle.rg_theory.specs.Class.{IsMultiple, AllowsStart, IsPlaceInClass}
 use Rattle.rg_theory.proofs.Lists.{slice_get_some}
-use Rattle.rg_theory.proofs.Deciding.{Decided, PairBefore, find_number, find_pair}
+use Rattle.rg_theory.proofs.Deciding.{Decided, PairBefore, find_number, find_pair, less_or_not, true_or_not}
 use Rattle.rg_net.specs.declared.class_break.ClassBreak.{ClassBreak}
 use Rattle.rg_net.specs.declared.class_break.ClassBreak.TheVariants.{NotPure, NotPlain, Over, Branching, NotMultiple}
 use Rattle.rg_net.specs.ClassBreaks.{AreInClass, IsBreak, IsFirstBreak, IsBreakBefore, place_of, kind_of, first_of, second_of}
@@ -16,23 +16,12 @@ use Rattle.rg_net.proofs.Breaking.{InClassBefore, first_break, in_class_more, in
 
 -- ---- numbers
 
-pub less_or_not : (m n : ℕ) → Decided (m < n)
-less_or_not m n = by (cases_lt m n)
-  where
-    by : (m < n) ⊎ (n ≤ m) → Decided (m < n)
-    by (inl less) = inl less
-    by (inr more) = inr (λ less. (omega arith))
-
 at_most : (m n : ℕ) → ¬ (m < n) → n ≤ m
 at_most m n none = by (cases_lt m n)
   where
     by : (m < n) ⊎ (n ≤ m) → n ≤ m
     by (inl less) = absurd (none less)
     by (inr more) = more
-
-pub true_or_not : (b : Bool) → Decided (IsTrue b)
-true_or_not true = inl refl
-true_or_not false = inr (λ e. true≢false (sym e))
 
 -- a number that so many times make is made by few times
 few_times : (n m times : ℕ) → m ≡ times * n → (k : ℕ) × (k < suc m) × (m ≡ k * n)

@@ -9,6 +9,7 @@ use Rattle.std.proofs.lemmas.Grind.{get_or_default_zero}
 use Rattle.rg_theory.specs.System.{System, states}
 use Rattle.rg_theory.specs.Net.{Marking}
 use Rattle.rg_theory.specs.Solves.{marking_of}
+use Rattle.rg_theory.proofs.Lists.{last_of, first_of}
 use Rattle.rg_net_verdict.specs.Verdict.{AreFirstSame, AllDiffer}
 
 -- of the states below s, these are the first two with one marking
@@ -46,17 +47,6 @@ not_any {X} test (y ∷ xs) n x none at = go (cases_Bool (test y)) n at (λ m at
     go (inl yes') n at later = absurd (true≢false (sym (ap (λ b. b || list_any test xs) yes') ∙ none))
     go (inr no') zero at later = subst (λ z. test z ≡ false) (same_Some y x at) no'
     go (inr no') (suc m) at later = later m at (sym (ap (λ b. b || list_any test xs) no') ∙ none)
-
-last_of : (xs : List ℕ) (y k : ℕ) → k ≡ length xs → get_or (xs ++ y ∷ []) k 0 ≡ y
-last_of [] y zero e = refl
-last_of [] y (suc k) e = absurd (omega arith)
-last_of (x ∷ xs) y zero e = absurd (omega arith)
-last_of (x ∷ xs) y (suc k) e = last_of xs y k (omega arith)
-
-first_of : (xs : List ℕ) (y k : ℕ) → k < length xs → get_or (xs ++ y ∷ []) k 0 ≡ get_or xs k 0
-first_of [] y k lt = absurd (omega arith)
-first_of (x ∷ xs) y zero lt = refl
-first_of (x ∷ xs) y (suc k) lt = first_of xs y k (omega arith)
 
 get_before : {X : Type 0} (keys : List X) (y : X) (i : ℕ) (x : X) → slice_get keys i ≡ Some x → slice_get (keys ++ y ∷ []) i ≡ Some x
 get_before [] y i x e = absurd (none-some x e)

@@ -11,7 +11,7 @@ use Rattle.rg_theory.specs.declared.Arc.{Arc}
 use Rattle.rg_theory.specs.System.{System, states, labels, IsInRange, IsAllReachable, IsReachable}
 use Rattle.rg_theory.specs.Net.{Place, Net, Marking, pre_weight, post_weight, tokens, IsPlaceAt, IsEnabled, Fires, FiresAll, start_marking}
 use Rattle.rg_theory.specs.Tree.{Grows, IsTree, way_to}
-use Rattle.rg_theory.proofs.Lists.{Contains-cons_cases, slice_get_some, each_or_some}
+use Rattle.rg_theory.proofs.Lists.{slice_get_some, each_or_some, only_one}
 use Rattle.rg_theory.proofs.Arcs.{arc_in_range}
 use Rattle.rg_theory.proofs.Firing.{fires_enabled}
 use Rattle.rg_theory.proofs.Trees.{source_met, led_is_met, way_joins, way_of_initial}
@@ -74,9 +74,6 @@ drop_at : (tree : List Arc) (i : ℕ) (a : Arc) → slice_get tree i ≡ Some a 
 drop_at [] i a at = absurd (none-some a at)
 drop_at (b ∷ tree) zero a at = ap (λ (x : Arc). x ∷ tree) (same_Some b a at)
 drop_at (b ∷ tree) (suc i) a at = drop_at tree i a at
-
-only_one : (x s : ℕ) → Contains (x ∷ []) s → x ≡ s
-only_one x s has = ⊎_elim (λ e. e) (λ (k, lt, e). absurd (omega arith)) (Contains-cons_cases x s [] has)
 
 module _ (lts : System) (net : Net) (tree : List Arc) (fine : IsInRange lts) (same : net.labels ≡ labels lts) (is : IsTree lts tree) where
   -- so many arcs fire in range, and the states that are met have markings

@@ -6,8 +6,8 @@ use Rattle.std.proofs.lemmas.List.Elements.{Contains-push, Contains-append_left}
 use Rattle.std.proofs.lemmas.List.Sums.{sum_by-cons}
 use Rattle.std.proofs.lemmas.Option.{slice_get_read, slice_get_within, get_or_from_slice_get}
 use Rattle.std.proofs.lemmas.Slice.Eq.{bytes_eq-Decides}
+use Rattle.rg_theory.proofs.Lists.{there_at}
 use Rattle.rg_netfile.specs.Built.{AreApart}
-use Rattle.rg_netfile.proofs.NameTests.{there}
 
 pub apart_none : {X : Type 0} → AreApart {X = X} []
 apart_none = record { same = λ i j x at at'. absurd cc }
@@ -25,15 +25,15 @@ pushed (z ∷ xs) x y (suc i) at = ⊎_elim (λ before. inl before) (λ last. in
 pub apart_more : {X : Type 0} (xs : List X) (x : X) → AreApart xs → (Contains xs x → ⊥) → AreApart (xs ++ x ∷ [])
 apart_more xs x apart absent = record {
   same = λ i j y at at'. ⊎_elim
-      (λ first. ⊎_elim (λ second. apart.same i j y first second) (λ last. absurd (absent (there xs i x (first ∙ ap Some (sym last.1))))) (pushed xs x y j at'))
-      (λ last. ⊎_elim (λ second. absurd (absent (there xs j x (second ∙ ap Some (sym last.1))))) (λ end. last.0 ∙ sym end.0) (pushed xs x y j at'))
+      (λ first. ⊎_elim (λ second. apart.same i j y first second) (λ last. absurd (absent (there_at xs i x (first ∙ ap Some (sym last.1))))) (pushed xs x y j at'))
+      (λ last. ⊎_elim (λ second. absurd (absent (there_at xs j x (second ∙ ap Some (sym last.1))))) (λ end. last.0 ∙ sym end.0) (pushed xs x y j at'))
       (pushed xs x y i at);
 }
 
--- what is there with one more is there or is that one
+-- what is there_at with one more is there_at or is that one
 contains_last : {X : Type 0} (xs : List X) (x y : X) → Contains (xs ++ x ∷ []) y → Contains xs y ⊎ (x ≡ y)
 contains_last xs x y (k, lt, e) =
-    ⊎_elim (λ before. inl (there xs k y before)) (λ last. inr last.1) (pushed xs x y k (slice_get_read (xs ++ x ∷ []) (length (xs ++ x ∷ [])) k y refl lt (sym e)))
+    ⊎_elim (λ before. inl (there_at xs k y before)) (λ last. inr last.1) (pushed xs x y k (slice_get_read (xs ++ x ∷ []) (length (xs ++ x ∷ [])) k y refl lt (sym e)))
 
 -- a test finds the names that were seen, and then the next one too
 pub seen_more : (names : List (List ℕ)) (name : List ℕ) (old new : List ℕ → Bool) → ((n : List ℕ) → (old n ≡ true) ↔ Contains names n)
@@ -67,7 +67,7 @@ count_yes p x xs e = sum_by-cons (λ y. cond (p y) 1 0) x xs ∙ ap (λ b. cond 
 pub count_no : {X : Type 0} (p : X → Bool) (x : X) (xs : List X) → p x ≡ false → count_by p (x ∷ xs) ≡ 0 + count_by p xs
 count_no p x xs e = sum_by-cons (λ y. cond (p y) 1 0) x xs ∙ ap (λ b. cond b 1 0 + count_by p xs) e
 
--- what is counted no time isn't there, and what is counted once stands once
+-- what is counted no time isn't there_at, and what is counted once stands once
 pub count_none : {X : Type 0} (p : X → Bool) (xs : List X) (i : ℕ) (x : X) → count_by p xs ≡ 0 → slice_get xs i ≡ Some x → p x ≡ true → ⊥
 count_none p [] i x none at passes = cc
 count_none p (y ∷ xs) zero x none at passes = let same : y ≡ x = cc in let n = count_yes p y xs (ap p same ∙ passes) in omega arith
@@ -91,7 +91,7 @@ count_one p (z ∷ xs) (suc i) (suc j) x y one at passes at' passes' = by (p z) 
     by true e more = let n = count_yes p z xs e in absurd (count_none p xs i x (omega arith) at passes)
     by false e more = let n = count_no p z xs e in ap suc (more (omega arith))
 
--- what is counted once is there
+-- what is counted once is there_at
 pub count_some : {X : Type 0} (p : X → Bool) (xs : List X) → count_by p xs ≡ 1 → (i : ℕ) × (x : X) × (slice_get xs i ≡ Some x) × (p x ≡ true)
 count_some {X} p [] one = absurd (omega arith)
 count_some {X} p (x ∷ xs) one = by (p x) refl (count_some p xs)

@@ -1,8 +1,8 @@
 -- How often each number stands in a list that grows; labels of transitions by their numbers.
-use Rattle.std.proofs.Common.{◌≡◌, ◌==◌, ℕ, zero, suc, ◌+◌, ◌<◌, ⊎_elim, Bool, true, false, eqb, ◌&&◌, List, [], ◌∷◌, ◌++◌, length, get_or, set, take, count_by, slice_get, Contains, Some, refl, sym, ap, ◌∙◌, arith}
+use Rattle.std.proofs.Common.{◌≡◌, ◌==◌, ℕ, zero, suc, ◌+◌, ◌<◌, ⊎_elim, Bool, false, eqb, ◌&&◌, List, [], ◌∷◌, ◌++◌, length, get_or, set, take, count_by, slice_get, Contains, Some, sym, ap, ◌∙◌, arith}
 use Rattle.std.specs.List.{list_all}
 use Rattle.std.specs.Str.{bytes_eq}
-use Rattle.std.proofs.lemmas.Bool.{cases_order}
+use Rattle.std.proofs.lemmas.Bool.{cases_order, and_right, eq-eqb}
 use Rattle.std.proofs.lemmas.Bool.Decides.{nat_tests}
 use Rattle.std.proofs.lemmas.List.{get_or-set_same, get_or-set_other, get_or_default, length-set}
 use Rattle.std.proofs.lemmas.List.Sums.{count_by_more_yes, count_by_more_no}
@@ -12,9 +12,6 @@ use Rattle.rg_net_grammar.specs.Contents.{label_of}
 use Rattle.rg_netfile.specs.Contents.{is_among, have_each_once}
 use Rattle.rg_netfile.specs.Built.{AreNumbers, AreCounts}
 use Rattle.rg_netfile.proofs.NameTests.{among_false}
-
-same_eqb : (m n : ℕ) → m ≡ n → eqb m n ≡ true
-same_eqb m n e = grind (arith, nat_tests)
 
 other_eqb : (m n : ℕ) → (m ≡ n → ⊥) → eqb m n ≡ false
 other_eqb m n ne = grind (arith, nat_tests)
@@ -36,7 +33,7 @@ counts_more labels numbers counts i x lt small read are = record {
 
     at_it : (k : ℕ) → k < labels → k ≡ get_or numbers i 0 → get_or (set counts (get_or numbers i 0) (x + 1)) k 0 ≡ count_by (λ m. m == k) (take (i + 1) numbers)
     at_it k less e =
-        let more = count_by_more_yes (λ m. m == k) numbers i 0 lt (same_eqb (get_or numbers i 0) k (sym e)) in
+        let more = count_by_more_yes (λ m. m == k) numbers i 0 lt (eq-eqb (get_or numbers i 0) k (sym e)) in
         let here : get_or counts (get_or numbers i 0) 0 ≡ x = get_or_default counts (get_or numbers i 0) 0 x inside ∙ sym read in
         ap (λ j. get_or (set counts (get_or numbers i 0) (x + 1)) j 0) e ∙ get_or-set_same counts (get_or numbers i 0) (x + 1) 0 inside
         ∙ ap (λ y. y + 1) (sym here ∙ ap (λ j. get_or counts j 0) (sym e) ∙ are.each k less) ∙ sym more
@@ -53,15 +50,11 @@ numbers_more names [] (m ∷ numbers) t n are at = absurd are
 numbers_more names (s ∷ transitions) [] t n are at = absurd are
 numbers_more names (s ∷ transitions) (m ∷ numbers) t n are at = (are.0, numbers_more names transitions numbers t n are.1 at)
 
-and_false : (a b : Bool) → b ≡ false → (a && b) ≡ false
-and_false true b e = e
-and_false false b e = refl
-
 -- one fails
 pub one_fails : {X : Type 0} (p : X → Bool) (xs : List X) (i : ℕ) (x : X) → i < length xs → get_or xs i x ≡ x → p x ≡ false → list_all p xs ≡ false
 one_fails p [] i x lt at fails = absurd (omega arith)
 one_fails p (y ∷ xs) zero x lt at fails = ap (λ b. b && list_all p xs) (ap p at ∙ fails)
-one_fails p (y ∷ xs) (suc i) x lt at fails = and_false (p y) (list_all p xs) (one_fails p xs i x (omega arith) at fails)
+one_fails p (y ∷ xs) (suc i) x lt at fails = and_right (p y) (list_all p xs) (one_fails p xs i x (omega arith) at fails)
 
 -- a label of a transition is none of the system's
 pub not_each_once : (names : List (List ℕ)) (transitions : List (Transition Lexeme)) (i : ℕ) (t : Transition Lexeme) → i < length transitions → get_or transitions i t ≡ t

@@ -2,14 +2,14 @@
 use Rattle.std.proofs.Common.{◌≡◌, ℕ, ◌<◌, ◌≤◌, ◌⊎◌, inl, inr, cond, nat_le, List, [], ◌∷◌, ◌++◌, length, map, Contains, None, Some, sym, ap, subst, ◌∙◌}
 use Rattle.std.specs.List.{list_any}
 use Rattle.std.specs.Str.{bytes_eq}
-use Rattle.std.proofs.lemmas.Bool.{cond-true, cond-false}
+use Rattle.std.proofs.lemmas.Bool.{cond-true, cond-false, lt-leb, le-leb}
 use Rattle.std.proofs.lemmas.List.{map-append}
+use Rattle.rg_text.proofs.NameBytes.{absent_none, contains_any}
 use Rattle.rg_lexer.specs.Lexeme.{Lexeme}
 use Rattle.rg_net_grammar.specs.declared.found.Transition.{Transition}
 use Rattle.rg_netfile.specs.declared.fault.NetFault.{NetFault}
 use Rattle.rg_netfile.specs.declared.fault.NetFault.TheVariants.{TwicePlace, TooManyPlaces, TwiceTransition}
 use Rattle.rg_netfile.specs.Contents.{most_places, place_fault, transition_fault}
-use Rattle.rg_netfile.proofs.NameTests.{contains_any, absent_none, le_true, le_false}
 
 abbrev pub text_of : Lexeme → List ℕ
 text_of x = x.text
@@ -32,7 +32,7 @@ to_room before x names is absent =
 place_over : (before : List Lexeme) (x : Lexeme) (names : List (List ℕ)) → names ≡ map text_of before → (Contains names x.text → ⊥)
     → most_places ≤ length before → place_fault before x ≡ Some (TooManyPlaces x.at)
 place_over before x names is absent full =
-    to_room before x names is absent ∙ cond-true (nat_le most_places (length before)) (Some (TooManyPlaces x.at)) None (le_true most_places (length before) full)
+    to_room before x names is absent ∙ cond-true (nat_le most_places (length before)) (Some (TooManyPlaces x.at)) None (le-leb most_places (length before) full)
 
 -- the fault that is told is the place's
 pub place_fault_of : (before : List Lexeme) (x : Lexeme) (names : List (List ℕ)) (read : List ℕ) (f : NetFault) → names ≡ map text_of before → read ≡ x.text
@@ -47,7 +47,7 @@ place_fault_of before x names read f is same size many (inr (at, absent, full)) 
 pub place_fine : (before : List Lexeme) (x : Lexeme) (names : List (List ℕ)) → names ≡ map text_of before → (Contains names x.text → ⊥)
     → length before < most_places → place_fault before x ≡ None
 place_fine before x names is absent few =
-    to_room before x names is absent ∙ cond-false (nat_le most_places (length before)) (Some (TooManyPlaces x.at)) None (le_false most_places (length before) few)
+    to_room before x names is absent ∙ cond-false (nat_le most_places (length before)) (Some (TooManyPlaces x.at)) None (lt-leb most_places (length before) few)
 
 pub transition_twice : (before : List (Transition Lexeme)) (t : Transition Lexeme) (names : List (List ℕ)) → names ≡ map name_of before → Contains names t.name.text
     → transition_fault before t ≡ Some (TwiceTransition t.name.at)

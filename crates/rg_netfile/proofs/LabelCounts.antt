@@ -2,7 +2,7 @@
 use Rattle.std.proofs.Common.{◌≡◌, ◌==◌, ℕ, zero, suc, ◌+◌, ◌<◌, Bool, true, false, cond, eqb, ◌&&◌, List, [], ◌∷◌, length, get_or, slice_get, count_by, All, Some, refl, sym, ap, subst, ◌∙◌, arith}
 use Rattle.std.specs.List.{list_all}
 use Rattle.std.specs.Str.{bytes_eq}
-use Rattle.std.proofs.lemmas.Bool.{eq-eqb, eqb-true, both_ways}
+use Rattle.std.proofs.lemmas.Bool.{eq-eqb, eqb-true, both_ways, and_right}
 use Rattle.std.proofs.lemmas.List.Sums.{sum_by-cons, list_all-from_AllPass, AllPass-from_list_all}
 use Rattle.std.proofs.lemmas.List.Folds.{list_all_at}
 use Rattle.std.proofs.lemmas.List.Elements.{All-contains}
@@ -10,12 +10,13 @@ use Rattle.std.proofs.lemmas.Option.{slice_get_within, slice_get-get_or}
 use Rattle.std.proofs.lemmas.Slice.Eq.{bytes_eq-Decides}
 use Rattle.rg_lexer.specs.Lexeme.{Lexeme}
 use Rattle.rg_theory.specs.System.{System, labels}
+use Rattle.rg_theory.proofs.Lists.{there_at}
 use Rattle.rg_lts.specs.WellFormed.{IsWellFormed}
 use Rattle.rg_net_grammar.specs.declared.found.Transition.{Transition}
 use Rattle.rg_net_grammar.specs.Contents.{label_of}
 use Rattle.rg_netfile.specs.Contents.{is_among, have_each_once}
 use Rattle.rg_netfile.specs.Built.{AreApart, AreNumbers, AreCounts}
-use Rattle.rg_netfile.proofs.NameTests.{there, among_true}
+use Rattle.rg_netfile.proofs.NameTests.{among_true}
 use Rattle.rg_netfile.proofs.Apart.{apart_pairs, count_one}
 
 -- the transitions with a label, by name or by number
@@ -54,7 +55,7 @@ all_among names [] [] are = refl
 all_among names [] (n ∷ numbers) are = absurd are
 all_among names (t ∷ transitions) [] are = absurd are
 all_among names (t ∷ transitions) (n ∷ numbers) are =
-    ap (λ b. b && list_all (λ (s : Transition Lexeme). is_among names (label_of s)) transitions) (among_true names (label_of t) (there names n (label_of t) are.0))
+    ap (λ b. b && list_all (λ (s : Transition Lexeme). is_among names (label_of s)) transitions) (among_true names (label_of t) (there_at names n (label_of t) are.0))
     ∙ all_among names transitions numbers are.1
 
 -- the counts that are found, beside the names
@@ -79,7 +80,7 @@ pub numbers_apart : (lts : System) (transitions : List (Transition Lexeme)) (num
     → list_all (λ n. n == 1) counts ≡ true → AreApart numbers
 numbers_apart lts transitions numbers counts c ones = record {
   same = λ i j x at at'.
-      let less = All-contains (λ t. t < labels lts) numbers x c.within (there numbers i x at) in
+      let less = All-contains (λ t. t < labels lts) numbers x c.within (there_at numbers i x at) in
       let one = sym (c.are_counts.each x less) ∙ one_at (labels lts) numbers counts c.are_counts ones x less in
       count_one (λ n. n == x) numbers i j x x one at (eq-eqb x x refl) at' (eq-eqb x x refl);
 }
@@ -95,10 +96,6 @@ each_once lts transitions numbers counts c ones =
     eq-eqb (count_by (λ (t : Transition Lexeme). bytes_eq label (label_of t)) transitions) 1
     (count_is lts transitions numbers counts c k label (slice_get-get_or lts.label_names k d less)
     ∙ one_at (labels lts) numbers counts c.are_counts ones k less))
-
-and_false : (a b : Bool) → b ≡ false → (a && b) ≡ false
-and_false true b e = e
-and_false false b e = refl
 
 -- some number isn't 1
 not_one : (counts : List ℕ) → list_all (λ n. n == 1) counts ≡ false → (k : ℕ) × (k < length counts) × (eqb (get_or counts k 0) 1 ≡ false)
@@ -119,7 +116,7 @@ not_each lts transitions numbers counts c some =
     let bad = not_one counts some in
     let less : bad.0 < length lts.label_names = subst (λ n. bad.0 < n) c.are_counts.many bad.1 in
     let label = get_or lts.label_names bad.0 [] in
-    and_false (list_all (λ (t : Transition Lexeme). is_among lts.label_names (label_of t)) transitions)
+    and_right (list_all (λ (t : Transition Lexeme). is_among lts.label_names (label_of t)) transitions)
     (list_all (λ l. count_by (λ (t : Transition Lexeme). bytes_eq l (label_of t)) transitions == 1) lts.label_names)
     (list_all_at (λ l. count_by (λ (t : Transition Lexeme). bytes_eq l (label_of t)) transitions == 1) lts.label_names bad.0 [] less
     (ap (λ n. eqb n 1) (count_is lts transitions numbers counts c bad.0 label (slice_get-get_or lts.label_names bad.0 [] less)) ∙ bad.2))

@@ -2,14 +2,14 @@
 use Rattle.std.specs.Result.{OnOk}
 use Rattle.std.proofs.Common.{Result, Ok, Err, ◌≡◌, ℕ, ◌+◌, ◌<◌, ◌≤◌, ◌⊎◌, inl, inr, ⊎_elim, Bool, true, false, cond, not, ◌&&◌, nat_lt, List, [], ◌∷◌, ◌++◌, length, set, slice_get, slice_set, Contains, Option, None, Some, refl, sym, ap, subst, ◌∙◌, arith}
 use Rattle.std.specs.Str.{bytes_eq}
-use Rattle.std.proofs.lemmas.Bool.{cond-true, cond-false, false_from_ne_true, cases_order}
-use Rattle.std.proofs.lemmas.Bool.Decides.{nat_tests}
+use Rattle.std.proofs.lemmas.Bool.{cond-true, cond-false, false_from_ne_true, cases_order, lt-ltb, le-ltb}
 use Rattle.std.proofs.lemmas.List.{get_or-set_same, get_or-set_other, length-set}
 use Rattle.std.proofs.lemmas.List.Elements.{All-contains}
 use Rattle.std.proofs.lemmas.List.Sums.{sum_by-append}
-use Rattle.std.proofs.lemmas.Option.{slice_get-get_or, slice_get_within, get_or_from_slice_get}
+use Rattle.std.proofs.lemmas.Option.{slice_get-get_or, slice_get_within, get_or_from_slice_get, same_Some}
 use Rattle.std.proofs.lemmas.Slice.Eq.{bytes_eq-Decides}
 use Rattle.rg_theory.specs.Net.{Place, Net, HasAllWeights, IsPlaceAt}
+use Rattle.rg_theory.proofs.Lists.{there_at}
 use Rattle.rg_lexer.specs.Lexeme.{Lexeme}
 use Rattle.rg_integers.specs.Range.{greatest}
 use Rattle.rg_net_grammar.specs.declared.found.Member.{Member}
@@ -18,15 +18,9 @@ use Rattle.rg_netfile.specs.declared.fault.NetFault.TheVariants.{UnknownTransiti
 use Rattle.rg_netfile.specs.declared.slot.Slot.{Slot}
 use Rattle.rg_netfile.specs.Contents.{Cell, Step, flow_of, adds, same_cell, added, total, count_of, member_at, is_among, step_fault}
 use Rattle.rg_netfile.specs.Built.{KnownNames, IsKnown, HasSums, Passes, Stops, AddsTo, IsWithin, IsOver, IsSlotIn, IsSlotFor, number_in, with_more}
-use Rattle.rg_netfile.proofs.NameTests.{there, among_true, among_false}
+use Rattle.rg_netfile.proofs.NameTests.{among_true, among_false}
 use Rattle.rg_netfile.proofs.Going.{none_one, first_one}
-use Rattle.rg_netfile.proofs.Slots.{number_same, number_other, same_or_other, one_slot, one_cell, some_same}
-
-lt_true : (m n : ℕ) → m < n → nat_lt m n ≡ true
-lt_true m n h = grind (arith, nat_tests)
-
-lt_false : (m n : ℕ) → n ≤ m → nat_lt m n ≡ false
-lt_false m n h = grind (arith, nat_tests)
+use Rattle.rg_netfile.proofs.Slots.{number_same, number_other, same_or_other, one_slot, one_cell}
 
 total_more : (cell : Cell) (place : List ℕ) (before : List Step) (step : Step) → total cell place (before ++ step ∷ []) ≡ total cell place before + added cell place step
 total_more cell place before step =
@@ -59,7 +53,7 @@ place_test places cell m before = cond (not (is_among places m.place.text)) (Som
 to_place : (k : KnownNames) (before : List Step) (cell : Cell) (m : Member Lexeme) → count_of m.number ≤ greatest
     → step_fault k.places k.transitions before (adds cell m) ≡ place_test k.places cell m before
 to_place k before cell m within =
-    cond-false (nat_lt greatest (count_of m.number)) (Some (NumberPasses (member_at m))) (place_test k.places cell m before) (lt_false greatest (count_of m.number) within)
+    cond-false (nat_lt greatest (count_of m.number)) (Some (NumberPasses (member_at m))) (place_test k.places cell m before) (le-ltb greatest (count_of m.number) within)
 
 to_sum : (k : KnownNames) (before : List Step) (cell : Cell) (m : Member Lexeme) → count_of m.number ≤ greatest → Contains k.places m.place.text
     → step_fault k.places k.transitions before (adds cell m) ≡ sum_test cell m before
@@ -81,9 +75,9 @@ sum_stops k net i n slot cell m for at is within (p, place, over) = record {
   first = λ before h.
       let so_far = h.sums i m.place.text p slot cell at place for in
       first_one (step_fault k.places k.transitions) before (adds cell m) (NumberPasses (member_at m))
-      (to_sum k before cell m (omega arith) (there k.places i m.place.text at)
+      (to_sum k before cell m (omega arith) (there_at k.places i m.place.text at)
       ∙ cond-true (nat_lt greatest (total cell m.place.text before + count_of m.number)) (Some (NumberPasses (member_at m))) None
-      (lt_true greatest (total cell m.place.text before + count_of m.number) (omega arith)));
+      (lt-ltb greatest (total cell m.place.text before + count_of m.number) (omega arith)));
 }
 
 -- what a step adds to a place and cell
@@ -158,7 +152,7 @@ sums_more k old new i n slot cell m before a h j name q other c at place for =
     here e =
         let is : q ≡ with_more a.makes.0 slot n =
         set_there old.places i (with_more a.makes.0 slot n) q (subst (λ l. slice_get (slice_set old.places i (with_more a.makes.0 slot n)) l ≡ Some q) e place_then) in
-        let same : name ≡ m.place.text = some_same name m.place.text (sym at ∙ ap (slice_get k.places) e ∙ a.at_place) in
+        let same : name ≡ m.place.text = same_Some name m.place.text (sym at ∙ ap (slice_get k.places) e ∙ a.at_place) in
         let was = h.sums i name a.makes.0 other c (ap (slice_get k.places) (sym e) ∙ at) a.makes.1 for in
         ⊎_elim
         (λ alike.
@@ -177,7 +171,7 @@ sums_more k old new i n slot cell m before a h j name q other c at place for =
       where
         weights_at : (length a.makes.0.pre ≡ old.labels) × (length a.makes.0.post ≡ old.labels)
         weights_at =
-            All-contains (λ (x : Place). (length x.pre ≡ old.labels) × (length x.post ≡ old.labels)) old.places a.makes.0 a.weights (there old.places i a.makes.0 a.makes.1)
+            All-contains (λ (x : Place). (length x.pre ≡ old.labels) × (length x.post ≡ old.labels)) old.places a.makes.0 a.weights (there_at old.places i a.makes.0 a.makes.1)
 
         slot_of : {many : ℕ} → many ≡ old.labels → IsSlotIn many slot
         slot_of same = subst (λ x. IsSlotIn x slot) (sym same) a.slot_in
@@ -191,9 +185,9 @@ member_passes k old new i n slot cell m a = record {
       let number = a.number in
       let small = a.small in
       none_one (step_fault k.places k.transitions) before (adds cell m)
-      (to_sum k before cell m (omega arith) (there k.places i m.place.text a.at_place)
+      (to_sum k before cell m (omega arith) (there_at k.places i m.place.text a.at_place)
       ∙ cond-false (nat_lt greatest (total cell m.place.text before + count_of m.number)) (Some (NumberPasses (member_at m))) None
-      (lt_false greatest (total cell m.place.text before + count_of m.number) (omega arith)));
+      (le-ltb greatest (total cell m.place.text before + count_of m.number) (omega arith)));
   sums = λ before h. record { sums = sums_more k old new i n slot cell m before a h };
 }
 
@@ -211,7 +205,7 @@ flow_fine places transitions before name has =
 pub member_fine : (places transitions : List (List ℕ)) (before : List Step) (cell : Cell) (m : Member Lexeme) → Contains places m.place.text
     → total cell m.place.text before + count_of m.number ≤ greatest → step_fault places transitions before (adds cell m) ≡ None
 member_fine places transitions before cell m has within =
-    cond-false (nat_lt greatest (count_of m.number)) (Some (NumberPasses (member_at m))) (place_test places cell m before) (lt_false greatest (count_of m.number) (omega arith))
+    cond-false (nat_lt greatest (count_of m.number)) (Some (NumberPasses (member_at m))) (place_test places cell m before) (le-ltb greatest (count_of m.number) (omega arith))
     ∙ cond-false (not (is_among places m.place.text)) (Some (UnknownPlace m.place.at)) (sum_test cell m before) (ap not (among_true places m.place.text has))
     ∙ cond-false (nat_lt greatest (total cell m.place.text before + count_of m.number)) (Some (NumberPasses (member_at m))) None
-    (lt_false greatest (total cell m.place.text before + count_of m.number) within)
+    (le-ltb greatest (total cell m.place.text before + count_of m.number) within)

@@ -9,12 +9,13 @@ use Rattle.std.proofs.lemmas.Option.{slice_get-map, slice_get-get_or}
 use Rattle.std.proofs.lemmas.Slice.Eq.{bytes_eq-Decides}
 use Rattle.rg_lexer.specs.Lexeme.{Lexeme}
 use Rattle.rg_text.specs.Faults.{faults_after, AreNone}
+use Rattle.rg_theory.proofs.Lists.{there_at}
 use Rattle.rg_integers.specs.Range.{greatest}
 use Rattle.rg_net_grammar.specs.declared.found.Transition.{Transition}
 use Rattle.rg_net_grammar.specs.Contents.{label_of}
 use Rattle.rg_netfile.specs.Contents.{most_places, place_fault, transition_fault, is_among, have_each_once, Step, flow_of, adds, added, total, step_fault}
 use Rattle.rg_netfile.specs.Built.{AreApart}
-use Rattle.rg_netfile.proofs.NameTests.{there, among_true}
+use Rattle.rg_netfile.proofs.NameTests.{among_true}
 use Rattle.rg_netfile.proofs.EntryFaults.{text_of, name_of, place_fine, transition_fine}
 use Rattle.rg_netfile.proofs.Apart.{count_yes, count_no}
 use Rattle.rg_netfile.proofs.MemberSteps.{member_fine, flow_fine, added_same}
@@ -95,7 +96,7 @@ once names ts is apart =
     ap (λ b. b && list_all (λ label. count_by (has_label label) ts == 1) names)
     (list_all-from_AllPass (λ (t : Transition Lexeme). is_among names (label_of t)) ts (λ k d lt.
     let t = get_or ts k d in
-    among_true names (label_of t) (there names k (label_of t)
+    among_true names (label_of t) (there_at names k (label_of t)
     (ap (λ l. slice_get l k) (sym is) ∙ slice_get-map label_of ts k ∙ ap (λ o. option_map label_of o) (slice_get-get_or ts k d lt)))))
     ∙ list_all-from_AllPass (λ label. count_by (has_label label) ts == 1) names (λ k d lt.
     let label = get_or names k d in

@@ -12,6 +12,7 @@ use Rattle.rg_lexer.specs.Lexeme.{Lexeme}
 use Rattle.rg_lts.specs.WellFormed.{IsWellFormed}
 use Rattle.rg_text.specs.Faults.{faults_after, if_not, AreNone}
 use Rattle.rg_text.proofs.Left.{none_joined}
+use Rattle.rg_theory.proofs.Lists.{there_at}
 use Rattle.rg_net.specs.Range.{IsNetInRange, IsPlaceInRange}
 use Rattle.rg_integers.specs.Range.{greatest}
 use Rattle.rg_net.specs.NetText.{place_name, taken_by, put_by, starts}
@@ -22,7 +23,6 @@ use Rattle.rg_net_grammar.specs.Contents.{Declared, label_of}
 use Rattle.rg_netfile.specs.declared.fault.NetFault.TheVariants.{NoType, TransitionsDiffer}
 use Rattle.rg_netfile.specs.Contents.{most_places, place_names, transition_names, place_fault, transition_fault, have_each_once, step_fault, Cell, taken, put, start, Step, adds, steps_of_flow, steps, total, faults, IsNetOf}
 use Rattle.rg_netfile.specs.Built.{AreApart}
-use Rattle.rg_netfile.proofs.NameTests.{there}
 use Rattle.rg_netfile.proofs.Apart.{apart_pairs}
 use Rattle.rg_netfile.proofs.WholeNets.{if_none}
 use Rattle.rg_netfile.proofs.PlaceNames.{one_place}
@@ -69,7 +69,7 @@ names_apart q n small = record {
       one_place q i j (omega (arith, x.0)) (omega (arith, y.0)) (sym x.1 ∙ y.1);
 }
 
--- members of places that there are, in a cell where no place has too much
+-- members of places that there_at are, in a cell where no place has too much
 each_member : (q : List ℕ) (places transitions : List (List ℕ)) (all : List Step) (cell : Cell) (n i : ℕ) (ws : List ℕ) (ms : List (Member Lexeme)) → AreMembers q i ws ms → i + length ws ≤ n
     → ((j : ℕ) → j < n → Contains places (place_name q j) × (total cell (place_name q j) all ≤ greatest))
     → Each (IsFine places transitions all) (map (adds cell) ms)
@@ -140,7 +140,7 @@ module _ (q : List ℕ) (lts : System) (net : Net) (d : Declared) (formed : IsWe
       omega arith
 
   place_known : (j : ℕ) → j < length net.places → Contains (place_names d) (place_name q j)
-  place_known j lt = subst (λ l. Contains l (place_name q j)) (sym declares.places) (there (names_of q (length net.places)) j (place_name q j) (name_there q (length net.places) j lt))
+  place_known j lt = subst (λ l. Contains l (place_name q j)) (sym declares.places) (there_at (names_of q (length net.places)) j (place_name q j) (name_there q (length net.places) j lt))
 
   each_flow : (t : ℕ) (names : List (List ℕ)) (fs : List Flow) → AreFlows q net t names fs
       → ((k : ℕ) (name : List ℕ) → slice_get names k ≡ Some name → slice_get lts.label_names (t + k) ≡ Some name)
@@ -155,7 +155,7 @@ module _ (q : List ℕ) (lts : System) (net : Net) (d : Declared) (formed : IsWe
       subst (λ l. Each P (flat_map steps_of_flow l)) (sym is)
       (subst (Each P) (sym (flat_map-cons steps_of_flow f more))
       (each_joined P (steps_of_flow f) (flat_map steps_of_flow more) (
-        subst (λ l. Contains l f.name.text) (sym declares.names) (there lts.label_names t f.name.text at),
+        subst (λ l. Contains l f.name.text) (sym declares.names) (there_at lts.label_names t f.name.text at),
         each_joined P (map (adds (taken f.name.text)) f.pre) (map (adds (put f.name.text)) f.post)
             (each_member q (place_names d) (transition_names d) (steps d) (taken f.name.text) (length net.places) 0 (taken_by net t) f.pre pre (omega (arith, long))
             (λ j lt. (place_known j lt, fine_taken j lt t f.name.text at)))

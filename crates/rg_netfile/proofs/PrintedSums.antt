@@ -10,12 +10,12 @@ use Rattle.std.proofs.lemmas.List.{length-map}
 use Rattle.std.proofs.lemmas.Option.{slice_get-get_or}
 use Rattle.rg_lexer.specs.Lexeme.{Lexeme}
 use Rattle.rg_theory.specs.Net.{Net, pre_weight, post_weight}
+use Rattle.rg_theory.proofs.Lists.{there_at}
 use Rattle.rg_net.specs.NetText.{place_name, taken_by, put_by, starts}
 use Rattle.rg_net_grammar.specs.declared.found.Member.{Member}
 use Rattle.rg_net_grammar.specs.Item.{Flow}
 use Rattle.rg_netfile.specs.Contents.{Cell, taken, put, start, same_cell, flow_of, adds, steps_of_flow, added, total, count_of}
 use Rattle.rg_netfile.specs.Built.{AreApart}
-use Rattle.rg_netfile.proofs.NameTests.{there}
 use Rattle.rg_netfile.proofs.Slots.{same_or_other}
 use Rattle.rg_netfile.proofs.PlaceNames.{one_place}
 use Rattle.rg_netfile.proofs.SetTexts.{AreMembers}
@@ -185,7 +185,7 @@ flows_at cell weights part q net j label inside beside weigh t (n ∷ names) fs 
     ap (λ l. total (cell label) (place_name q j) (flat_map steps_of_flow l)) is ∙ flows_cons (cell label) (place_name q j) f more
     ∙ omega (arith, here, later) ∙ ap (λ u. get_or (weights u) j 0) (sym e)
 flows_at cell weights part q net j label inside beside weigh t (n ∷ names) fs (suc k) (f, more, is, text, pre, post, rest) apart at =
-    let here = beside f (λ e. apart_head n names apart (there names k n (at ∙ ap Some (e ∙ text)))) in
+    let here = beside f (λ e. apart_head n names apart (there_at names k n (at ∙ ap Some (e ∙ text)))) in
     let later = flows_at cell weights part q net j label inside beside weigh (t + 1) names more k rest (apart_tail n names apart) at in
     let e : (t + 1) + k ≡ t + suc k = omega arith in
     ap (λ l. total (cell label) (place_name q j) (flat_map steps_of_flow l)) is ∙ flows_cons (cell label) (place_name q j) f more

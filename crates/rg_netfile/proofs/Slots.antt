@@ -1,15 +1,16 @@
--- Slots of places, and the cells that are counted there.
-use Rattle.std.proofs.Common.{◌≡◌, ℕ, ◌+◌, ◌<◌, ◌⊎◌, inl, inr, Bool, true, false, List, length, slice_get, Some, All, refl, sym, ap, subst, ◌∙◌}
+-- Slots of places, and the cells that are counted there_at.
+use Rattle.std.proofs.Common.{◌≡◌, ℕ, ◌+◌, ◌<◌, ◌⊎◌, inl, inr, Bool, true, false, List, length, slice_get, All, refl, sym, ap, subst, ◌∙◌}
 use Rattle.std.specs.Str.{bytes_eq}
 use Rattle.std.proofs.lemmas.List.{get_or-set_same, get_or-set_other}
 use Rattle.std.proofs.lemmas.List.Elements.{All-contains}
 use Rattle.std.proofs.lemmas.Slice.Eq.{bytes_eq-Decides}
+use Rattle.std.proofs.lemmas.Option.{same_Some}
 use Rattle.rg_theory.specs.Net.{Place, Net}
+use Rattle.rg_theory.proofs.Lists.{there_at}
 use Rattle.rg_netfile.specs.declared.slot.Slot.{Slot}
 use Rattle.rg_netfile.specs.declared.slot.Slot.TheVariants.{Start, Taken, Put}
 use Rattle.rg_netfile.specs.Contents.{Cell, taken, put, start, same_cell}
 use Rattle.rg_netfile.specs.Built.{KnownNames, IsKnown, HasLabel, Fits, SameSize, number_in, with_more, IsSlotIn, IsSlotFor}
-use Rattle.rg_netfile.proofs.NameTests.{there}
 
 pub number_same : (p : Place) (slot : Slot) (n : ℕ) → IsSlotIn (length p.pre) slot → IsSlotIn (length p.post) slot
     → number_in (with_more p slot n) slot ≡ number_in p slot + n
@@ -56,18 +57,15 @@ same_or_other (put x) (put y) = by (bytes_eq x y) refl
         name_of_put : put x ≡ put y → x ≡ y
         name_of_put same = cc
 
-pub some_same : {X : Type 0} (a b : X) → Some a ≡ Some b → a ≡ b
-some_same a b e = cc
-
 one_label : (k : KnownNames) → IsKnown k → (name : List ℕ) (t u : ℕ) → HasLabel k name t → HasLabel k name u → t ≡ u
 one_label k known name t u (i, at, is) (j, at', is') =
     let same = known.transitions_apart.same i j name at at' in
-    some_same t u (sym is ∙ ap (slice_get k.labels) same ∙ is')
+    same_Some t u (sym is ∙ ap (slice_get k.labels) same ∙ is')
 
 one_name : (k : KnownNames) → IsKnown k → (a b : List ℕ) (t : ℕ) → HasLabel k a t → HasLabel k b t → a ≡ b
 one_name k known a b t (i, at, is) (j, at', is') =
     let same = known.labels_apart.same i j t is is' in
-    some_same a b (sym at ∙ ap (slice_get k.transitions) same ∙ at')
+    same_Some a b (sym at ∙ ap (slice_get k.transitions) same ∙ at')
 
 pub one_slot : (k : KnownNames) → IsKnown k → (s s' : Slot) (cell : Cell) → IsSlotFor k s cell → IsSlotFor k s' cell → s ≡ s'
 one_slot k known Start Start cell h h' = refl
@@ -115,7 +113,7 @@ one_cell k known (Put t) (put x) (taken y) h h' = absurd h'
 
 -- the label of a known transition is one of the net's
 pub label_in : (k : KnownNames) (net : Net) (name : List ℕ) (t : ℕ) → Fits k net → HasLabel k name t → t < net.labels
-label_in k net name t fits (i, at, is) = All-contains (λ u. u < net.labels) k.labels t fits.labels (there k.labels i t is)
+label_in k net name t fits (i, at, is) = All-contains (λ u. u < net.labels) k.labels t fits.labels (there_at k.labels i t is)
 
 pub fits_too : (k : KnownNames) (old new : Net) → Fits k old → SameSize old new → Fits k new
 fits_too k old new fits same = record {

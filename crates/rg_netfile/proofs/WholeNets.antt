@@ -10,6 +10,7 @@ use Rattle.rg_theory.specs.Net.{Net, HasAllWeights, IsPlaceAt}
 use Rattle.rg_lexer.specs.Lexeme.{Lexeme}
 use Rattle.rg_lts.specs.WellFormed.{IsWellFormed}
 use Rattle.rg_text.specs.Faults.{if_not, IsFirst, AreNone}
+use Rattle.rg_theory.proofs.Lists.{there_at}
 use Rattle.rg_net_grammar.specs.declared.found.Transition.{Transition}
 use Rattle.rg_net_grammar.specs.Contents.{Declared, label_of}
 use Rattle.rg_netfile.specs.declared.fault.NetFault.{NetFault}
@@ -17,7 +18,6 @@ use Rattle.rg_netfile.specs.declared.slot.Slot.{Slot}
 use Rattle.rg_netfile.specs.declared.slot.Slot.TheVariants.{Start, Taken, Put}
 use Rattle.rg_netfile.specs.Contents.{taken, put, start, steps, place_names, transition_names, IsNetOf}
 use Rattle.rg_netfile.specs.Built.{KnownNames, IsKnownOf, HasLabel, AreNumbers, HasSums, Fits, number_in}
-use Rattle.rg_netfile.proofs.NameTests.{there}
 use Rattle.rg_netfile.proofs.Ranges.{zero_place}
 use Rattle.rg_netfile.proofs.Apart.{apart_pairs}
 
@@ -57,7 +57,7 @@ no_sums k many count net is = record {
   sums = λ i name p slot cell at place for.
       ap (λ q. number_in q slot) (All-contains (λ q. q ≡ zero_place many) (replicate count (zero_place many)) p
       (All-replicate (λ q. q ≡ zero_place many) count (zero_place many) refl)
-      (there (replicate count (zero_place many)) i p (subst (λ (n : Net). IsPlaceAt n i p) is place)))
+      (there_at (replicate count (zero_place many)) i p (subst (λ (n : Net). IsPlaceAt n i p) is place)))
       ∙ zero_in many slot;
 }
 
@@ -83,8 +83,8 @@ net_is lts d k net known formed h weights same count = record {
       let name = named (λ (y : Lexeme). y.text) d.places k.places i x known.places at in
       record {
         starts = h.sums i x.text p Start start name place tt;
-        takes = λ j n t there label. h.sums i x.text p (Taken n) (taken t.name.text) name place (label_is lts d k known formed j n t there label);
-        puts = λ j n t there label. h.sums i x.text p (Put n) (put t.name.text) name place (label_is lts d k known formed j n t there label);
+        takes = λ j n t there_at label. h.sums i x.text p (Taken n) (taken t.name.text) name place (label_is lts d k known formed j n t there_at label);
+        puts = λ j n t there_at label. h.sums i x.text p (Put n) (put t.name.text) name place (label_is lts d k known formed j n t there_at label);
       };
 }
 

@@ -6,6 +6,7 @@ use Rattle.rg_theory.specs.System.{System, states, labels}
 use Rattle.rg_theory.specs.Net.{Place}
 use Rattle.rg_theory.specs.declared.Class.{Class}
 use Rattle.rg_theory.specs.declared.Problem.{Problem}
+use Rattle.rg_theory.proofs.Lists.{map_from}
 use Rattle.rg_integers.specs.declared.term.Wide.{Wide}
 use Rattle.rg_linear.specs.Cycle.{CycleBasis}
 use Rattle.rg_case_folds.specs.Setting.{Setting}
@@ -13,14 +14,14 @@ use Rattle.rg_folds.specs.Fold.{gives, and_then, either, each, joined, Ratio, wh
 use Rattle.rg_folds.specs.Substitution.{is_in}
 use Rattle.rg_case_folds.specs.Rewriting.{has_label, free_columns, all_numbers}
 use Rattle.rg_case_folds.specs.Placing.{effect_fold, negated, made_whole, ratio_at, along_tree, lesser, least_from, least_of, is_shifted, is_lifted, missing, shift_fold, top_at, taken, place_of, place_fold}
-use Rattle.rg_case_folds.proofs.Lists.{first, behind, where_is, where_has, Contains-of_map}
+use Rattle.rg_case_folds.proofs.Lists.{first, behind, where_is, where_has}
 use Rattle.rg_outcome.proofs.Steps.{HasSome, Makes, Each, each_none, each_cons, some_given, some_then, makes_then, some_each, makes_each, some_joined, makes_joined, IsOver, whole_over, some_quotient, some_sum, some_product, some_term, sums_join, product_over, some_multiple}
 use Rattle.rg_outcome.proofs.SystemResults.{HaveRelations, each_append}
 
 -- ---- numbers with a positive denominator
 
 pub each_mapped : {A X : Type 0} (P : X → Type 0) (f : A → X) (items : List A) → Each (λ a. P (f a)) items → Each P (map f items)
-each_mapped P f items all x has = let (a, in_items, e) = Contains-of_map f items x has in subst P e (all a in_items)
+each_mapped P f items all x has = let (a, in_items, e) = map_from f items x has in subst P e (all a in_items)
 
 at_over : (numbers : List Ratio) → Each IsOver numbers → (i : ℕ) → IsOver (ratio_at numbers i)
 at_over [] all i = whole_over (pos 0)

@@ -13,12 +13,11 @@ use Rattle.rg_theory.specs.declared.Problem.TheVariants.{Event, States}
 use Rattle.rg_theory.specs.Problem.{IsProblem, Separates, IsSeparatedBy, SeparateAll}
 use Rattle.rg_theory.specs.Pruned.{others, net_without}
 use Rattle.rg_theory.proofs.Among.{one_of, any_of}
-use Rattle.rg_theory.proofs.Lists.{slice_get_some}
+use Rattle.rg_theory.proofs.Lists.{slice_get_some, there_at, index_of}
 use Rattle.rg_theory.proofs.Solution.{solved_regions, solved_separates}
 use Rattle.rg_theory.proofs.Yes.{region_unique, yes}
 use Rattle.rg_product.specs.Product.{Factor, IsFactorAt, Product, AreInRange}
 use Rattle.rg_product.specs.Beside.{widened, places_beside, net_beside, IsIrredundant}
-use Rattle.rg_product.proofs.Ordered.{there_at, place_of}
 use Rattle.rg_product.proofs.Tuples.{factor_reachable, label_of}
 use Rattle.rg_product.proofs.Weights.{widened_there, widened_absent}
 use Rattle.rg_product.proofs.Widening.{zip_at, lifted, once, elsewhere, lifted_region}
@@ -27,7 +26,7 @@ use Rattle.rg_product.proofs.Narrowing.{placed, placed_is, placed_entry, placed_
 -- ---- a place among others
 
 other_at : (xs : List Place) (j : ℕ) (x : Place) → Contains (others xs j) x → (k : ℕ) × (k ≢ j) × (slice_get xs k ≡ Some x)
-other_at xs j x has = (let (l, at) = place_of (others xs j) x has in from xs j l at)
+other_at xs j x has = (let (l, at) = index_of (others xs j) x has in from xs j l at)
   where
     from : (ys : List Place) (i l : ℕ) → slice_get (others ys i) l ≡ Some x → (k : ℕ) × (k ≢ i) × (slice_get ys k ≡ Some x)
     from [] zero l at = absurd (none-some x at)

@@ -4,8 +4,8 @@ use Rattle.std.proofs.lemmas.Bool.{cases_lt}
 use Rattle.std.proofs.lemmas.List.Elements.{Contains-get_or}
 use Rattle.std.proofs.lemmas.List.Kept.{AllPairs-cons}
 use Rattle.rg_theory.specs.System.{System, labels}
-use Rattle.rg_line_formats.proofs.Things.{map_there, map_from}
 use Rattle.rg_theory.proofs.Deciding.{Decided, find_number, AreAllWhere, all_where}
+use Rattle.rg_theory.proofs.Lists.{map_there, map_from}
 use Rattle.rg_product.specs.Blocks.{Joined.same, Joined.turned, Joined.through, AreTied, AreBlocks}
 use Rattle.rg_product.proofs.Joining.{least_first}
 

@@ -5,13 +5,13 @@ use Rattle.std.proofs.lemmas.List.{get_or_default}
 use Rattle.std.proofs.lemmas.List.Elements.{All-contains}
 use Rattle.std.proofs.lemmas.Option.{same_Some, none-some}
 use Rattle.rg_theory.specs.System.{System, states, IsInRange, IsAllReachable, IsForkFree}
+use Rattle.rg_theory.proofs.Lists.{index_of}
 use Rattle.rg_product.specs.Squares.{Broken}
 use Rattle.rg_product.specs.Blocks.{AreBlocks, IsOneBlock}
 use Rattle.rg_product.specs.Product.{Factor, tuple_of}
 use Rattle.rg_product.specs.Factoring.{AreParted, AreFactors, choices, Factoring, Factoring.factors as as_factors}
 use Rattle.rg_product.specs.Factoring.{Factoring.one_block as as_one_block, Factoring.fewer as as_fewer, IsFactoring, IsFactoring.of_one_block, IsFactoring.of_fewer, IsFactoring.of_factors}
 use Rattle.rg_product.specs.Ends.{Splits, AreNumbers}
-use Rattle.rg_product.proofs.Ordered.{place_of}
 use Rattle.rg_product.proofs.Choosing.{IsChoice}
 use Rattle.rg_product.proofs.Making.{made_product}
 use Rattle.rg_product.proofs.SplitEach.{AreListed, listed, some_ends, ends_chosen}
@@ -25,7 +25,7 @@ some_numbers [] [] is = ([], record { one_each = refl; numbers = λ i members at
 some_numbers [] (q ∷ ends) is = absurd is
 some_numbers (members ∷ reached) [] is = absurd is
 some_numbers (members ∷ reached) (q ∷ ends) (has, is) =
-    let (i, at) = place_of members q has in
+    let (i, at) = index_of members q has in
     let (tuple, are) = some_numbers reached ends is in
     (i ∷ tuple, record { one_each = ap suc are.one_each; numbers = numbers i at tuple are })
   where

@@ -6,13 +6,13 @@ use Rattle.std.proofs.lemmas.List.Elements.{All-contains, Contains-get_or}
 use Rattle.rg_theory.specs.declared.Arc.{Arc}
 use Rattle.rg_theory.specs.System.{System, states, arc, IsArcInRange, Leads, IsInRange, IsReachable}
 use Rattle.rg_theory.proofs.Arcs.{arc_in_range}
-use Rattle.rg_theory.proofs.Lists.{Contains-cons_cases}
+use Rattle.rg_theory.proofs.Lists.{Contains-cons_cases, there_at, index_of}
 use Rattle.rg_line_formats.proofs.Parts.{some_with}
 use Rattle.rg_theory.proofs.Deciding.{Decided, first_there, later_there, none_there, there_or_not, all_where}
 use Rattle.rg_theory.proofs.Reaching.{reached_or_not}
 use Rattle.rg_product.specs.Product.{Factor, name_at}
 use Rattle.rg_product.specs.Factoring.{LeadsBy, IsReachedBy, AreReachedBy, IsPart, AreFactors}
-use Rattle.rg_product.proofs.Ordered.{place_of, there_at, one_place}
+use Rattle.rg_product.proofs.Ordered.{one_place}
 use Rattle.rg_product.proofs.Kept.{AreKept, kept}
 
 -- ---- what is reached
@@ -134,9 +134,9 @@ module _ (members block : List ℕ) (rises : AllPairs (λ s q. s < q) members) (
     where
       by : Decided (Contains members a.from) → Decided (Contains block a.label) → Decided (Contains members a.to) → Steps arcs → Steps (a ∷ arcs)
       by (inl x) (inl y) (inl z) rest =
-          let (i, from) = place_of members a.from x in
-          let (k, label) = place_of block a.label y in
-          let (j, to) = place_of members a.to z in
+          let (i, from) = index_of members a.from x in
+          let (k, label) = index_of block a.label y in
+          let (j, to) = index_of members a.to z in
           one_more a arcs i k j from label to rest
       by (inr none) _ _ rest = none_more a arcs (λ x y z. none x) rest
       by (inl x) (inr none) _ rest = none_more a arcs (λ x y z. none y) rest
@@ -144,7 +144,7 @@ module _ (members block : List ℕ) (rises : AllPairs (λ s q. s < q) members) (
 
 some_part : (lts : System) (members block : List ℕ) → AllPairs (λ s q. s < q) members → AllPairs (λ t u. t < u) block → Contains members lts.initial → (part : System) × IsPart lts members block part
 some_part lts members block rises rise has =
-    let (start, at) = place_of members lts.initial has in
+    let (start, at) = index_of members lts.initial has in
     let (steps, are) = some_steps members block rises rise lts.arcs in
     let (part, is) = some_with (map (name_at lts.state_names) members) (map (name_at lts.label_names) block) steps start in (
       part,

@@ -6,9 +6,9 @@ use Rattle.std.proofs.lemmas.List.Elements.{Contains-get_or}
 use Rattle.std.proofs.lemmas.List.Kept.{AllPairs-cons}
 use Rattle.rg_theory.specs.declared.Arc.{Arc}
 use Rattle.rg_theory.specs.System.{System, states, labels, arc, IsArcBefore, IsForkFree}
-use Rattle.rg_line_formats.proofs.Things.{map_there, map_from}
 use Rattle.rg_line_formats.proofs.Parts.{some_with}
 use Rattle.rg_theory.proofs.Deciding.{Decided, first_there}
+use Rattle.rg_theory.proofs.Lists.{map_there, map_from}
 use Rattle.rg_product.specs.Squares.{Broken, broken_at, HasSquare, IsBroken, IsSquareBefore}
 use Rattle.rg_product.specs.Blocks.{Joined, Joined.pair, HaveBroken, AreTied, HaveBrokenBefore, Joins, AreJoining, HaveOneOf, JoinAll, IsOneBlock}
 use Rattle.rg_product.proofs.Joining.{square_or_not}

@@ -5,6 +5,7 @@ use Rattle.std.proofs.lemmas.Bool.{cases_lt}
 use Rattle.std.proofs.lemmas.List.{get_or_default}
 use Rattle.rg_theory.specs.System.{System, states, Leads, IsInRange, IsAllReachable, IsForkFree}
 use Rattle.rg_theory.proofs.Arcs.{arc_in_range}
+use Rattle.rg_theory.proofs.Lists.{index_of}
 use Rattle.rg_line_formats.proofs.Things.{pigeons}
 use Rattle.rg_product.specs.Blocks.{AreBlocks}
 use Rattle.rg_product.specs.Product.{tuple_of}
@@ -12,7 +13,6 @@ use Rattle.rg_product.specs.Factoring.{AreReachedBy, AreParted, choices, Factori
 use Rattle.rg_product.specs.Ends.{Splits, Splits.begin, Splits.then}
 use Rattle.rg_product.proofs.Joining.{each_apart}
 use Rattle.rg_product.proofs.EndLemmas.{EachApart, split_once, split_step}
-use Rattle.rg_product.proofs.Ordered.{place_of}
 use Rattle.rg_product.proofs.Parts.{split_long, split_reached, choice_from}
 use Rattle.rg_product.proofs.Choosing.{IsChoice, all_choices, how_many, choice_there}
 use Rattle.rg_product.proofs.OneFactoring.{one_parted}
@@ -41,7 +41,7 @@ module _ (lts : System) (fine : IsInRange lts) (reach : IsAllReachable lts) (one
   along s [] s' ends split e = (ends, subst (λ q. Splits lts blocks q ends) e split)
   along s (t ∷ ts) s' ends split (mid, has, rest) =
       let (block, there, inside) = are.each t (let (_, lt, _) = arc_in_range lts fine s t mid has in lt) in
-      let (i, at) = place_of blocks block there in
+      let (i, at) = index_of blocks block there in
       let (q, step) = split_step lts one blocks apart s t mid i block ends split at inside has in
       along mid ts s' (slice_set ends i q) (then s t mid i q block ends split has at inside step) rest
 

@@ -50,10 +50,6 @@ agree_here a b keys s lt so_far old =
 pub differ_end : (a b : List ℕ) (keys : List (ℕ × ℕ)) (s : ℕ) → length a ≤ s → DifferSoFar a b keys s → AllDiffer a b
 differ_end a b keys s past so_far k k' lt lt' = so_far.differ k k' lt (omega arith)
 
-pub is_new : (b : Bool) → not b ≡ true → b ≡ false
-is_new true e = absurd (true≢false (sym e))
-is_new false e = refl
-
 pub not_new : (b : Bool) → not b ≡ false → b ≡ true
 not_new true e = refl
 not_new false e = absurd (true≢false e)

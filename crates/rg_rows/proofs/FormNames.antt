@@ -9,13 +9,14 @@ use Rattle.rg_theory.specs.declared.Class.{Class}
 use Rattle.rg_theory.specs.declared.Problem.{Problem}
 use Rattle.rg_theory.specs.declared.Problem.TheVariants.{Event, States}
 use Rattle.rg_theory.specs.System.{System, states, labels}
+use Rattle.rg_theory.proofs.Lists.{map_there}
 use Rattle.rg_cert_meaning.specs.declared.RowName.{RowName}
 use Rattle.rg_cert_meaning.specs.Row.{case_consumer}
 use Rattle.rg_cert_meaning.specs.declared.Form.{Form}
 use Rattle.rg_folds.specs.Substitution.{numbers_where}
 use Rattle.rg_case_folds.specs.Rewriting.{has_label, used_labels, states_with, has_start, all_numbers, problem_rows, names_of, splits_start, split_forms}
 use Rattle.rg_case_folds.proofs.Forms.{start_of_bound}
-use Rattle.rg_case_folds.proofs.Lists.{Contains-map, where_has}
+use Rattle.rg_case_folds.proofs.Lists.{where_has}
 use Rattle.rg_rows.specs.Forms.{form_in, put_form, forms_in, case_forms, form_count}
 use Rattle.rg_rows.specs.Sharing.{shared_names, class_forms}
 use Rattle.rg_rows.proofs.Joining.{names_alone}
@@ -183,7 +184,7 @@ module _ (lts : System) (class : Class) (problem : Problem) (initial : lts.initi
 
   token_there : Contains tokens (row_name.Tokens lts.initial)
   token_there = subst (λ b. Contains (if b then map row_name.Tokens (all_numbers (states lts)) else []) (row_name.Tokens lts.initial)) (sym (started class problem splits))
-      (Contains-map row_name.Tokens (all_numbers (states lts)) lts.initial (where_has (λ q. true) 0 (states lts) lts.initial refl (omega arith) (omega arith)))
+      (map_there row_name.Tokens (all_numbers (states lts)) lts.initial (where_has (λ q. true) 0 (states lts) lts.initial refl (omega arith) (omega arith)))
 
   -- where a case splits on the start, the rows that all cases share have that of the initial state
   pub shared_start_name : Contains (shared_names lts class) (row_name.Tokens lts.initial)

@@ -3,7 +3,6 @@ use Rattle.std.proofs.Common.{◌≡◌, ◌≢◌, ◌⊎◌, ℕ, zero, suc, �
 use Rattle.std.proofs.Common.{Some, get_or, set, slice_index, slice_index_or, slice_set, Contains, All, IfSome, replicate, inl, inr, sym, subst, ap, ◌∙◌, refl, arith}
 use Rattle.std.proofs.Common.{eq-eqb, ne_eqb, append_assoc, add-zero, true≢false}
 use Rattle.std.proofs.lemmas.Bool.{cases_eq}
-use Rattle.std.proofs.lemmas.Bool.Decides.{Decides-eqb}
 use Rattle.std.proofs.lemmas.Option.{same_Some, none-some}
 use Rattle.std.proofs.lemmas.List.{get_or-set_same, get_or-set_other, set-set, length-set, length-replicate, get_or-replicate, take_more, take_all, map-append}
 use Rattle.std.proofs.lemmas.List.Elements.{Contains-get_or, Contains-append_left, Contains-push_cases, All-weaker, All-contains, All-cons, All-head, All-tail, All-set, All-replicate}
@@ -13,6 +12,7 @@ use Rattle.rg_theory.specs.Tree.{Grows, IsTree, way_to, count, parikh, same_arc,
 use Rattle.rg_theory.proofs.Lists.{Contains-cons_cases}
 use Rattle.rg_theory.proofs.Trees.{way_of_initial, way_joins, source_met, tree_arcs, reachable_is_met, met_is_reachable}
 use Rattle.rg_theory.specs.Limits.{most_states}
+use Rattle.rg_theory.proofs.Arcs.{same_arc_is, same_arc_itself}
 use Rattle.rg_lts.specs.WellFormed.{IsWellFormed}
 use Rattle.rg_spanning.specs.Growing.{IsGrowing}
 use Rattle.rg_spanning.specs.Tables.{IsRow, HasRows, AreTables}
@@ -22,30 +22,13 @@ both : (a b : Bool) → (a && b) ≡ true → (a ≡ true) × (b ≡ true)
 both true b e = (refl, e)
 both false b e = absurd (true≢false (sym e))
 
--- the test of two arcs says that they are one
-same_is : (a b : Arc) → same_arc a b ≡ true → a ≡ b
-same_is a b e =
-    let f = both (a.from == b.from) ((a.label == b.label) && (a.to == b.to)) e in
-    let g = both (a.label == b.label) (a.to == b.to) f.1 in
-    let from = (Decides-eqb a.from b.from).0 f.0 in
-    let label = (Decides-eqb a.label b.label).0 g.0 in
-    let to = (Decides-eqb a.to b.to).0 g.1 in
-    λ i. record { from = from i; label = label i; to = to i }
-
-pub is_same : (a : Arc) → same_arc a a ≡ true
-is_same a =
-    let from = eq-eqb a.from a.from refl in
-    let label = eq-eqb a.label a.label refl in
-    let to = eq-eqb a.to a.to refl in
-    rw (from, label, to) refl
-
 pub among : (tree : List Arc) (a : Arc) → Contains tree a → is_among tree a ≡ true
 among [] a (k, lt, at) = absurd (omega arith)
 among (b ∷ tree) a has = go (same_arc b a) refl (Contains-cons_cases b a tree has) (among tree a)
   where
     go : (t : Bool) → same_arc b a ≡ t → (b ≡ a) ⊎ Contains tree a → (Contains tree a → is_among tree a ≡ true) → is_among (b ∷ tree) a ≡ true
     go true e has rest = ap (λ t. if t then true else is_among tree a) e
-    go false e (inl same) rest = let f = subst (λ (x : Arc). same_arc x a ≡ false) same e in let g = is_same a in absurd cc
+    go false e (inl same) rest = let f = subst (λ (x : Arc). same_arc x a ≡ false) same e in let g = same_arc_itself a in absurd cc
     go false e (inr there) rest = ap (λ t. if t then true else is_among tree a) e ∙ rest there
 
 pub not_among : (tree : List Arc) (a : Arc) → (Contains tree a → ⊥) → is_among tree a ≡ false
@@ -53,7 +36,7 @@ not_among [] a lacks = refl
 not_among (b ∷ tree) a lacks = go (same_arc b a) refl (not_among tree a (λ (k, lt, at). lacks (suc k, omega arith, at)))
   where
     go : (t : Bool) → same_arc b a ≡ t → is_among tree a ≡ false → is_among (b ∷ tree) a ≡ false
-    go true e rest = absurd (lacks (0, omega arith, same_is b a e))
+    go true e rest = absurd (lacks (0, omega arith, same_arc_is b a e))
     go false e rest = ap (λ t. if t then true else is_among tree a) e ∙ rest
 
 module _ (lts : System) (order : List ℕ) (tree : List Arc) (entries : List (Option Arc)) (g : IsGrowing lts order tree entries) where
@@ -62,10 +45,10 @@ module _ (lts : System) (order : List ℕ) (tree : List Arc) (entries : List (Op
   in_tree_some a b is = go (same_arc b a) refl
     where
       go : (t : Bool) → same_arc b a ≡ t → same_arc b a ≡ is_among tree a
-      go true e = e ∙ sym (among tree a (subst (Contains tree) (same_is b a e) (g.entered a.to b is).1))
+      go true e = e ∙ sym (among tree a (subst (Contains tree) (same_arc_is b a e) (g.entered a.to b is).1))
       go false e = e ∙ sym (not_among tree a
           (λ has. (let same : b ≡ a = same_Some b a (sym is ∙ g.enters a has) in let f = subst (λ (x : Arc). same_arc x a ≡ false) same e in let
-          h = is_same a in absurd cc)))
+          h = same_arc_itself a in absurd cc)))
 
   pub in_tree_none : (a : Arc) → get_or entries a.to None ≡ None → is_among tree a ≡ false
   in_tree_none a is = not_among tree a (λ has. none-some a (sym is ∙ g.enters a has))

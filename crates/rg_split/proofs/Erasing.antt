@@ -9,15 +9,16 @@ use Rattle.rg_theory.specs.System.{System, states, labels, arc, HasArc, IsArcInR
 use Rattle.rg_theory.specs.Limits.{most_labels}
 use Rattle.rg_lts.specs.WellFormed.{AreNames, IsWellFormed}
 use Rattle.rg_lts.proofs.OrderedArcs.{before_itself}
-use Rattle.rg_line_formats.proofs.Things.{map_there, map_from, pigeons}
+use Rattle.rg_line_formats.proofs.Things.{pigeons}
 use Rattle.rg_branch_trees.specs.Trees.{Tree.leaf, Tree.split}
 use Rattle.rg_cert_meaning.specs.Refutes.{Reason, Reason.unreachable, Reason.fork, Reason.refuted}
 use Rattle.rg_split.specs.Erasing.{old_label, Erases}
 use Rattle.rg_split.specs.Parts.{SplitsLabel, is_moved}
 use Rattle.rg_split.specs.Rounds.{Labelling, relabelled, first_name, IsNext}
-use Rattle.rg_split.proofs.OneArc.{same_arc_is}
 use Rattle.rg_split.proofs.Names.{new_is_name}
 use Rattle.rg_theory.proofs.ClassTold.{and_left as both_left}
+use Rattle.rg_theory.proofs.Arcs.{same_arc_is}
+use Rattle.rg_theory.proofs.Lists.{map_there, map_from}
 use Rattle.rg_lts.proofs.Drafts.{names_push as names_more}
 
 -- ---- the label of an arc that is moved

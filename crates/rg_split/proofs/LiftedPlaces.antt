@@ -8,7 +8,7 @@ use Rattle.rg_theory.specs.declared.Arc.{Arc}
 use Rattle.rg_theory.specs.System.{System, states, labels, arc, HasArc, IsInRange, IsArcInRange}
 use Rattle.rg_theory.specs.Net.{Place, pre_weight, post_weight}
 use Rattle.rg_theory.specs.Region.{Region}
-use Rattle.rg_line_formats.proofs.Things.{map_from}
+use Rattle.rg_theory.proofs.Lists.{map_from}
 use Rattle.rg_cert_meaning.specs.Refutes.{Reason}
 use Rattle.rg_separate.specs.Keeping.{IsKept}
 use Rattle.rg_split.specs.Lifting.{HasWeights, with_copy}

@@ -1,6 +1,6 @@
 -- Searches among numbers at which a fact is decided, and whether a list has an element.
-use Rattle.std.proofs.Common.{◌≡◌, ◌⊎◌, ◌↔◌, inl, inr, ℕ, zero, suc, ◌+◌, ◌<◌, ◌≤◌, List, [], ◌∷◌, length, get_or, Contains, AllPairs, refl, subst, arith}
-use Rattle.std.proofs.lemmas.Bool.{cases_lt, cases_eq}
+use Rattle.std.proofs.Common.{◌≡◌, ◌⊎◌, ◌↔◌, inl, inr, ℕ, zero, suc, ◌+◌, ◌<◌, ◌≤◌, List, [], ◌∷◌, length, get_or, Contains, AllPairs, refl, subst, arith, Bool, true, false, sym, IsTrue}
+use Rattle.std.proofs.lemmas.Bool.{cases_lt, cases_eq, true≢false}
 use Rattle.std.proofs.lemmas.List.Elements.{Contains-get_or}
 use Rattle.rg_theory.proofs.Lists.{Contains-cons_cases}
 
@@ -218,3 +218,15 @@ all_where P decide from (suc n) = by (decide from) (all_where P decide (suc from
         ordered zero (suc j) d less lt = (let (le, lt', p') = (are.members (get_or xs j d)).0 (Contains-get_or xs j d (omega arith)) in le)
         ordered (suc i) zero d less lt = absurd (omega arith)
         ordered (suc i) (suc j) d less lt = are.in_order i j d (omega arith) (omega arith)
+
+-- two numbers, and a truth value
+pub less_or_not : (m n : ℕ) → Decided (m < n)
+less_or_not m n = by (cases_lt m n)
+  where
+    by : (m < n) ⊎ (n ≤ m) → Decided (m < n)
+    by (inl less) = inl less
+    by (inr more) = inr (λ less. (omega arith))
+
+pub true_or_not : (b : Bool) → Decided (IsTrue b)
+true_or_not true = inl refl
+true_or_not false = inr (λ e. true≢false (sym e))

@@ -9,7 +9,6 @@ use Rattle.rg_theory.specs.ClassWords.{HasNumbersInRange}
 use Rattle.rg_line_formats.specs.First.{number_of}
 use Rattle.rg_line_formats.proofs.Numbers.{number_at}
 use Rattle.rg_line_formats.proofs.Parts.{some_with}
-use Rattle.rg_line_formats.proofs.Things.{map_from}
 use Rattle.rg_families.specs.declared.Kind.{Kind}
 use Rattle.rg_families.specs.declared.Kind.TheVariants.{Lock}
 use Rattle.rg_families.specs.Named.{Drawing, arc_of, IsSystemOf, IsSound}
@@ -22,6 +21,7 @@ use Rattle.rg_top.specs.declared.status.Status.{Status}
 use Rattle.rg_top.specs.declared.status.Status.TheVariants.{Done}
 use Rattle.rg_top.proofs.SomeNets.{SomeOut}
 use Rattle.rg_theory.proofs.ClassBytes.{no_numbers}
+use Rattle.rg_theory.proofs.Lists.{map_from}
 
 -- what is drawn for a family's number is sound; a system in range and a class have an answer
 pub record SomeTrials : Type 0 where

@@ -3,25 +3,16 @@ use Rattle.std.proofs.Common.{◌≡◌, ◌↔◌, ◌⊎◌, ℕ, ◌<◌, ◌
 use Rattle.std.specs.Ordering.{nat_cmp, ordering_then, ordering_index}
 use Rattle.std.specs.List.Sorted.{IsBinarySearchResult, IsSearchInRange, IsNonDecreasingBy}
 use Rattle.std.proofs.lemmas.Bool.{cases_order}
-use Rattle.std.proofs.lemmas.Bool.Decides.{nat_tests}
 use Rattle.std.proofs.lemmas.Option.{slice_get-get_or}
 use Rattle.rg_theory.specs.declared.Arc.{Arc}
 use Rattle.rg_theory.specs.System.{System, IsArcBefore, HasArc}
 use Rattle.rg_cert_meaning.specs.Row.{HasArcAt}
 use Rattle.rg_lts.proofs.OrderedArcs.{before_trans as trans}
+use Rattle.rg_lts.proofs.ArcSets.{at_less, at_equal, at_greater}
 
 -- by from, label and to
 abbrev arc_cmp : Arc → Arc → Ordering
 arc_cmp x y = ordering_then (nat_cmp x.from y.from) (ordering_then (nat_cmp x.label y.label) (nat_cmp x.to y.to))
-
-at_less : (a b : ℕ) → a < b → nat_cmp a b ≡ Less
-at_less a b h = grind (arith, nat_tests)
-
-at_equal : (a b : ℕ) → a ≡ b → nat_cmp a b ≡ Equal
-at_equal a b h = grind (arith, nat_tests)
-
-at_greater : (a b : ℕ) → b < a → nat_cmp a b ≡ Greater
-at_greater a b h = grind (arith, nat_tests)
 
 -- a tie is decided by the next comparison
 tied : (a b : ℕ) (o : Ordering) → a ≡ b → ordering_then (nat_cmp a b) o ≡ o

@@ -8,7 +8,7 @@ use Rattle.rg_theory.specs.declared.Class.{Class}
 use Rattle.rg_theory.specs.declared.Problem.{Problem}
 use Rattle.rg_theory.specs.declared.Problem.TheVariants.{Event, States}
 use Rattle.rg_theory.proofs.Arcs.{find_arc}
-use Rattle.rg_theory.proofs.Deciding.{Decided, both_decided, not_decided}
+use Rattle.rg_theory.proofs.Deciding.{Decided, both_decided, not_decided, less_or_not, true_or_not}
 use Rattle.rg_theory.proofs.Growing.{has_arc}
 use Rattle.rg_cert_meaning.specs.declared.RowName.{RowName}
 use Rattle.rg_cert_meaning.specs.declared.RowName.TheVariants as row_name
@@ -16,7 +16,6 @@ use Rattle.rg_cert_meaning.specs.declared.Form.{Form}
 use Rattle.rg_cert_meaning.specs.declared.Form.TheVariants as split_form
 use Rattle.rg_cert_meaning.specs.Row.{Side, FormStands, SideStands, SharedStands, HasArcAt, EventStands, consumer_of, RowStands}
 use Rattle.rg_cert_meaning.specs.Refutes.{IsMultiplier}
-use Rattle.rg_net_verdict.proofs.BreakOrNone.{less_or_not as less_decided, true_or_not as true_decided}
 
 false_decided : (b : Bool) → Decided (IsFalse b)
 false_decided true = inr (λ e. true≢false e)
@@ -84,11 +83,11 @@ module _ (lts : System) (class : Class) (above : List Side) where
   shared_decided : (consumer : ℕ) (name : RowName) → Decided (SharedStands lts class consumer above name)
   shared_decided consumer (row_name.Arc a) = has_arc lts a.from a.label a.to
   shared_decided consumer (row_name.Tokens q) = inl tt
-  shared_decided consumer (row_name.Cap q) = both_decided (q < states lts) (IsSome class.bound) (less_decided q (states lts)) (some_decided class.bound)
-  shared_decided consumer (row_name.Up t) = both_decided (t < labels lts) (IsTrue class.plain) (less_decided t (labels lts)) (true_decided class.plain)
-  shared_decided consumer (row_name.Down t) = both_decided (t < labels lts) (IsTrue class.plain) (less_decided t (labels lts)) (true_decided class.plain)
+  shared_decided consumer (row_name.Cap q) = both_decided (q < states lts) (IsSome class.bound) (less_or_not q (states lts)) (some_decided class.bound)
+  shared_decided consumer (row_name.Up t) = both_decided (t < labels lts) (IsTrue class.plain) (less_or_not t (labels lts)) (true_or_not class.plain)
+  shared_decided consumer (row_name.Down t) = both_decided (t < labels lts) (IsTrue class.plain) (less_or_not t (labels lts)) (true_or_not class.plain)
   shared_decided consumer (row_name.Makes t) =
-      three_decided (t < labels lts) (IsTrue class.nonbranching) (t ≢ consumer) (less_decided t (labels lts)) (true_decided class.nonbranching) (not_decided (t ≡ consumer) (cases_eq t consumer))
+      three_decided (t < labels lts) (IsTrue class.nonbranching) (t ≢ consumer) (less_or_not t (labels lts)) (true_or_not class.nonbranching) (not_decided (t ≡ consumer) (cases_eq t consumer))
   shared_decided consumer (row_name.Stop q) = none_at_false
   shared_decided consumer row_name.Block = none_at_false
   shared_decided consumer row_name.Empty = none_at_false
@@ -98,13 +97,13 @@ module _ (lts : System) (class : Class) (above : List Side) where
   shared_decided consumer (row_name.Above d) = side_decided class (slice_get above d)
 
   plain_and_not_pure : Decided (IsTrue class.plain × IsFalse class.pure)
-  plain_and_not_pure = both_decided (IsTrue class.plain) (IsFalse class.pure) (true_decided class.plain) (false_decided class.pure)
+  plain_and_not_pure = both_decided (IsTrue class.plain) (IsFalse class.pure) (true_or_not class.plain) (false_decided class.pure)
 
   event_decided : (s t : ℕ) (name : RowName) → Decided (EventStands lts class s t above name)
   event_decided s t (row_name.Stop q) = three_decided (IsFalse class.pure) (IsFalse class.plain) (HasArcAt lts q t) (false_decided class.pure) (false_decided class.plain) (arc_decided lts q t)
-  event_decided s t row_name.Block = true_decided class.pure
+  event_decided s t row_name.Block = true_or_not class.pure
   event_decided s t row_name.Empty = plain_and_not_pure
-  event_decided s t (row_name.Full q) = three_decided (IsTrue class.plain) (IsFalse class.pure) (HasArcAt lts q t) (true_decided class.plain) (false_decided class.pure) (arc_decided lts q t)
+  event_decided s t (row_name.Full q) = three_decided (IsTrue class.plain) (IsFalse class.pure) (HasArcAt lts q t) (true_or_not class.plain) (false_decided class.pure) (arc_decided lts q t)
   event_decided s t row_name.Keep = plain_and_not_pure
   event_decided s t (row_name.Arc a) = shared_decided t (row_name.Arc a)
   event_decided s t (row_name.Tokens q) = shared_decided t (row_name.Tokens q)

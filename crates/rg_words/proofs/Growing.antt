@@ -4,13 +4,14 @@ use Rattle.std.specs.Bool.{Decides}
 use Rattle.std.specs.List.{fold}
 use Rattle.std.specs.Str.{bytes_eq}
 use Rattle.std.proofs.lemmas.Bool.{cases_order}
-use Rattle.std.proofs.lemmas.List.{map-append, length-append, get_or_append_left}
+use Rattle.std.proofs.lemmas.List.{map-append, length-append}
 use Rattle.std.proofs.lemmas.List.Elements.{Contains-append_left, Contains-append_cases}
-use Rattle.std.proofs.lemmas.Option.{slice_get_within, get_or_from_slice_get, slice_get-get_or}
+use Rattle.std.proofs.lemmas.Option.{slice_get_within, get_or_from_slice_get, slice_get-get_or, same_Some}
 use Rattle.std.proofs.lemmas.Slice.Eq.{bytes_eq-Decides, slice_eq-Decides}
 use Rattle.rg_theory.specs.System.{arc}
+use Rattle.rg_theory.proofs.Lists.{get_cases, there_at, there_later, map_there}
 use Rattle.rg_line_formats.specs.First.{with_new, firsts}
-use Rattle.rg_line_formats.proofs.Things.{there_at, there_later, last_there, stays_at, stands_last, there_one, fold-append, grown, new_there, new_absent, number_is, number_stays, met, firsts_differ, map_there}
+use Rattle.rg_line_formats.proofs.Things.{last_there, stays_at, stands_last, there_one, fold-append, grown, new_there, new_absent, number_is, number_stays, met, firsts_differ}
 use Rattle.rg_words.specs.Contents.{Word, Use, prefix, same_word, prefixes, label_names, arc_of}
 use Rattle.rg_words.specs.Reading.{arcs_from, step_arcs, LeadsTo, arcs_of, AreSteps}
 
@@ -87,21 +88,6 @@ one_index xs i j x differ here there = by (cases_order i j)
     by (inr (inl lt)) = absurd (differ i j x lt lt_j (get_or_from_slice_get xs i x x here ∙ sym (get_or_from_slice_get xs j x x there)))
     by (inr (inr gt)) = absurd (differ j i x gt lt_i (get_or_from_slice_get xs j x x there ∙ sym (get_or_from_slice_get xs i x x here)))
 
-some_same : {X : Type 0} (a b : X) → Some a ≡ Some b → a ≡ b
-some_same a b e = cc
-
--- where a list with one more has a thing at an index, the list has it there, or the index is the last
-last_or : {X : Type 0} (xs : List X) (y : X) (i : ℕ) (x : X) → slice_get (xs ++ y ∷ []) i ≡ Some x → (slice_get xs i ≡ Some x) ⊎ ((i ≡ length xs) × (y ≡ x))
-last_or xs y i x at = by (cases_order i (length xs))
-  where
-    within : i < length xs + 1
-    within = let lt = slice_get_within (xs ++ y ∷ []) i x at in omega (arith, lt, length-append xs (y ∷ []))
-
-    by : (i ≡ length xs) ⊎ ((i < length xs) ⊎ (length xs < i)) → (slice_get xs i ≡ Some x) ⊎ ((i ≡ length xs) × (y ≡ x))
-    by (inl e) = inr (e, some_same y x (sym (stands_last xs y) ∙ ap (slice_get (xs ++ y ∷ [])) (sym e) ∙ at))
-    by (inr (inl lt)) = inl (slice_get-get_or xs i x lt ∙ ap Some (sym (get_or_append_left xs (y ∷ []) x i lt) ∙ get_or_from_slice_get (xs ++ y ∷ []) i x x at))
-    by (inr (inr gt)) = absurd (omega (arith, within))
-
 -- arcs of steps
 pub arcs_from-append : (k : ℕ) (steps : List (ℕ × ℕ)) (step : ℕ × ℕ) → arcs_from k (steps ++ step ∷ []) ≡ arcs_from k steps ++ arc step.0 step.1 (k + length steps) ∷ []
 arcs_from-append k [] step = ap (λ n. arc step.0 step.1 n ∷ []) (omega arith)
@@ -112,7 +98,7 @@ arcs_from-append k (s ∷ steps) step =
 arc_at : (k : ℕ) (steps : List (ℕ × ℕ)) (i : ℕ) (step : ℕ × ℕ) → slice_get steps i ≡ Some step → Contains (arcs_from k steps) (arc step.0 step.1 (k + i))
 arc_at k [] i step at = absurd cc
 arc_at k (s ∷ steps) zero step at =
-    let e : s ≡ step = some_same s step at in
+    let e : s ≡ step = same_Some s step at in
     let n : k ≡ k + zero = omega arith in
     (zero, omega arith, ap₂ (λ (p : ℕ × ℕ) m. arc p.0 p.1 m) e n)
 arc_at k (s ∷ steps) (suc i) step at =
@@ -175,8 +161,8 @@ module _ (all : List Use) (steps : List (ℕ × ℕ)) (h : AreSteps all steps) (
   pub old_prefix : (i : ℕ) → slice_get steps i ≡ Some (state, t) → slice_get (prefixes all) (i + 1) ≡ Some (prefix u)
   old_prefix i e =
       let o = h.leads i (state, t) e in
-      let word = some_same o.word u.before (sym o.from ∙ at) in
-      let label = some_same o.label u.label (sym (name_stays t o.label o.named) ∙ named) in
+      let word = same_Some o.word u.before (sym o.from ∙ at) in
+      let label = same_Some o.label u.label (sym (name_stays t o.label o.named) ∙ named) in
       o.to ∙ ap₂ (λ w l. Some (w ++ l ∷ [])) word label
 
   pub old_same : (i : ℕ) → slice_get steps i ≡ Some (state, t) → prefixes (all ++ u ∷ []) ≡ prefixes all
@@ -207,7 +193,7 @@ module _ (all : List Use) (steps : List (ℕ × ℕ)) (h : AreSteps all steps) (
     where
       by : (k : ℕ) → slice_get (prefixes all) k ≡ Some (prefix u) → ⊥
       by zero found =
-          let wrong = some_same [] (prefix u) (sym (empty_first all) ∙ found) in
+          let wrong = same_Some [] (prefix u) (sym (empty_first all) ∙ found) in
           let n : 0 ≡ length (u.before ++ u.label ∷ []) = ap length wrong in
           omega (arith, n, length-append u.before (u.label ∷ []))
       by (suc i) found =
@@ -216,7 +202,7 @@ module _ (all : List Use) (steps : List (ℕ × ℕ)) (h : AreSteps all steps) (
           let there : slice_get steps i ≡ Some step = slice_get-get_or steps i (state, t) lt in
           let o = h.leads i step there in
           let n : suc i ≡ i + 1 = omega arith in
-          let same = some_same (o.word ++ o.label ∷ []) (prefix u) (sym o.to ∙ ap (slice_get (prefixes all)) (sym n) ∙ found) in
+          let same = same_Some (o.word ++ o.label ∷ []) (prefix u) (sym o.to ∙ ap (slice_get (prefixes all)) (sym n) ∙ found) in
           let both = last_same o.word u.before o.label u.label same in
           let from : step.0 ≡ state = one_index (prefixes all) step.0 state u.before (prefixes_differ all) (o.from ∙ ap Some both.0) at in
           let label : step.1 ≡ t = one_index (label_names (all ++ u ∷ [])) step.1 t u.label (labels_differ (all ++ u ∷ [])) (name_stays step.1 o.label o.named ∙ ap Some both.1) named in
@@ -246,7 +232,7 @@ module _ (all : List Use) (steps : List (ℕ × ℕ)) (h : AreSteps all steps) (
                 from = subst (λ (s : ℕ × ℕ). slice_get (prefixes (all ++ u ∷ [])) s.0 ≡ Some u.before) new.1 (word_stays state u.before at);
                 named = subst (λ (s : ℕ × ℕ). slice_get (label_names (all ++ u ∷ [])) s.1 ≡ Some u.label) new.1 named;
                 to = subst (λ m. slice_get (prefixes (all ++ u ∷ [])) (m + 1) ≡ Some (prefix u)) (sym new.0) to;
-              }) (last_or steps (state, t) i step e);
+              }) (get_cases steps (state, t) i step e);
           same = λ a. (
             λ has. subst (λ l. Contains l a) (sym named_arcs)
                 (⊎_elim (λ old. Contains-append_left (arcs_of all) _ a ((h.same a).0 old))

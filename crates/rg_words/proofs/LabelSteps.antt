@@ -1,8 +1,7 @@
 -- A label is taken: where it leads, and its fault.
-use Rattle.std.proofs.Common.{◌≡◌, ◌↔◌, ⊎_elim, inl, inr, ℕ, ◌+◌, ◌<◌, ◌≤◌, nat_lt, true, false, List, [], ◌∷◌, ◌++◌, length, slice_get, Contains, None, Some, sym, ap, subst, ◌∙◌, arith}
+use Rattle.std.proofs.Common.{◌≡◌, ◌↔◌, ⊎_elim, inl, inr, ℕ, ◌+◌, ◌<◌, ◌≤◌, nat_lt, false, List, [], ◌∷◌, ◌++◌, length, slice_get, Contains, None, Some, sym, ap, subst, ◌∙◌, arith}
 use Rattle.std.specs.Str.{bytes_eq}
-use Rattle.std.proofs.lemmas.Bool.{cond-true, cond-false}
-use Rattle.std.proofs.lemmas.Bool.Decides.{nat_tests}
+use Rattle.std.proofs.lemmas.Bool.{cond-true, cond-false, lt-ltb, le-ltb}
 use Rattle.std.proofs.lemmas.List.{length-append}
 use Rattle.std.proofs.lemmas.List.Elements.{Contains-append_left, Contains-append_cases}
 use Rattle.rg_text.specs.Limits.{most_name_bytes}
@@ -17,27 +16,21 @@ use Rattle.rg_words.specs.Contents.{Word, Use, prefix, prefixes, label_names, st
 use Rattle.rg_words.specs.Reading.{use_of, step_arcs, IsDraftOf, IsAt, IsGrown}
 use Rattle.rg_words.proofs.Growing.{labels_more, old_step, old_same, new_step, new_words, arcs_from-append}
 
-lt_true : (m n : ℕ) → m < n → nat_lt m n ≡ true
-lt_true m n h = grind (arith, nat_tests)
-
-lt_false : (m n : ℕ) → n ≤ m → nat_lt m n ≡ false
-lt_false m n h = grind (arith, nat_tests)
-
 -- the fault of a label that is a name
 module _ (n : ℕ) (label : List ℕ) (all : List Use) (short : nat_lt most_name_bytes (name_bytes label) ≡ false) (whole : nat_lt (name_bytes label) (length label) ≡ false) where
   states_many : length (label_names all) ≤ most_labels → most_states < length (prefixes all) → fault_of n label all ≡ Some (TooManyStates n)
   states_many few many =
       cond-false (nat_lt most_name_bytes (name_bytes label)) _ _ short
       ∙ cond-false (nat_lt (name_bytes label) (length label)) _ _ whole
-      ∙ cond-false (nat_lt most_labels (length (label_names all))) _ _ (lt_false most_labels (length (label_names all)) few)
-      ∙ cond-true (nat_lt most_states (length (prefixes all))) _ _ (lt_true most_states (length (prefixes all)) many)
+      ∙ cond-false (nat_lt most_labels (length (label_names all))) _ _ (le-ltb most_labels (length (label_names all)) few)
+      ∙ cond-true (nat_lt most_states (length (prefixes all))) _ _ (lt-ltb most_states (length (prefixes all)) many)
 
   no_fault : length (label_names all) ≤ most_labels → length (prefixes all) ≤ most_states → fault_of n label all ≡ None
   no_fault few few_states =
       cond-false (nat_lt most_name_bytes (name_bytes label)) _ _ short
       ∙ cond-false (nat_lt (name_bytes label) (length label)) _ _ whole
-      ∙ cond-false (nat_lt most_labels (length (label_names all))) _ _ (lt_false most_labels (length (label_names all)) few)
-      ∙ cond-false (nat_lt most_states (length (prefixes all))) _ _ (lt_false most_states (length (prefixes all)) few_states)
+      ∙ cond-false (nat_lt most_labels (length (label_names all))) _ _ (le-ltb most_labels (length (label_names all)) few)
+      ∙ cond-false (nat_lt most_states (length (prefixes all))) _ _ (le-ltb most_states (length (prefixes all)) few_states)
 
 names_after : (all : List Use) (before : Word) (n : ℕ) (label : List ℕ) (names more : List (List ℕ)) (steps : List (ℕ × ℕ)) (state : ℕ) → IsAt all before names steps state
     → more ≡ with_new bytes_eq names label → more ≡ label_names (all ++ use_of n before label ∷ [])

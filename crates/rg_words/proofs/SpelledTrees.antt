@@ -11,11 +11,12 @@ use Rattle.rg_text.specs.Byte.{IsName}
 use Rattle.rg_theory.specs.Limits.{most_states}
 use Rattle.rg_theory.specs.declared.Arc.{Arc}
 use Rattle.rg_theory.specs.System.{System, IsArcInRange, IsArcBefore}
+use Rattle.rg_theory.proofs.Lists.{there_at, map_from}
 use Rattle.rg_lts.specs.WellFormed.{AreNames, IsWellFormed}
 use Rattle.rg_lts.proofs.OrderedArcs.{before_itself}
 use Rattle.rg_line_formats.specs.First.{number_of}
 use Rattle.rg_line_formats.specs.Numbered.{numbered}
-use Rattle.rg_line_formats.proofs.Things.{number_at, met_from, map_from, there_at, pigeons}
+use Rattle.rg_line_formats.proofs.Things.{number_at, met_from, pigeons}
 use Rattle.rg_words.specs.declared.fault.WordFault.TheVariants.{NoMemory}
 use Rattle.rg_words.specs.Contents.{Word, Use, uses, prefix, same_word, prefixes, label_names, state_names, arc_of}
 use Rattle.rg_words.specs.Spells.{IsTreeOf, Spells, FirstFault}

@@ -5,6 +5,7 @@ use Rattle.std.specs.List.{AllByRecursion, flat_map, slice_split}
 use Rattle.std.proofs.lemmas.Bool.Decides.{nat_tests}
 use Rattle.std.proofs.lemmas.List.Elements.{Contains-append_left, Contains-append_right}
 use Rattle.std.proofs.lemmas.List.Sums.{prefix_len_passes}
+use Rattle.std.proofs.lemmas.Bool.{ltb-false}
 use Rattle.rg_text.specs.Byte.{is_name_byte, is_blank_byte, IsName}
 use Rattle.rg_text.specs.Faults.{faults_after, IsFirst, AreNone}
 use Rattle.rg_text.specs.Limits.{most_name_bytes}
@@ -90,9 +91,6 @@ pub record IsRight (label : List ℕ) (all : List Use) : Type 0 where
   pub few_labels : length (label_names all) ≤ most_labels
   pub few_states : length (prefixes all) ≤ most_states
 
-not_less : (m n : ℕ) → nat_lt m n ≡ false → n ≤ m
-not_less m n e = grind (arith, nat_tests)
-
 right_of : (n : ℕ) (label : List ℕ) (all : List Use) → fault_of n label all ≡ None → IsRight label all
 right_of n label all none =
     by (nat_lt most_name_bytes (name_bytes label)) (nat_lt (name_bytes label) (length label)) (nat_lt most_labels (length (label_names all)))
@@ -106,10 +104,10 @@ right_of n label all none =
     by false false true s a b c d none = absurd cc
     by false false false true a b c d none = absurd cc
     by false false false false a b c d none = record {
-      short = not_less most_name_bytes (name_bytes label) a;
-      whole = not_less (name_bytes label) (length label) b;
-      few_labels = not_less most_labels (length (label_names all)) c;
-      few_states = not_less most_states (length (prefixes all)) d;
+      short = ltb-false most_name_bytes (name_bytes label) a;
+      whole = ltb-false (name_bytes label) (length label) b;
+      few_labels = ltb-false most_labels (length (label_names all)) c;
+      few_states = ltb-false most_states (length (prefixes all)) d;
     }
 
 pub other_fault : (n : ℕ) (label : List ℕ) (all : List Use) → fault_of n label all ≡ Some NoMemory → ⊥

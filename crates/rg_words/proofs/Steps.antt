@@ -10,6 +10,8 @@ use Rattle.std.proofs.lemmas.List.Elements.{All-push}
 use Rattle.std.proofs.lemmas.List.FromFn.{length-map-range_with_len, get_or-map-range_with_len}
 use Rattle.std.proofs.lemmas.List.Sums.{AllPass-from_list_all}
 use Rattle.rg_text.specs.Byte.{is_name_byte, IsName}
+use Rattle.rg_text.proofs.NameBytes.{digit_byte}
+use Rattle.rg_theory.proofs.Lists.{range_more}
 use Rattle.rg_line_formats.specs.First.{with_new}
 use Rattle.rg_line_formats.proofs.Present.{new_absent}
 use Rattle.indexmap.specs.IndexSet.{insert_key}
@@ -43,13 +45,6 @@ fresh eq same keys grown k i new added grows index real = by (list_any (eq k) ke
       λ has. (let there = any_at eq same keys k has in cc),
     )
 
-range_more : (a n : ℕ) → range_with_len a (n + 1) ≡ range_with_len a n ++ (a + n) ∷ []
-range_more a zero = ap (λ m. m ∷ []) (omega arith)
-range_more a (suc n) =
-    let e : suc n + 1 ≡ suc (n + 1) = omega arith in
-    let s : (a + 1) + n ≡ a + suc n = omega arith in
-    ap (range_with_len a) e ∙ ap (λ l. a ∷ l) (range_more (a + 1) n ∙ ap (λ m. range_with_len (a + 1) n ++ m ∷ []) s)
-
 map_more : (f : ℕ → List ℕ) (xs : List ℕ) (x : ℕ) → map f (xs ++ x ∷ []) ≡ map f xs ++ f x ∷ []
 map_more f [] x = refl
 map_more f (y ∷ xs) x = ap (λ l. f y ∷ l) (map_more f xs x)
@@ -76,9 +71,6 @@ pub pair_itself : (p : ℕ × ℕ) → pair_eq p p ≡ true
 pair_itself p = rw (number_itself p.0, number_itself p.1) refl
 
 -- the name of a state is a name
-digit_byte : (d : ℕ) → d < 10 → is_name_byte (48 + d) ≡ true
-digit_byte d lt = grind (arith, nat_tests)
-
 pub state_is_name : (n : ℕ) → n < 2 ^ 32 → IsName (115 ∷ decimal n)
 state_is_name n lt =
     let digits = decimal_by_steps_wide (λ m ds. AllPass is_name_byte (115 ∷ ds)) one more n (omega arith) in

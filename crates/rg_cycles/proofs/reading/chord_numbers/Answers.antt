@@ -2,8 +2,8 @@ use Rattle.std.proofs.Common.{◌+◌, ◌-◌, nat_lt, not, ◌&&◌, length, a
 use Rattle.std.specs.Prelude.{slice_index, pos}
 use Rattle.std.specs.Ordering.{int_eq}
 use Rattle.rg_integers.specs.Sum.{number_at}
-use Rattle.rg_integers.proofs.Casts.{back}
-use Rattle.rg_cycles.proofs.Numbers.{taken_more, left_more, differs_from_zero, equals_zero, is_chord, is_label, is_unused, chord_within}
+use Rattle.rg_integers.proofs.Casts.{back, zero_of_bits}
+use Rattle.rg_cycles.proofs.Numbers.{taken_more, left_more, differs_from_zero, is_chord, is_label, is_unused, chord_within}
 use Rattle.rg_feasible.proofs.RowTerms.{shown_number}
 use Rattle.rg_cycles.proofs.reading.chord_numbers.Goals as goal
 use Rattle.rg_cycles.proofs.reading.chord_numbers.Goals.{then-member-labels+then-number-ne0+in_ok-push, else-member-labels, else-member-labels-via-then-member-labels+else-number-ne0, else-member-labels-via-else-member-labels}
@@ -29,7 +29,7 @@ loop-index-preserved c = λ k e.
           (is_chord c.args.labels m (k.coefficient m) w.if-member-labels.true (λ q. differs_from_zero z r w.if-number-ne0.true (is ∙ q))) _
           (ap (λ y. (slice_index c.args.kept.now (m - c.args.labels), y)) (back z r ∙ is)))
       | else-member-labels w ↦ elim w.else-member-labels.branch [
-        | else-member-labels-via-then-member-labels+else-number-ne0 w' ↦ rw w.chords-is (left (is_unused c.args.labels m (k.coefficient m) (sym is ∙ equals_zero z r w'.if-number-ne0.false)))
+        | else-member-labels-via-then-member-labels+else-number-ne0 w' ↦ rw w.chords-is (left (is_unused c.args.labels m (k.coefficient m) (sym is ∙ zero_of_bits z r w'.if-number-ne0.false)))
         | else-member-labels-via-else-member-labels w' ↦ rw w.chords-is (left (is_label c.args.labels m (k.coefficient m) w'.if-member-labels.false))
       ]
     ]

@@ -3,11 +3,10 @@ use Rattle.std.specs.Prelude.{pos}
 use Rattle.std.specs.Ordering.{int_eq}
 use Rattle.std.specs.Int.{w128, cast_unsigned}
 use Rattle.rg_integers.specs.Sum.{number_at}
-use Rattle.rg_integers.proofs.Casts.{back}
+use Rattle.rg_integers.proofs.Casts.{back, zero_of_bits}
 use Rattle.rg_folds.specs.Substitution.{is_in}
 use Rattle.rg_folds.proofs.Folding.{number_taken, number_left}
 use Rattle.rg_cycles.specs.View.{labels_of, cycle_of, counted_labels}
-use Rattle.rg_cycles.proofs.AddsNothing.{zero_of_bits}
 use Rattle.rg_cycles.proofs.Counted.{is_counted, is_zero, is_inside}
 use Rattle.rg_cycles.proofs.substitution.list_counted.Goals as goal
 use Rattle.rg_cycles.proofs.substitution.list_counted.Goals.{then-counts-t-ne0+then-not-is_free+in_ok-push, else-counts-t-ne0, else-counts-t-ne0-via-then-counts-t-ne0+else-not-is_free, else-counts-t-ne0-via-else-counts-t-ne0}

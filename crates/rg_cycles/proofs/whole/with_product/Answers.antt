@@ -2,8 +2,7 @@ use Rattle.std.proofs.Common.{◌≡◌, ap, subst, sym, ◌∙◌}
 use Rattle.std.specs.Prelude.{FitsSigned, ◌+ℤ◌, ◌*ℤ◌}
 use Rattle.std.specs.Int.{w64}
 use Rattle.std.proofs.lemmas.Int.{to_z-of_z}
-use Rattle.rg_integers.proofs.Casts.{back}
-use Rattle.rg_cycles.proofs.AddsNothing.{zero_of_bits}
+use Rattle.rg_integers.proofs.Casts.{back, zero_of_bits}
 use Rattle.rg_integers.proofs.Short.{short_in_range}
 use Rattle.rg_cycles.specs.WholeSums.{StaysShort}
 use Rattle.rg_cycles.proofs.WholeSteps.{zero_step, step_of_words, none_fits}

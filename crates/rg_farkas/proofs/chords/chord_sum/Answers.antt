@@ -1,11 +1,12 @@
 use Rattle.std.proofs.Common.{rules, ◌≡◌, ◌+◌, Err, Ok, sym, ◌∙◌}
 use Rattle.rg_theory.specs.System.{labels}
+use Rattle.rg_integers.proofs.Casts.{zero_of_bits}
 use Rattle.rg_folds.specs.Fold.{ratio_of}
 use Rattle.rg_folds.proofs.FoldLemmas.{add_step}
 use Rattle.rg_case_parts.specs.SettingViews.{shown_setting}
 use Rattle.rg_farkas.specs.View.{count_fold}
 use Rattle.rg_farkas.proofs.ChordNumbers.{IsDependent, first_count, rest_count, no_counts, first_fails, first_made, next_fails, next_unjoined, next_made, counts_end}
-use Rattle.rg_cycles.proofs.AddsNothing.{zero_of_bits, plus_none}
+use Rattle.rg_cycles.proofs.AddsNothing.{plus_none}
 use Rattle.rg_farkas.proofs.chords.chord_sum.Goals as goal
 use Rattle.rg_farkas.proofs.chords.chord_sum.Goals.{then-numerator-ne0+in_ok-sum-2, else-numerator-ne0}
 

@@ -1,12 +1,11 @@
 use Rattle.std.proofs.Common.{rules, ◌≡◌, ◌+◌, Err, ap, subst, refl, ◌∙◌}
 use Rattle.std.specs.Prelude.{slice_index}
 use Rattle.rg_theory.specs.System.{labels}
-use Rattle.rg_integers.proofs.Casts.{back}
+use Rattle.rg_integers.proofs.Casts.{back, zero_of_bits}
 use Rattle.rg_integers.proofs.Order.{positive_differs}
 use Rattle.rg_cycles.specs.Basis.{ShowsRelation, number_with}
 use Rattle.rg_case_parts.specs.SettingViews.{shown_setting}
 use Rattle.rg_folds.proofs.Folding.{whole_is}
-use Rattle.rg_cycles.proofs.AddsNothing.{zero_of_bits}
 use Rattle.rg_farkas.specs.View.{counted_of}
 use Rattle.rg_farkas.proofs.ChordNumbers.{chord_number_is, count_first, count_made, number_in_range, no_count, no_number}
 use Rattle.rg_farkas.proofs.chords.chord_term.Goals as goal

@@ -1,8 +1,9 @@
-use Rattle.rg_line_formats.proofs.Things.{there_at, stands_last}
+use Rattle.rg_line_formats.proofs.Things.{stands_last}
 use Rattle.rg_line_formats.proofs.Growing.{label_there, label_new, one_more, room}
 use Rattle.rg_theory.specs.Limits.{most_labels}
 use Rattle.rg_lts.specs.Draft.{Draft}
 use Rattle.std.proofs.Common.{◌≡◌, ◌∷◌, ◌++◌, [], Some, slice_get, ◌∙◌, Err, sym, ap, subst}
+use Rattle.rg_theory.proofs.Lists.{there_at}
 use Rattle.rg_line_formats.proofs.names.add_label.Goals as goal
 
 pub returns-in-Some-clause-ok : goal.returns-in-Some-clause-ok

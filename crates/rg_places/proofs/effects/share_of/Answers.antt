@@ -2,9 +2,8 @@ use Rattle.std.proofs.Common.{subst, sym, ◌∙◌}
 use Rattle.std.proofs.lemmas.List.{get_or_default}
 use Rattle.rg_integers.specs.Range.{InRange}
 use Rattle.rg_integers.specs.Sum.{number_at}
-use Rattle.rg_integers.proofs.Casts.{back}
+use Rattle.rg_integers.proofs.Casts.{back, zero_of_bits}
 use Rattle.rg_integers.proofs.Order.{positive_differs}
-use Rattle.rg_cycles.proofs.AddsNothing.{zero_of_bits}
 use Rattle.rg_places.proofs.FractionSteps.{share_step, share_of_no_value, share_of_no_number}
 use Rattle.rg_places.proofs.effects.share_of.Goals as goal
 

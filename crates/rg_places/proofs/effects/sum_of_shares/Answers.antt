@@ -5,8 +5,9 @@ use Rattle.rg_folds.proofs.FoldLemmas.{add_step}
 use Rattle.rg_folds.proofs.Folding.{whole_is}
 use Rattle.rg_integers.specs.Sum.{number_at}
 use Rattle.rg_integers.proofs.Order.{positive_differs}
+use Rattle.rg_integers.proofs.Casts.{zero_of_bits}
 use Rattle.rg_folds.proofs.Zeros.{plus_zero, fraction_within}
-use Rattle.rg_cycles.proofs.AddsNothing.{zero_of_bits, plus_none, value_adds_nothing}
+use Rattle.rg_cycles.proofs.AddsNothing.{plus_none, value_adds_nothing}
 use Rattle.rg_places.specs.Steps.{column_share}
 use Rattle.rg_places.proofs.FractionSteps.{joined_none}
 use Rattle.rg_places.proofs.FoldSteps.{sum_leads, first_fails, sum_ends, sum_next, item_fails, join_fails}

@@ -1,5 +1,5 @@
 use Rattle.std.proofs.Common.{sym, ◌∙◌}
-use Rattle.rg_cycles.proofs.AddsNothing.{zero_of_bits}
+use Rattle.rg_integers.proofs.Casts.{zero_of_bits}
 use Rattle.rg_places.proofs.Kept.{sum_with_none}
 use Rattle.rg_places.proofs.numbers.after_effect.Goals as goal
 

@@ -1,5 +1,5 @@
 use Rattle.std.proofs.Common.{rules, ◌≡◌, ◌<◌, ◌≤◌, Err, length, sym, ◌∙◌, arith}
-use Rattle.rg_cycles.proofs.AddsNothing.{zero_of_bits}
+use Rattle.rg_integers.proofs.Casts.{zero_of_bits}
 use Rattle.rg_folds.specs.Fold.{ratio_of, add}
 use Rattle.rg_case_folds.specs.Placing.{negated}
 use Rattle.rg_places.proofs.FractionSteps.{sub_step}

@@ -1,8 +1,8 @@
 use Rattle.std.proofs.Common.{get_or, sym, ◌∙◌}
-use Rattle.std.proofs.lemmas.Bool.{true≢false}
+use Rattle.std.proofs.lemmas.Bool.{true≢false, not-true}
 use Rattle.std.specs.List.{list_any}
 use Rattle.rg_marks.proofs.Refining.{same_pair}
-use Rattle.rg_prune.proofs.Agreeing.{not_new, is_new, differ_start, differ_next, differ_end, agree_here}
+use Rattle.rg_prune.proofs.Agreeing.{not_new, differ_start, differ_next, differ_end, agree_here}
 use Rattle.rg_prune.proofs.differing.all_differ.Goals as goal
 
 pub loop-s-init : goal.loop-s-init
@@ -12,7 +12,7 @@ pub loop-s-preserved : goal.loop-s-preserved
 loop-s-preserved c =
     rw c.in_ok-insert.ensures.keys
     (differ_next c.args.a.now c.args.b.now c.loop-s.seen.keys c.loop-s.s c.loop-s.invariant
-    (is_new (list_any (same_pair (get_or c.args.a.now c.loop-s.s 0, get_or c.args.b.now c.loop-s.s 0)) c.loop-s.seen.keys) (sym c.in_ok-insert.ensures.added ∙ c.if-not-branch.false)))
+    (not-true (list_any (same_pair (get_or c.args.a.now c.loop-s.s 0, get_or c.args.b.now c.loop-s.s 0)) c.loop-s.seen.keys) (sym c.in_ok-insert.ensures.added ∙ c.if-not-branch.false)))
 
 pub returns-then-not-branch-clause-no : goal.returns-then-not-branch-clause-no
 returns-then-not-branch-clause-no c = λ e.

@@ -1,8 +1,7 @@
 use Rattle.std.proofs.Common.{map, ap, sym, subst, ◌∙◌, of_z, to_z}
 use Rattle.std.specs.Prelude.{pos, ◌*ℤ◌}
 use Rattle.std.specs.Int.{w128}
-use Rattle.rg_integers.proofs.Casts.{back}
-use Rattle.rg_cycles.proofs.Numbers.{equals_zero}
+use Rattle.rg_integers.proofs.Casts.{back, zero_of_bits}
 use Rattle.rg_rows.proofs.FormTimes.{Tells, part_of_none, part_of_some}
 use Rattle.rg_rows.proofs.forms.form_over.Goals as goal
 use Rattle.rg_rows.proofs.forms.form_over.Goals.{then-times-eq0, else-times-eq0}
@@ -18,7 +17,7 @@ returns-clause-row c =
     elim c.if-times-eq0.branch [
       | then-times-eq0 w ↦ part_of_none (to_z w128 (of_z w128 t)) t items
           c.args.row.now.coeffs.items c.if-times-eq0.result c.args.index d some w.result-is same
-          (equals_zero t c.times-times.ensures.in_range w.if-times-eq0.true) tells
+          (zero_of_bits t c.times-times.ensures.in_range w.if-times-eq0.true) tells
       | else-times-eq0 w ↦ part_of_some (to_z w128 (of_z w128 t)) t items
           c.args.row.now.coeffs.items c.if-times-eq0.result c.args.index d some w.result-is same (λ e. w.if-times-eq0.false (ap (of_z w128) e)) are tells
     ]

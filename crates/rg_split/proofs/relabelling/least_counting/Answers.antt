@@ -2,8 +2,9 @@ use Rattle.std.proofs.Common.{◌+◌, get_or, sym, subst, arith, pos}
 use Rattle.std.proofs.lemmas.Option.{slice_get-get_or}
 use Rattle.rg_integers.specs.Sum.{number_at}
 use Rattle.rg_theory.specs.declared.Arc.{Arc}
+use Rattle.rg_integers.proofs.Casts.{zero_of_bits}
 use Rattle.rg_split.specs.Leaves.{IsLeastBelow}
-use Rattle.rg_split.proofs.ArcNumbers.{zero_bits, not_zero}
+use Rattle.rg_split.proofs.ArcNumbers.{not_zero}
 use Rattle.rg_split.proofs.LeafParts.{least_more, least_same, below_all}
 use Rattle.rg_split.proofs.relabelling.least_counting.Goals.{then-sums-i-ne0, else-sums-i-ne0}
 use Rattle.rg_split.proofs.relabelling.least_counting.Goals as goal
@@ -27,7 +28,7 @@ loop-i-preserved c =
           (not_zero (number_at sums i) w.if-sums-i-ne0.true) w.lesser.ensures.some w.lesser.ensures.none c.loop-i.invariant)
       | else-sums-i-ne0 w ↦
           subst (IsLeastBelow arcs sums (i + 1)) (sym w.least-is)
-          (least_same arcs sums i c.loop-i.least (get_or arcs i nowhere) at (zero_bits (number_at sums i) in_range w.if-sums-i-ne0.false) c.loop-i.invariant)
+          (least_same arcs sums i c.loop-i.least (get_or arcs i nowhere) at (zero_of_bits (number_at sums i) in_range w.if-sums-i-ne0.false) c.loop-i.invariant)
     ]
 
 pub returns : goal.returns
