@@ -11,15 +11,18 @@
     bench/families.py blocks crates/benches/out/benches [none pure ..]
     bench/families.py growth PROGRAM [none pure ..]
     bench/families.py commands PROGRAM
-    bench/families.py pair EARLIER PROGRAM 15 ring:120 chain:120
+    bench/families.py slow PROGRAM [100]
+    bench/families.py pair EARLIER PROGRAM 15 ring:120 chain:120 log:100:20:30:1
 
 PROGRAM is `regions`, as `rt run` makes it in crates/regions/out; EARLIER is that of an earlier commit. The classes are `none`, `pure`,
-`safe` and `pure,plain,safe`, unless some are named. It is run by hand and is no test.
+`safe`, `plain`, `plain,safe` and `pure,plain,safe`, and `2-bounded` alone for the family that branches, unless some are named. It is run
+by hand and is no test.
 
 `write FAMILY NUMBER ..` prints a system as APT text. Most families take one number. `log RUNS LENGTH LABELS SEED` is the tree of the
 prefixes of random runs, `word LENGTH LABELS SEED` one random run.
 `run` prints the status, the seconds, the peak memory as GNU time gives it, the numbers of states and of separation problems, how many
-places the net has or how many nodes (splits and leaves) the certificate's trees have, and what is written to standard error.
+places the net has or how many nodes (splits and leaves) the certificate's trees have, how many bytes are written to standard output, and
+what is written to standard error.
 `compare` runs an earlier program first, and prints its seconds, memory and places in columns of their own.
 `speed` runs both programs five times by turns, and prints the least and the middle processor seconds and the peak of memory of each. It
 says so if the bytes differ, which they never may.
@@ -31,6 +34,7 @@ problem when its block was formed, so no more problems are solved.
 `growth` prints the least processor seconds of three runs for growing sizes, and the peak of memory; what takes 5 seconds runs once.
 `commands` prints the least seconds and the peak of memory of `split`, `factor`, `check`, `verify`, `examine`, `isomorphic` and `convert` on
 some large systems.
+`slow` prints what some runs that take long come to within so many seconds.
 `pair` prints the middle seconds of the clock of so many runs by turns, of both programs with 1, 2 and 4 jobs.
 
 checks/systems.py has the families.
@@ -45,16 +49,20 @@ import time
 sys.path.insert(0, os.path.join(os.path.dirname(os.path.abspath(__file__)), '..', 'checks'))
 from systems import FAMILIES, log, parsed, problems, text, written
 
-CLASSES = ('none', 'pure', 'safe', 'pure,plain,safe')
-SIZES = {'grid': (10, 20, 40, 63), 'lock': (2, 3, 4, 5, 6), 'doubling': (20, 40, 100, 127), 'philosophers': (3, 4, 5, 6),
-         'star': (40, 120), 'turns': (60, 200), 'prefixes': (10, 30), 'chain': (60, 120), 'ring': (60, 120), 'rings': (3, 4),
-         'halves': (42,)}
-
-
+CLASSES = ('none', 'pure', 'safe', 'plain', 'plain,safe', 'pure,plain,safe')
+# the classes in which a family is measured, where they aren't all
+OWN_CLASSES = {'countdown': ('2-bounded',)}
+LOG, WORD = ('log', 100, 20, 30, 1), ('word', 300, 60, 1)
+SIZES = (*(('grid', n) for n in (10, 20, 40, 63)), *(('lock', n) for n in (2, 3, 4, 5, 6)), *(('doubling', n) for n in (20, 40, 100, 127)),
+         *(('philosophers', n) for n in (3, 4, 5, 6)), ('star', 40), ('star', 120), ('turns', 60), ('turns', 200), ('prefixes', 10),
+         ('prefixes', 30), ('chain', 60), ('chain', 120), ('ring', 60), ('ring', 120), ('rings', 3), ('rings', 4), ('halves', 42),
+         ('torus', 16), ('countdown', 10), LOG, WORD)
 SPEED = (('grid', 63), ('lock', 7), ('philosophers', 8), ('ring', 60), ('ring', 120), ('chain', 60), ('chain', 120), ('star', 120),
-         ('prefixes', 30), ('rings', 5), ('doubling', 100))
+         ('prefixes', 30), ('rings', 5), ('doubling', 100), ('torus', 32), ('countdown', 14), LOG, WORD)
 GROWTH = (('ring', (30, 60, 120, 240)), ('chain', (30, 60, 120, 240)), ('star', (30, 60, 120, 240)), ('torus', (8, 16, 32, 64)),
           ('philosophers', (5, 6, 7, 8)), ('rings', (3, 4, 5)), ('grid', (10, 20, 40, 63)))
+# what doesn't end soon
+SLOW = ((('countdown', 18), '2-bounded'), (('countdown', 24), '2-bounded'), (('log', 300, 30, 60, 1), 'none'), (('word', 1000, 250, 1), 'pure'))
 RUNS = 5
 
 
@@ -81,28 +89,52 @@ def nodes(out):
     return sum(line == 'leaf' or line.startswith('split ') for line in out.decode().split('\n'))
 
 
-def families(folder):
-    """Each system with its file."""
-    for family, sizes in SIZES.items():
-        for n in sizes:
-            system = written(family, n)
-            path = os.path.join(folder, f'{family}{n}.apt')
-            with open(path, 'w') as file:
-                file.write(system)
-            yield f'{family} {n}', parsed(system), path
+def named(system):
+    return ' '.join(map(str, system))
+
+
+def put(folder, system):
+    """Writes the file of a system, and returns its path."""
+    path = os.path.join(folder, '_'.join(map(str, system)) + '.apt')
+    with open(path, 'w') as file:
+        file.write(written(*system))
+    return path
+
+
+def measured(systems, classes):
+    """Each system's name and file, with each class in which it is measured."""
+    with tempfile.TemporaryDirectory() as folder:
+        for system in systems:
+            path = put(folder, system)
+            for class_word in OWN_CLASSES.get(system[0], classes) if classes is CLASSES else classes:
+                yield named(system), path, class_word
 
 
 def run(programs, classes):
-    columns = ['status', 'seconds', 'MiB', 'places', 'nodes'] * len(programs)
+    columns = ['status', 'seconds', 'MiB', 'places', 'nodes', 'bytes'] * len(programs)
     print(' | '.join(['family', 'class', 'states', 'problems', *columns, 'err']))
+    for name, path, class_word in measured(SIZES, classes):
+        system = parsed(open(path).read())
+        line = [name, class_word, f'{len(system[0]):,}', f'{problems(*system):,}']
+        for program in programs:
+            status, seconds, peak, out, said = measure(program, class_word, path)
+            line += [str(status), f'{seconds:.2f}', f'{peak:.1f}', f'{places(out):,}', f'{nodes(out):,}', f'{len(out):,}']
+        print(' | '.join([*line, said]), flush=True)
+
+
+def slow(program, limit):
+    """What a run comes to within so many seconds."""
+    print(' | '.join(['family', 'class', 'status', 'seconds', 'MiB', 'nodes', 'bytes']))
     with tempfile.TemporaryDirectory() as folder:
-        for name, system, path in families(folder):
-            for class_word in classes:
-                line = [name, class_word, f'{len(system[0]):,}', f'{problems(*system):,}']
-                for program in programs:
-                    status, seconds, peak, out, said = measure(program, class_word, path)
-                    line += [str(status), f'{seconds:.2f}', f'{peak:.1f}', f'{places(out):,}', f'{nodes(out):,}']
-                print(' | '.join([*line, said]), flush=True)
+        for system, class_word in SLOW:
+            path = put(folder, system)
+            try:
+                ran = subprocess.run(['/usr/bin/time', '-q', '-f', '%e %M', program, 'synthesize', class_word, path], capture_output=True, timeout=limit)
+            except subprocess.TimeoutExpired:
+                print(f'{named(system)} | {class_word} | | over {limit} | | |', flush=True)
+                continue
+            seconds, peak = ran.stderr.decode().strip().split('\n')[-1].split()
+            print(f'{named(system)} | {class_word} | {ran.returncode} | {seconds} | {int(peak) / 1024:.0f} | {nodes(ran.stdout):,} | {len(ran.stdout):,}', flush=True)
 
 
 def processor(program, class_word, path):
@@ -116,35 +148,28 @@ def processor(program, class_word, path):
 def speed(programs, classes):
     columns = [f'{what}, {which}' for which in ('earlier', 'new') for what in ('least', 'middle', 'MiB')]
     print(' | '.join(['family', 'class', 'status', *columns]))
-    with tempfile.TemporaryDirectory() as folder:
-        for family, n in SPEED:
-            path = os.path.join(folder, f'{family}{n}.apt')
-            with open(path, 'w') as file:
-                file.write(written(family, n))
-            for class_word in classes:
-                ran = [[processor(program, class_word, path) for program in programs] for _ in range(RUNS)]
-                line = [f'{family} {n}', class_word, str(ran[0][-1][0])]
-                for k in range(len(programs)):
-                    seconds = sorted(both[k][1] for both in ran)
-                    line += [f'{seconds[0]:.2f}', f'{seconds[RUNS // 2]:.2f}', f'{max(both[k][2] for both in ran):.1f}']
-                if any((one[0], one[3]) != (ran[0][0][0], ran[0][0][3]) for both in ran for one in both):
-                    line.append('THE BYTES DIFFER')
-                print(' | '.join(line), flush=True)
+    for name, path, class_word in measured(SPEED, classes):
+        ran = [[processor(program, class_word, path) for program in programs] for _ in range(RUNS)]
+        line = [name, class_word, str(ran[0][-1][0])]
+        for k in range(len(programs)):
+            seconds = sorted(both[k][1] for both in ran)
+            line += [f'{seconds[0]:.2f}', f'{seconds[RUNS // 2]:.2f}', f'{max(both[k][2] for both in ran):.1f}']
+        if any((one[0], one[3]) != (ran[0][0][0], ran[0][0][3]) for both in ran for one in both):
+            line.append('THE BYTES DIFFER')
+        print(' | '.join(line), flush=True)
 
 
 def with_jobs(program, classes):
     counts = ('1', '2', '4', '16')
     columns = [f'{what} with {count}' for count in counts for what in ('seconds', 'MiB')]
     print(' | '.join(['family', 'class', 'status', *columns]))
-    with tempfile.TemporaryDirectory() as folder:
-        for name, _, path in families(folder):
-            for class_word in classes:
-                ran = [measure(program, class_word, path, '--jobs', count) for count in counts]
-                line = [name, class_word, str(ran[0][0])]
-                line += [part for one in ran for part in (f'{one[1]:.2f}', f'{one[2]:.1f}')]
-                if any((one[0], one[3]) != (ran[0][0], ran[0][3]) for one in ran):
-                    line.append('THE BYTES DIFFER')
-                print(' | '.join(line), flush=True)
+    for name, path, class_word in measured(SIZES, classes):
+        ran = [measure(program, class_word, path, '--jobs', count) for count in counts]
+        line = [name, class_word, str(ran[0][0])]
+        line += [part for one in ran for part in (f'{one[1]:.2f}', f'{one[2]:.1f}')]
+        if any((one[0], one[3]) != (ran[0][0], ran[0][3]) for one in ran):
+            line.append('THE BYTES DIFFER')
+        print(' | '.join(line), flush=True)
 
 
 def clock(program, class_word, path, jobs, count):
@@ -158,16 +183,11 @@ def clock(program, class_word, path, jobs, count):
 
 def threads(program, classes):
     print(' | '.join(['family', 'class', '1 job', '2 jobs', '4 jobs', 'four runs at once']))
-    with tempfile.TemporaryDirectory() as folder:
-        for family, n in SPEED:
-            path = os.path.join(folder, f'{family}{n}.apt')
-            with open(path, 'w') as file:
-                file.write(written(family, n))
-            for class_word in classes:
-                ways = (('1', 1), ('2', 1), ('4', 1), ('1', 4))
-                ran = [[clock(program, class_word, path, *way) for way in ways] for _ in range(RUNS)]
-                middle = [sorted(column)[RUNS // 2] for column in zip(*ran)]
-                print(' | '.join([f'{family} {n}', class_word, *(f'{seconds:.2f}' for seconds in middle)]), flush=True)
+    for name, path, class_word in measured(SPEED, classes):
+        ways = (('1', 1), ('2', 1), ('4', 1), ('1', 4))
+        ran = [[clock(program, class_word, path, *way) for way in ways] for _ in range(RUNS)]
+        middle = [sorted(column)[RUNS // 2] for column in zip(*ran)]
+        print(' | '.join([name, class_word, *(f'{seconds:.2f}' for seconds in middle)]), flush=True)
 
 
 def least(words, times):
@@ -236,27 +256,21 @@ def commands(program):
 
 def pair(programs, times, families, classes):
     print(' | '.join(['family', 'class', *(f'{which}, {jobs} jobs' for which in ('earlier', 'new') for jobs in (1, 2, 4))]))
-    with tempfile.TemporaryDirectory() as folder:
-        for family in families:
-            name, n = family.split(':')
-            path = os.path.join(folder, f'{name}{n}.apt')
-            with open(path, 'w') as file:
-                file.write(written(name, int(n)))
-            for class_word in classes:
-                ran = [[clock(program, class_word, path, jobs, 1) for program in programs for jobs in '124'] for _ in range(times)]
-                middle = [sorted(column)[times // 2] for column in zip(*ran)]
-                print(' | '.join([f'{name} {n}', class_word, *(f'{seconds:.2f}' for seconds in middle)]), flush=True)
+    systems = [(name, *map(int, numbers)) for name, *numbers in (family.split(':') for family in families)]
+    for name, path, class_word in measured(systems, classes):
+        ran = [[clock(program, class_word, path, jobs, 1) for program in programs for jobs in '124'] for _ in range(times)]
+        middle = [sorted(column)[times // 2] for column in zip(*ran)]
+        print(' | '.join([name, class_word, *(f'{seconds:.2f}' for seconds in middle)]), flush=True)
 
 
 def blocks(program, classes):
     print(' | '.join(['family', 'class', 'status', 'problems', 'in blocks', 'places']))
-    with tempfile.TemporaryDirectory() as folder:
-        for name, system, path in families(folder):
-            for class_word in classes:
-                ran = subprocess.run([program, 'solve', 'synthesize', class_word, path, '--jobs', '2'], capture_output=True)
-                last = ran.stdout.decode().strip().split('\n')[-1]
-                status, entered = re.fullmatch(r'status (\d+), (\d+) problems in blocks', last).groups()
-                print(f'{name} | {class_word} | {status} | {problems(*system):,} | {int(entered):,} | {places(ran.stdout):,}', flush=True)
+    for name, path, class_word in measured(SIZES, classes):
+        ran = subprocess.run([program, 'solve', 'synthesize', class_word, path, '--jobs', '2'], capture_output=True)
+        last = ran.stdout.decode().strip().split('\n')[-1]
+        status, entered = re.fullmatch(r'status (\d+), (\d+) problems in blocks', last).groups()
+        of_system = problems(*parsed(open(path).read()))
+        print(f'{name} | {class_word} | {status} | {of_system:,} | {int(entered):,} | {places(ran.stdout):,}', flush=True)
 
 
 def main():
@@ -275,6 +289,8 @@ def main():
         growth(os.path.abspath(words[1]), words[2:] or CLASSES)
     elif len(words) == 2 and words[0] == 'commands':
         commands(os.path.abspath(words[1]))
+    elif len(words) in (2, 3) and words[0] == 'slow':
+        slow(os.path.abspath(words[1]), int(words[2]) if words[2:] else 100)
     elif len(words) >= 5 and words[0] == 'pair':
         pair([os.path.abspath(word) for word in words[1:3]], int(words[3]), words[4:], CLASSES)
     elif len(words) >= 3 and words[0] == 'compare':

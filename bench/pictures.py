@@ -182,10 +182,11 @@ def growth():
     head, rows = table_rows('growth')
     families = list(dict.fromkeys(row[0] for row in rows))
     body = [f'<text x="{60 + 100 * i}" y="16" fill="{COLORS[i]}">{family}</text>' for i, family in enumerate(families)]
-    for k, class_word in enumerate(head[4:8]):
+    classes = head[4:-1]
+    for k, class_word in enumerate(classes):
         points = [(int(row[2].replace(',', '')), float(row[4 + k]), COLORS[families.index(row[0])], 'dot') for row in rows]
         body += panel(60 + 370 * (k % 2), 50 + 270 * (k // 2), class_word, 'states', (1.3, 3.7), points)
-    save('growth', svg_of(740, 570, body))
+    save('growth', svg_of(740, 30 + 270 * ((len(classes) + 1) // 2), body))
 
 
 def region():

@@ -71,8 +71,7 @@ def star(n):
 
 def turns(n):
     """Twelve labels in turn, one word of so many letters."""
-    labels = [f'x{i}' for i in range(12)]
-    return [f's{i}' for i in range(n + 1)], labels, [(f's{i}', labels[i % 12], f's{i+1}') for i in range(n)]
+    return path([f'x{i % 12}' for i in range(n)])
 
 
 def prefixes(n):
@@ -88,7 +87,7 @@ def prefixes(n):
 
 def chain(n):
     """So many labels, one after the other."""
-    return [f's{i}' for i in range(n + 1)], [f't{i}' for i in range(n)], [(f's{i}', f't{i}', f's{i+1}') for i in range(n)]
+    return path([f't{i}' for i in range(n)])
 
 
 def ring(n):
@@ -138,6 +137,19 @@ def word(length, labels, seed):
     return log(1, length, labels, seed)
 
 
+def countdown(n):
+    """So many labels in a row, then `work` three times, then `done`: no place with at most two tokens counts to three, so in `2-bounded` the
+    search branches, and each label of the row doubles its tree."""
+    labels = [f't{i}' for i in range(1, n + 1)]
+    return path([*labels, 'work', 'work', 'work', 'done'])
+
+
+def path(steps):
+    """The labels of a run, one after the other."""
+    labels = list(dict.fromkeys(steps))
+    return [f's{i}' for i in range(len(steps) + 1)], labels, [(f's{i}', t, f's{i+1}') for i, t in enumerate(steps)]
+
+
 def halves(n):
     """So many levels of two arcs and a shortcut by a fresh label, and a third more levels of three arcs and a shortcut: with 42, many problems
     show a number out of range, and a place that is kept separates each of them in the end."""
@@ -158,7 +170,7 @@ def halves(n):
 
 
 FAMILIES = {'grid': grid, 'doubling': doubling, 'lock': lock, 'philosophers': philosophers, 'star': star, 'turns': turns, 'prefixes': prefixes,
-            'chain': chain, 'ring': ring, 'rings': rings, 'halves': halves, 'torus': torus, 'log': log, 'word': word}
+            'chain': chain, 'ring': ring, 'rings': rings, 'halves': halves, 'torus': torus, 'log': log, 'word': word, 'countdown': countdown}
 
 
 # ---- texts
