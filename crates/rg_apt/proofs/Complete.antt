@@ -8,16 +8,16 @@ use Rattle.rg_lexer.specs.declared.token.Kind.TheVariants.{Name, Word, Text, Lef
 use Rattle.rg_grammar.specs.Entry.{IsEntry, IsWord}
 use Rattle.rg_grammar.specs.declared.list_position.ListPosition.TheVariants.{FirstKey}
 use Rattle.rg_grammar.specs.Grammar.{leads_all}
-use Rattle.rg_grammar.proofs.Complete.{Tail, tail_of_more, tail_more, After, after_of_more, after_of_list, entry_more, ListCompletes, list_token_in, same_bytes, other_bytes}
+use Rattle.rg_grammar.proofs.Complete.{Tail, tail_of_more, tail_more, After, after_of_more, after_of_list, entry_more, ListCompletes, list_token_in, pair_items, section_items, same_bytes, other_bytes}
 use Rattle.rg_grammar.proofs.Complete as complete
-use Rattle.rg_apt.specs.Item.{Triple, Item, IsTriple, AreItems, IsOtherWord, IsTypeName}
+use Rattle.rg_apt.specs.Item.{Triple, Item, IsTriple, IsItem, IsOtherWord, IsTypeName}
 use Rattle.rg_apt.specs.Item as item
 use Rattle.rg_apt.specs.Table.{Section, States, Labels, Arcs, Position, Start, TypeName, PassedText, InSection, AfterEntry, Second, Third, InList, leads_by, after_word, after_name, is_type_name, may_end}
 use Rattle.rg_apt.specs.Reading.{system_grammar}
 
 -- items, to the end
 abbrev pub Items : List Lexeme → Type 0
-Items xs = (items : List Item) × AreItems items xs
+Items xs = complete.Items IsItem xs
 
 -- the rest of a section, and items
 abbrev TailOf : Section → List Lexeme → Type 0
@@ -52,21 +52,6 @@ name_more Labels x xs kind go = entry_more Items x xs kind go
 name_more Arcs x xs kind go = go kind
 
 -- words
-typed_items : (word name : Lexeme) (xs : List Lexeme) → IsWord (codes ".type") word → IsTypeName name → Items xs → Items (word ∷ name ∷ xs)
-typed_items word name xs w n items = (item.type name ∷ items.0, (word ∷ name ∷ [], xs, (word, w, n, refl), items.1, refl))
-
-other_items : (word text : Lexeme) (xs : List Lexeme) → IsOtherWord word → text.kind ≡ Text → Items xs → Items (word ∷ text ∷ xs)
-other_items word text xs w t items = (item.other ∷ items.0, (word ∷ text ∷ [], xs, (word, text, w, t, refl), items.1, refl))
-
-states_items : (word : Lexeme) (xs : List Lexeme) → IsWord (codes ".states") word → TailOf States xs → Items (word ∷ xs)
-states_items word xs w tail = (item.states tail.2.0 ∷ tail.3.0, (word ∷ tail.0, tail.1, (word, tail.0, w, tail.2.1, refl), tail.3.1, ap (λ l. word ∷ l) tail.4))
-
-labels_items : (word : Lexeme) (xs : List Lexeme) → IsWord (codes ".labels") word → TailOf Labels xs → Items (word ∷ xs)
-labels_items word xs w tail = (item.labels tail.2.0 ∷ tail.3.0, (word ∷ tail.0, tail.1, (word, tail.0, w, tail.2.1, refl), tail.3.1, ap (λ l. word ∷ l) tail.4))
-
-arcs_items : (word : Lexeme) (xs : List Lexeme) → IsWord (codes ".arcs") word → TailOf Arcs xs → Items (word ∷ xs)
-arcs_items word xs w tail = (item.arcs tail.2.0 ∷ tail.3.0, (word ∷ tail.0, tail.1, (word, tail.0, w, tail.2.1, refl), tail.3.1, ap (λ l. word ∷ l) tail.4))
-
 word_items : (word : Lexeme) (xs : List Lexeme) → word.kind ≡ Word → Completes (after_word word.text) xs → Items (word ∷ xs)
 word_items word xs kind = by (bytes_eq t (codes ".type")) (bytes_eq t (codes ".states")) (bytes_eq t (codes ".labels")) (bytes_eq t (codes ".arcs")) refl refl refl refl
   where
@@ -76,9 +61,9 @@ word_items word xs kind = by (bytes_eq t (codes ".type")) (bytes_eq t (codes ".s
     by : (a b c d : Bool) → bytes_eq t (codes ".type") ≡ a → bytes_eq t (codes ".states") ≡ b → bytes_eq t (codes ".labels") ≡ c → bytes_eq t (codes ".arcs") ≡ d
         → Completes (cond a TypeName (cond b (InSection States) (cond c (InSection Labels) (cond d (InSection Arcs) PassedText)))) xs → Items (word ∷ xs)
     by true b c d e f g h go = go word (kind, same_bytes t (codes ".type") e)
-    by false true c d e f g h go = states_items word xs (kind, same_bytes t (codes ".states") f) go
-    by false false true d e f g h go = labels_items word xs (kind, same_bytes t (codes ".labels") g) go
-    by false false false true e f g h go = arcs_items word xs (kind, same_bytes t (codes ".arcs") h) go
+    by false true c d e f g h go = section_items IsEntry IsItem item.states word xs (λ things rest are. (word, rest, (kind, same_bytes t (codes ".states") f), are, refl)) go
+    by false false true d e f g h go = section_items IsEntry IsItem item.labels word xs (λ things rest are. (word, rest, (kind, same_bytes t (codes ".labels") g), are, refl)) go
+    by false false false true e f g h go = section_items IsTriple IsItem item.arcs word xs (λ things rest are. (word, rest, (kind, same_bytes t (codes ".arcs") h), are, refl)) go
     by false false false false e f g h go = go word (record {
       kind = kind;
       no_type = other_bytes t (codes ".type") e;
@@ -99,14 +84,14 @@ led : (to q : Position Lexeme) (xs : List Lexeme) → Some to ≡ Some q → Com
 led to q xs e go = let same : to ≡ q = cc in subst (λ p. Completes p xs) (sym same) go
 
 type_more : (x : Lexeme) (xs : List Lexeme) (q : Position Lexeme) (b : Bool) → is_type_name x.text ≡ b → x.kind ≡ Name → cond b (Some Start) None ≡ Some q → Completes q xs → Completes TypeName (x ∷ xs)
-type_more x xs q true e kind lead go = λ word w. typed_items word x xs w (type_name_is x kind e) (led Start q xs lead go)
+type_more x xs q true e kind lead go = λ word w. pair_items IsItem (item.type x) word x xs (word, w, type_name_is x kind e, refl) (led Start q xs lead go)
 type_more x xs q false e kind lead go = absurd cc
 
 -- one token and what completes the position after it
 token_more : (p : Position Lexeme) (x : Lexeme) (xs : List Lexeme) (k : Kind) (q : Position Lexeme) → x.kind ≡ k → leads_by p k x ≡ Some q → Completes q xs → Completes p (x ∷ xs)
 token_more Start x xs Word q kind lead go = word_items x xs kind (led (after_word x.text) q xs lead go)
 token_more TypeName x xs Name q kind lead go = type_more x xs q (is_type_name x.text) refl kind lead go
-token_more PassedText x xs Text q kind lead go = λ word w. other_items word x xs w kind (led Start q xs lead go)
+token_more PassedText x xs Text q kind lead go = λ word w. pair_items IsItem item.other word x xs (word, x, w, kind, refl) (led Start q xs lead go)
 token_more (InSection s) x xs Name q kind lead go = name_more s x xs kind (led (after_name s x) q xs lead go)
 token_more (InSection s) x xs Word q kind lead go = tail_of_items s (x ∷ xs) (word_items x xs kind (led (after_word x.text) q xs lead go))
 token_more (AfterEntry s) x xs Name q kind lead go = after_of_more (TailOf s) (x ∷ xs) (name_more s x xs kind (led (after_name s x) q xs lead go))

@@ -174,6 +174,21 @@ entry_more More name xs kind a =
     let entry : Entry = record { name = name; settings = a.0 } in
     tail_more IsEntry More entry (name ∷ a.1) a.2 (name ∷ xs) (kind, (a.1, a.3, refl)) (ap (λ l. name ∷ l) a.5) a.4
 
+-- items, to the end
+abbrev pub Items : {I : Type 0} → (I → List Lexeme → Type 0) → List Lexeme → Type 0
+Items {I} IsItem xs = (items : List I) × AreEach IsItem items xs
+
+-- an item of two tokens more
+pub pair_items : {I : Type 0} (IsItem : I → List Lexeme → Type 0) (item : I) (word x : Lexeme) (xs : List Lexeme) → IsItem item (word ∷ x ∷ [])
+    → Items IsItem xs → Items IsItem (word ∷ x ∷ xs)
+pair_items IsItem item word x xs is items = (item ∷ items.0, (word ∷ x ∷ [], xs, is, items.1, refl))
+
+-- a section more: its word, and things of one sort
+pub section_items : {X I : Type 0} (Is : X → List Lexeme → Type 0) (IsItem : I → List Lexeme → Type 0) (section : List X → I) (word : Lexeme) (xs : List Lexeme)
+    → ((things : List X) (rest : List Lexeme) → AreEach Is things rest → IsItem (section things) (word ∷ rest)) → Tail Is (Items IsItem) xs → Items IsItem (word ∷ xs)
+section_items Is IsItem section word xs is tail =
+    (section tail.2.0 ∷ tail.3.0, (word ∷ tail.0, tail.1, is tail.2.0 tail.0 tail.2.1, tail.3.1, ap (λ l. word ∷ l) tail.4))
+
 -- texts of words
 pub same_bytes : (a b : List ℕ) → bytes_eq a b ≡ true → a ≡ b
 same_bytes a b e = (bytes_eq-Decides a b).0 e

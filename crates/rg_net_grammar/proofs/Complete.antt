@@ -10,9 +10,9 @@ use Rattle.rg_lexer.specs.declared.token.Kind.TheVariants.{Name, Word, Text, Lef
 use Rattle.rg_grammar.specs.Entry.{IsEntry, IsWord}
 use Rattle.rg_grammar.specs.declared.list_position.ListPosition.TheVariants.{FirstKey}
 use Rattle.rg_grammar.specs.Grammar.{leads_all}
-use Rattle.rg_grammar.proofs.Complete.{Tail, tail_of_more, tail_more, Things, SomeThings, no_things, some_things, close_more, comma_more, Enclosed, enclosed, After, after_of_more, after_of_list, entry_more, ListCompletes, list_token_in, same_bytes, other_bytes}
+use Rattle.rg_grammar.proofs.Complete.{Tail, tail_of_more, tail_more, Things, SomeThings, no_things, some_things, close_more, comma_more, Enclosed, enclosed, After, after_of_more, after_of_list, entry_more, ListCompletes, list_token_in, pair_items, section_items, same_bytes, other_bytes}
 use Rattle.rg_grammar.proofs.Complete as complete
-use Rattle.rg_net_grammar.specs.Item.{Member, Flow, Item, IsNumber, IsMember, IsFlow, AreItems, IsOtherWord, IsTypeName}
+use Rattle.rg_net_grammar.specs.Item.{Member, Flow, Item, IsNumber, IsMember, IsFlow, IsItem, IsOtherWord, IsTypeName}
 use Rattle.rg_net_grammar.specs.Item as item
 use Rattle.rg_net_grammar.specs.Table.{Places, Transitions, Side, Pre, Post, Marking, SetPosition, FirstMember, NextMember, AfterName, AfterStar, AfterMember, Position}
 use Rattle.rg_net_grammar.specs.Table.{Start, TypeName, PassedText, InSection, AfterEntry, InList, InFlows, AfterFlowName, BeforeSet, InSet, AfterPre}
@@ -21,7 +21,7 @@ use Rattle.rg_net_grammar.specs.Reading.{net_grammar}
 
 -- items, to the end
 abbrev pub Items : List Lexeme → Type 0
-Items xs = (items : List Item) × AreItems items xs
+Items xs = complete.Items IsItem xs
 
 -- the rest of a section, and items
 abbrev Entries : List Lexeme → Type 0
@@ -124,21 +124,6 @@ flow_more name colon xs name_kind colon_kind first =
     second.4
 
 -- words
-typed_items : (word name : Lexeme) (xs : List Lexeme) → IsWord (codes ".type") word → IsTypeName name → Items xs → Items (word ∷ name ∷ xs)
-typed_items word name xs w n items = (item.type name ∷ items.0, (word ∷ name ∷ [], xs, (word, w, n, refl), items.1, refl))
-
-other_items : (word text : Lexeme) (xs : List Lexeme) → IsOtherWord word → text.kind ≡ Text → Items xs → Items (word ∷ text ∷ xs)
-other_items word text xs w t items = (item.other ∷ items.0, (word ∷ text ∷ [], xs, (word, text, w, t, refl), items.1, refl))
-
-places_items : (word : Lexeme) (xs : List Lexeme) → IsWord (codes ".places") word → Entries xs → Items (word ∷ xs)
-places_items word xs w tail = (item.places tail.2.0 ∷ tail.3.0, (word ∷ tail.0, tail.1, (word, tail.0, w, tail.2.1, refl), tail.3.1, ap (λ l. word ∷ l) tail.4))
-
-transitions_items : (word : Lexeme) (xs : List Lexeme) → IsWord (codes ".transitions") word → Entries xs → Items (word ∷ xs)
-transitions_items word xs w tail = (item.transitions tail.2.0 ∷ tail.3.0, (word ∷ tail.0, tail.1, (word, tail.0, w, tail.2.1, refl), tail.3.1, ap (λ l. word ∷ l) tail.4))
-
-flows_items : (word : Lexeme) (xs : List Lexeme) → IsWord (codes ".flows") word → Flows xs → Items (word ∷ xs)
-flows_items word xs w tail = (item.flows tail.2.0 ∷ tail.3.0, (word ∷ tail.0, tail.1, (word, tail.0, w, tail.2.1, refl), tail.3.1, ap (λ l. word ∷ l) tail.4))
-
 marking_items : (word : Lexeme) (xs : List Lexeme) → IsWord (codes ".initial_marking") word → SetAnd Items xs → Items (word ∷ xs)
 marking_items word xs w set = (item.marking set.0 ∷ set.4.0, (word ∷ set.1, set.2, (word, set.1, w, set.3, refl), set.4.1, ap (λ l. word ∷ l) set.5))
 
@@ -153,9 +138,9 @@ word_items word xs kind =
         → bytes_eq t (codes ".flows") ≡ d → bytes_eq t (codes ".initial_marking") ≡ e
         → Completes (cond a TypeName (cond b (InSection Places) (cond c (InSection Transitions) (cond d InFlows (cond e (BeforeSet Marking) PassedText))))) xs → Items (word ∷ xs)
     by true b c d e f g h i j go = go word (kind, same_bytes t (codes ".type") f)
-    by false true c d e f g h i j go = places_items word xs (kind, same_bytes t (codes ".places") g) go
-    by false false true d e f g h i j go = transitions_items word xs (kind, same_bytes t (codes ".transitions") h) go
-    by false false false true e f g h i j go = flows_items word xs (kind, same_bytes t (codes ".flows") i) go
+    by false true c d e f g h i j go = section_items IsEntry IsItem item.places word xs (λ things rest are. (word, rest, (kind, same_bytes t (codes ".places") g), are, refl)) go
+    by false false true d e f g h i j go = section_items IsEntry IsItem item.transitions word xs (λ things rest are. (word, rest, (kind, same_bytes t (codes ".transitions") h), are, refl)) go
+    by false false false true e f g h i j go = section_items IsFlow IsItem item.flows word xs (λ things rest are. (word, rest, (kind, same_bytes t (codes ".flows") i), are, refl)) go
     by false false false false true f g h i j go = marking_items word xs (kind, same_bytes t (codes ".initial_marking") j) go
     by false false false false false f g h i j go = go word (record {
       kind = kind;
@@ -174,14 +159,14 @@ type_name_is name kind e = (
 )
 
 type_more : (x : Lexeme) (xs : List Lexeme) (q : Position Lexeme) (b : Bool) → is_type_name x.text ≡ b → x.kind ≡ Name → cond b (Some Start) None ≡ Some q → Completes q xs → Completes TypeName (x ∷ xs)
-type_more x xs q true e kind lead go = λ word w. typed_items word x xs w (type_name_is x kind e) (led Start q xs lead go)
+type_more x xs q true e kind lead go = λ word w. pair_items IsItem (item.type x) word x xs (word, w, type_name_is x kind e, refl) (led Start q xs lead go)
 type_more x xs q false e kind lead go = absurd cc
 
 -- one token and what completes the position after it
 token_more : (p : Position Lexeme) (x : Lexeme) (xs : List Lexeme) (k : Kind) (q : Position Lexeme) → x.kind ≡ k → leads_by p k x ≡ Some q → Completes q xs → Completes p (x ∷ xs)
 token_more Start x xs Word q kind lead go = word_items x xs kind (led (after_word x.text) q xs lead go)
 token_more TypeName x xs Name q kind lead go = type_more x xs q (is_type_name x.text) refl kind lead go
-token_more PassedText x xs Text q kind lead go = λ word w. other_items word x xs w kind (led Start q xs lead go)
+token_more PassedText x xs Text q kind lead go = λ word w. pair_items IsItem item.other word x xs (word, x, w, kind, refl) (led Start q xs lead go)
 token_more (InSection s) x xs Name q kind lead go = entry_more Items x xs kind (led (AfterEntry s) q xs lead go)
 token_more (InSection s) x xs Word q kind lead go = tail_of_more IsEntry Items (x ∷ xs) (word_items x xs kind (led (after_word x.text) q xs lead go))
 token_more (AfterEntry s) x xs Name q kind lead go = after_of_more Entries (x ∷ xs) (entry_more Items x xs kind (led (AfterEntry s) q xs lead go))
