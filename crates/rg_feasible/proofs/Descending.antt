@@ -3,7 +3,6 @@ use Rattle.std.proofs.Common.{ℕ, ◌<◌, List, reverse, subst, sym}
 use Rattle.rg_linear.specs.System.{LinearSystem}
 use Rattle.rg_linear.specs.Dictionary.{IsFree}
 use Rattle.rg_linear.specs.Descent.{Outcome.wide, DescentFromStart}
-use Rattle.rg_linear.specs.Stack.{limit}
 use Rattle.rg_linear.proofs.Stacks.{step_wide}
 use Rattle.rg_linear.proofs.Descending.{LeadsOn}
 use Rattle.rg_feasible.specs.declared.settled.PivotWide.{PivotWide}

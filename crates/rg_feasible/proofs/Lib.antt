@@ -6,7 +6,6 @@ pub mod RowTerms
 pub mod RowNumbers
 pub mod Exchanges
 pub mod Storing
-pub mod Sparse
 pub mod Choosing
 pub mod Descending
 pub mod Shown

@@ -23,9 +23,9 @@ use Rattle.rg_linear.specs.Exchange.{without, exchanged, renewed, turned, IsRedu
 use Rattle.rg_linear.specs.Table.{numbers_of, index_for}
 use Rattle.rg_linear.proofs.Members.{differs, same, equal_or_not, is_member, exchanged-Contains}
 use Rattle.rg_linear.proofs.TableLemmas.{put_in-split}
-use Rattle.rg_feasible.specs.Renewal.{IsSigned, IsRenewed, IsTurned, moved, renewal_term}
+use Rattle.rg_feasible.specs.Renewal.{IsSigned, IsRenewed, IsTurned, moved, index_term, renewal_term}
 use Rattle.rg_linear.proofs.MemberIndices.{gone, member_at, distinct}
-use Rattle.rg_feasible.proofs.Renewing.{low_term, index_low, index_high, term_low, term_high, term_last}
+use Rattle.rg_feasible.proofs.Renewing.{index_low, index_high, index_last, term_low, term_high, term_last}
 use Rattle.rg_feasible.proofs.RowTerms.{length-numbers, number_shown, signed_number, signed_leaving, signed_member}
 
 -- ---- the set with the pivot at the index of the member that leaves
@@ -65,11 +65,11 @@ last_value : (q h l : ℤ) → (pos 0 *ℤ q) -ℤ (neg_ℤ h *ℤ l) ≡ h *ℤ
 last_value q h l = simp ring (omega (arith, ints))
 
 -- the value of the term of each index but that of the member that leaves
-renewed_at : (pivot row raw : List ℤ) (p n : ℕ) → 1 < p → p < length row → IsRenewed pivot row raw p → 0 < n → n < length row → n ≢ p → number_at raw n ≡ term_value (low_term pivot row p n)
+renewed_at : (pivot row raw : List ℤ) (p n : ℕ) → 1 < p → p < length row → IsRenewed pivot row raw p → 0 < n → n < length row → n ≢ p → number_at raw n ≡ term_value (index_term pivot row p n)
 renewed_at pivot row raw p zero after inside r more lt ne = absurd (omega arith)
 renewed_at pivot row raw p (suc e) after inside r more lt ne = ⊎_elim
-    (λ less. ap (number_at raw) (sym (index_low p (suc e) less)) ∙ r.values (suc e) (omega arith) ∙ ap term_value (term_low pivot row p (suc e) (omega arith) less inside))
-    (λ past. ap (number_at raw) (sym (index_high p e (omega arith))) ∙ r.values e lt ∙ ap term_value (term_high pivot row p e (omega arith) (omega arith) lt))
+    (λ less. ap (number_at raw) (sym (index_low (length row) p (suc e) less inside)) ∙ r.values (suc e) (omega arith) ∙ ap term_value (term_low pivot row p (suc e) (omega arith) less inside))
+    (λ past. ap (number_at raw) (sym (index_high (length row) p e (omega arith) lt)) ∙ r.values e (omega arith) ∙ ap term_value (term_high pivot row p e (omega arith) (omega arith) lt))
     (cases_lt (suc e) p)
 
 module _ (members : List ℕ) (k : Relation) (s : List ℤ) (i q : ℕ) (lt : q < length members) (signed : IsSigned (numbers_of members k) s (suc (suc q))) (outside : ¬ Contains members i) where
@@ -83,11 +83,11 @@ module _ (members : List ℕ) (k : Relation) (s : List ℤ) (i q : ℕ) (lt : q 
       below = omega (arith, length-numbers members l)
 
       d : number_at raw 0 ≡ l.d *ℤ size (k.coefficient (get_or members q 0))
-      d = ap (number_at raw) (sym (index_low (suc (suc q)) 0 (omega arith))) ∙ r.values 0 (omega (arith, length-numbers members l))
+      d = ap (number_at raw) (sym (index_low (length (numbers_of members l)) (suc (suc q)) 0 (omega arith) below)) ∙ r.values 0 (omega (arith, length-numbers members l))
           ∙ first_value l.d (number_at s (suc (suc q))) ∙ ap (λ (z : ℤ). l.d *ℤ z) (signed_leaving members k s q signed lt)
 
       value : (a x : ℤ) (n : ℕ) → number_at (numbers_of members l) n ≡ a → number_at s n ≡ x
-          → term_value (low_term s (numbers_of members l) (suc (suc q)) n) ≡ (a *ℤ size (k.coefficient (get_or members q 0))) -ℤ (x *ℤ l.coefficient (get_or members q 0))
+          → term_value (index_term s (numbers_of members l) (suc (suc q)) n) ≡ (a *ℤ size (k.coefficient (get_or members q 0))) -ℤ (x *ℤ l.coefficient (get_or members q 0))
       value a x n ea ex = ap₂ (λ (y z : ℤ). y -ℤ z) (ap₂ ◌*ℤ◌ ea (signed_leaving members k s q signed lt)) (ap₂ ◌*ℤ◌ ex (number_shown members l q lt))
 
       constant : number_at raw 1 ≡ (l.constant *ℤ size (k.coefficient (get_or members q 0))) -ℤ ((sign (k.coefficient (get_or members q 0)) *ℤ k.constant) *ℤ l.coefficient (get_or members q 0))
@@ -101,7 +101,8 @@ module _ (members : List ℕ) (k : Relation) (s : List ℤ) (i q : ℕ) (lt : q 
           ∙ ap₂ ◌*ℤ◌ (signed_number members k s q 0 signed lt (omega arith)) (number_shown members l q lt)
 
       at_q : number_at raw (suc (suc q)) ≡ (renewed k i (get_or members q 0) l).coefficient i
-      at_q = r.last ∙ final ∙ rw (same i) refl
+      at_q = ap (number_at raw) (sym (index_last (length (numbers_of members l)) (suc (suc q)) (length (numbers_of members l) - 1) (omega arith)))
+          ∙ r.values (length (numbers_of members l) - 1) (omega arith) ∙ final ∙ rw (same i) refl
 
       others : (m : ℕ) → m < length members → m ≢ q → number_at raw (suc (suc m)) ≡ (renewed k i (get_or members q 0) l).coefficient (get_or members m 0)
       others m inside ne = renewed_at s (numbers_of members l) raw (suc (suc q)) (suc (suc m)) (omega arith) below r (omega arith) (omega (arith, length-numbers members l)) (λ e. ne (omega arith))

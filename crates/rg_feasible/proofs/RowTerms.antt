@@ -14,9 +14,9 @@ use Rattle.rg_integers.specs.declared.term.Wide.{Wide}
 use Rattle.rg_linear.specs.Dictionary.{Relation}
 use Rattle.rg_linear.specs.Exchange.{terms}
 use Rattle.rg_linear.specs.Table.{numbers_of}
-use Rattle.rg_feasible.specs.Renewal.{IsSigned, renewal_term}
+use Rattle.rg_feasible.specs.Renewal.{IsSigned, index_term, renewal_term}
 use Rattle.rg_linear.proofs.MemberIndices.{gone}
-use Rattle.rg_feasible.proofs.Renewing.{low_term, term_low, term_high, term_last}
+use Rattle.rg_feasible.proofs.Renewing.{term_low, term_high, term_last}
 
 -- ---- the numbers of a relation
 
@@ -93,10 +93,10 @@ module _ (members : List ℕ) (k l : Relation) (s : List ℤ) (q : ℕ) (ordered
   rest n = ap (λ ns. slice_get (map (middle members k l q) ns ++ final members k l q ∷ []) n) (gone members q ordered lt)
 
   member_term : (m e : ℕ) → m < length members → l.coefficient (get_or members m 0) ≡ number_at (numbers_of members l) (suc (suc m))
-      → middle members k l q (get_or members m 0) ≡ low_term s (numbers_of members l) (suc (suc q)) (suc (suc m))
+      → middle members k l q (get_or members m 0) ≡ index_term s (numbers_of members l) (suc (suc q)) (suc (suc m))
   member_term m e inside is = same_term _ _ _ _ _ _ _ _ is leaving_size (sym (signed_member members k s q m signed lt inside)) leaving_number
 
-  shown : (m : ℕ) → m < length members → middle members k l q (get_or members m 0) ≡ low_term s (numbers_of members l) (suc (suc q)) (suc (suc m))
+  shown : (m : ℕ) → m < length members → middle members k l q (get_or members m 0) ≡ index_term s (numbers_of members l) (suc (suc q)) (suc (suc m))
   shown m inside = member_term m m inside (sym (number_shown members l m inside))
 
   before : (n : ℕ) → n < length (remove members q) → n < q

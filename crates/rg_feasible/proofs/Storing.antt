@@ -49,10 +49,10 @@ columns_listed f xs n size each = ext_get_or (pos 0) xs (map f (numbers_from 0 n
 abbrev fresh : ℕ → ℕ → List ℕ → List ℤ → Contents
 fresh columns rows members table = record { columns = columns; rows = 0; room = rows; members = members; table = table }
 
-pub stored_fresh : (columns rows capacity indices : ℕ) (members : List ℕ) (table pivot_row : List ℤ) → columns + rows < 2 ^ 32
+pub stored_fresh : (columns rows capacity : ℕ) (members : List ℕ) (table pivot_row : List ℤ) → columns + rows < 2 ^ 32
     → members ≡ numbers_from 0 columns → length table ≡ columns * (columns + 2) → RowInRange table
-    → (columns + rows) * (columns + 2) ≤ capacity → length pivot_row ≡ columns + 2 → length pivot_row ≤ indices → IsStored (fresh columns rows members table) capacity pivot_row indices
-stored_fresh columns rows capacity indices members table pivot_row few is size fits space width listed = record {
+    → (columns + rows) * (columns + 2) ≤ capacity → length pivot_row ≡ columns + 2 → IsStored (fresh columns rows members table) capacity pivot_row
+stored_fresh columns rows capacity members table pivot_row few is size fits space width = record {
   few = omega arith;
   count = ap length is ∙ length-numbers_from 0 columns;
   ordered = subst IsStrictlyIncreasing (sym is) (numbers_from-ordered 0 columns);
@@ -61,7 +61,6 @@ stored_fresh columns rows capacity indices members table pivot_row few is size f
   in_range = fits;
   space = subst (λ n. (n + rows) * (columns + 2) ≤ capacity) (none columns) space;
   width = width;
-  indices = listed;
 }
   where
     none : (n : ℕ) → n ≡ n + 0
@@ -223,12 +222,12 @@ module _ (system : LinearSystem) (columns rows room room' : ℕ) (members : List
 
 -- ---- after an exchange
 
-pub stored_exchanged : (old new : Contents) (capacity i q to indices indices' : ℕ) (pivot_row written : List ℤ)
-    → IsStored old capacity pivot_row indices → new.columns ≡ old.columns → new.rows ≡ old.rows → new.room ≡ old.room
+pub stored_exchanged : (old new : Contents) (capacity i q to : ℕ) (pivot_row written : List ℤ)
+    → IsStored old capacity pivot_row → new.columns ≡ old.columns → new.rows ≡ old.rows → new.room ≡ old.room
     → new.members ≡ insert (remove old.members q) to i → new.members ≡ exchanged old.members i (get_or old.members q 0) → i < old.columns + old.rows
     → ¬ Contains old.members i → q < length old.members → to < length old.members
-    → length new.table ≡ length old.table → RowInRange new.table → length written ≡ length pivot_row → indices ≤ indices' → IsStored new capacity written indices'
-stored_exchanged old new capacity i q to indices indices' pivot_row written h columns rows room is members below outside lt inside size fits width more = record {
+    → length new.table ≡ length old.table → RowInRange new.table → length written ≡ length pivot_row → IsStored new capacity written
+stored_exchanged old new capacity i q to pivot_row written h columns rows room is members below outside lt inside size fits width = record {
   few = rw (columns, rows, room) h.few;
   count = ap length is ∙ count ∙ h.count ∙ sym columns;
   ordered = subst IsStrictlyIncreasing (sym members) (exchanged-ordered i (get_or old.members q 0) old.members h.ordered outside);
@@ -237,7 +236,6 @@ stored_exchanged old new capacity i q to indices indices' pivot_row written h co
   in_range = fits;
   space = rw (columns, rows, room) h.space;
   width = width ∙ h.width ∙ ap (λ n. n + 2) (sym columns);
-  indices = let before = h.indices in omega arith;
 }
   where
     count : length (insert (remove old.members q) to i) ≡ length old.members

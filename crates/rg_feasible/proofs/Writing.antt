@@ -1,13 +1,11 @@
 -- Rows that are written number by number.
-use Rattle.std.proofs.Common.{◌≡◌, ◌≢◌, ⊎_elim, ℕ, ◌+◌, ◌<◌, ◌≤◌, List, length, subst, sym, ◌∙◌, arith, below_more, get_or-set_other, get_or-set_same}
+use Rattle.std.proofs.Common.{◌≡◌, ◌≢◌, ⊎_elim, ℕ, ◌<◌, List, length, subst, sym, ◌∙◌, arith, get_or-set_other, get_or-set_same}
 use Rattle.std.proofs.Math.ListN.{set, length-set}
 use Rattle.std.specs.Prelude.{ℤ, pos, neg_ℤ}
 use Rattle.rg_linear.proofs.Members.{equal_or_not}
 use Rattle.rg_integers.specs.Range.{InRange}
 use Rattle.rg_integers.specs.Sum.{number_at}
-use Rattle.rg_integers.specs.Term.{term_value, FitsTerm}
-use Rattle.rg_linear.proofs.TableRows.{below_set}
-use Rattle.rg_feasible.specs.Renewal.{RowInRange, index_term, RenewsBetween, IsTurned}
+use Rattle.rg_feasible.specs.Renewal.{RowInRange, IsTurned}
 
 -- a number in range is written
 pub in_range-set : (xs : List ℤ) (n : ℕ) (z : ℤ) → RowInRange xs → InRange z → RowInRange (set xs n z)
@@ -21,17 +19,6 @@ in_range-set xs n z all h k lt = ⊎_elim
 
     within : k ≡ n → n < length xs
     within e = omega (arith, inside)
-
--- one more index is renewed
-pub renews_more : (pivot old new : List ℤ) (size leaving : ℤ) (from n : ℕ) (z : ℤ) → RenewsBetween pivot old new size leaving from n → from ≤ n → n < length new
-    → FitsTerm (index_term pivot old size leaving n) → z ≡ term_value (index_term pivot old size leaving n) → RenewsBetween pivot old (set new n z) size leaving from (n + 1)
-renews_more pivot old new size leaving from n z r le lt fits is = record {
-  same_length = length-set new n z ∙ r.same_length;
-  fits = λ k ge less. below_more (λ m. from ≤ m → FitsTerm (index_term pivot old size leaving m)) n (λ m h g. r.fits m g h) (λ g. fits) k less ge;
-  values = λ k ge less. below_set (λ m y. from ≤ m → y ≡ term_value (index_term pivot old size leaving m)) new n z lt (λ m h g. r.values m g h) (λ g. is) k less ge;
-  before = λ k less. let ne : k ≢ n = omega arith in get_or-set_other new n k z (pos 0) ne ∙ r.before k less;
-  after = λ k ge. let ne : k ≢ n = omega arith in get_or-set_other new n k z (pos 0) ne ∙ r.after k (omega arith);
-}
 
 -- the row of negatives, with its first number and that at index p written
 pub turned : (pivot row : List ℤ) (p : ℕ) (x y : ℤ) → length row ≡ length pivot → 1 < p → p < length pivot → ((n : ℕ) → n < length pivot → number_at row n ≡ neg_ℤ (number_at pivot n))

@@ -38,9 +38,8 @@ columns_alone n = record { columns = n; rows = [] }
 abbrev pub with_row : LinearSystem → List ℤ → ℤ → LinearSystem
 with_row system coeffs constant = record { columns = system.columns; rows = system.rows ++ record { coeffs = coeffs; constant = constant } ∷ [] }
 
--- what a dictionary stores: the members rise below the variables, each variable has a row of numbers in range, and there is room for more rows,
--- and for the indices of a row
-pub record IsStored (d : Contents) (capacity : ℕ) (pivot_row : List ℤ) (indices_room : ℕ) : Type 0 where
+-- what a dictionary stores: the members rise below the variables, each variable has a row of numbers in range, and there is room for more rows
+pub record IsStored (d : Contents) (capacity : ℕ) (pivot_row : List ℤ) : Type 0 where
   pub few : d.columns + d.rows + d.room < 2 ^ 32
   pub count : length d.members ≡ d.columns
   pub ordered : IsStrictlyIncreasing d.members
@@ -49,7 +48,6 @@ pub record IsStored (d : Contents) (capacity : ℕ) (pivot_row : List ℤ) (indi
   pub in_range : (n : ℕ) → n < length d.table → InRange (number_at d.table n)
   pub space : (d.columns + d.rows + d.room) * (d.columns + 2) ≤ capacity
   pub width : length pivot_row ≡ d.columns + 2
-  pub indices : length pivot_row ≤ indices_room
 
 -- the same columns, rows and room
 pub record SameShape (old new : Contents) : Type 0 where

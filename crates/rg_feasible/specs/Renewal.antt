@@ -1,8 +1,6 @@
 -- The rows of a table in an exchange, number by number.
-use Rattle.std.specs.Prelude.{◌≡◌, ◌≢◌, ◌↔◌, ℕ, suc, ◌<◌, ◌≤◌, ◌-◌, nat_lt, ◌==◌, if◌then◌else◌, List, length, Contains, ℤ, pos, neg_ℤ, ◌*ℤ◌, FitsSigned}
-use Rattle.std.specs.Int.{w64}
+use Rattle.std.specs.Prelude.{◌≡◌, ◌≢◌, ℕ, suc, ◌<◌, nat_lt, ◌==◌, if◌then◌else◌, List, length, Contains, ℤ, pos, neg_ℤ, ◌*ℤ◌}
 use Rattle.std.specs.List.{insert, remove}
-use Rattle.std.specs.List.Sorted.{IsStrictlyIncreasing}
 use Rattle.rg_integers.specs.Range.{InRange}
 use Rattle.rg_integers.specs.Sign.{sign}
 use Rattle.rg_integers.specs.Sum.{number_at}
@@ -18,63 +16,33 @@ use Rattle.rg_feasible.specs.declared.table.ExchangeWide.{ExchangeWide}
 abbrev pub RowInRange : List ℤ → Type 0
 RowInRange row = (n : ℕ) → n < length row → InRange (number_at row n)
 
--- every number fits 64 bits
-abbrev pub RowIsShort : List ℤ → Type 0
-RowIsShort row = (n : ℕ) → n < length row → FitsSigned w64 (number_at row n)
-
--- those from one index to before another do
-abbrev pub ShortBetween : List ℤ → ℕ → ℕ → Type 0
-ShortBetween row from to = (n : ℕ) → from ≤ n → n < to → FitsSigned w64 (number_at row n)
-
 -- the row of the pivot, with the sign at which its number at index p is positive
 pub record IsSigned (row signed : List ℤ) (p : ℕ) : Type 0 where
   pub same_length : length signed ≡ length row
   pub numbers : (n : ℕ) → n < length row → number_at signed n ≡ sign (number_at row p) *ℤ number_at row n
 
--- the indices of a row at which the number isn't 0, in order, but the first index and index p
-pub record AreNamedIndices (row : List ℤ) (p : ℕ) (indices : List ℕ) : Type 0 where
-  pub ordered : IsStrictlyIncreasing indices
-  pub each : (n : ℕ) → Contains indices n ↔ ((0 < n) × (n < length row) × (n ≢ p) × (number_at row n ≢ pos 0))
+-- the index of term e of a row of so many numbers, where the member that leaves is at index p: the last term is that of the new member, which gets this index
+abbrev pub index_of : ℕ → ℕ → ℕ → ℕ
+index_of width p e = if suc e == width then p else (if nat_lt e p then e else suc e)
 
--- the term of index n, where the pivot's number for the member that leaves is size, and the row's is leaving
-abbrev pub index_term : List ℤ → List ℤ → ℤ → ℤ → ℕ → Wide
-index_term pivot row size leaving n = record { a = number_at row n; b = size; c = number_at pivot n; d = leaving }
+-- the term of index n of a row, by the signed row of the pivot, where the member that leaves is at index p
+abbrev pub index_term : List ℤ → List ℤ → ℕ → ℕ → Wide
+index_term pivot row p n = record { a = number_at row n; b = number_at pivot p; c = number_at pivot n; d = number_at row p }
 
--- the indices from one to before another hold the values of their terms, which fit, and the others are as they were
-pub record RenewsBetween (pivot old new : List ℤ) (size leaving : ℤ) (from to : ℕ) : Type 0 where
-  pub same_length : length new ≡ length old
-  pub fits : (n : ℕ) → from ≤ n → n < to → FitsTerm (index_term pivot old size leaving n)
-  pub values : (n : ℕ) → from ≤ n → n < to → number_at new n ≡ term_value (index_term pivot old size leaving n)
-  pub before : (n : ℕ) → n < from → number_at new n ≡ number_at old n
-  pub after : (n : ℕ) → to ≤ n → number_at new n ≡ number_at old n
-
--- the term of index n is the first from an index on that passes
-pub record FirstBetween (pivot row : List ℤ) (size leaving : ℤ) (from to n : ℕ) (w : Wide) : Type 0 where
-  pub after : from ≤ n
-  pub below : n < to
-  pub is : w ≡ index_term pivot row size leaving n
-  pub passes : FitsTerm w → ⊥
-  pub first : (m : ℕ) → from ≤ m → m < n → FitsTerm (index_term pivot row size leaving m)
-
--- the index of term e, where the member that leaves is at index p: its own index is the last one
-abbrev pub index_of : ℕ → ℕ → ℕ
-index_of p e = if nat_lt e p then e else suc e
-
--- term number e of the renewal of a row of so many numbers, by the signed row of the pivot
+-- term number e of the renewal of a row
 abbrev pub renewal_term : List ℤ → List ℤ → ℕ → ℕ → Wide
 renewal_term pivot row p e =
     if e == 0
     then record { a = number_at row 0; b = number_at pivot p; c = pos 0; d = pos 0 }
     else (if suc e == length row
     then record { a = pos 0; b = number_at pivot p; c = neg_ℤ (number_at pivot 0); d = number_at row p }
-    else index_term pivot row (number_at pivot p) (number_at row p) (index_of p e))
+    else index_term pivot row p (index_of (length row) p e))
 
 -- every term fits, and each index holds the value of its own
 pub record IsRenewed (pivot old new : List ℤ) (p : ℕ) : Type 0 where
   pub same_length : length new ≡ length old
   pub fits : (e : ℕ) → e < length old → FitsTerm (renewal_term pivot old p e)
-  pub values : (e : ℕ) → suc e < length old → number_at new (index_of p e) ≡ term_value (renewal_term pivot old p e)
-  pub last : number_at new p ≡ term_value (renewal_term pivot old p (length old - 1))
+  pub values : (e : ℕ) → e < length old → number_at new (index_of (length old) p e) ≡ term_value (renewal_term pivot old p e)
 
 -- w is term number e, and the first that passes
 pub record FirstOfRow (pivot row : List ℤ) (p e : ℕ) (w : Wide) : Type 0 where

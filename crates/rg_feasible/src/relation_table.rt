@@ -28,7 +28,6 @@ pub struct RelationTable {
     members: Vec<u32>,
     table: Vec<i128>,
     pivot_row: Vec<i128>,
-    named_indices: Vec<usize>,
 }
 
 impl Model for RelationTable {
@@ -39,7 +38,7 @@ impl Model for RelationTable {
 
     ghost view = { λ a. record { columns = a.columns; rows = a.rows; room = a.room; members = a.members.items; table = a.table.items } };
 
-    ghost invariant = { λ a. IsStored (record { columns = a.columns; rows = a.rows; room = a.room; members = a.members.items; table = a.table.items }) (vec_capacity a.table) a.pivot_row.items (vec_capacity a.named_indices) };
+    ghost invariant = { λ a. IsStored (record { columns = a.columns; rows = a.rows; room = a.room; members = a.members.items; table = a.table.items }) (vec_capacity a.table) a.pivot_row.items };
 }
 
 impl RelationTable {
@@ -57,7 +56,6 @@ impl RelationTable {
         table.resize(columns as usize * width, 0i128)?;
         let members = column_numbers(alloc, columns)?;
         let pivot_row = vec![in alloc; 0i128; width]?;
-        let named_indices = Vec::with_capacity(alloc, width)?;
         Ok(RelationTable {
             columns,
             rows: 0,
@@ -65,7 +63,6 @@ impl RelationTable {
             members,
             table,
             pivot_row,
-            named_indices,
         })
     }
 
@@ -186,7 +183,6 @@ impl RelationTable {
             &mut self.table,
             &self.members,
             &mut self.pivot_row,
-            &mut self.named_indices,
             pivot,
             index,
             to,

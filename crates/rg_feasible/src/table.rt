@@ -1,15 +1,15 @@
 //! The rows of the table in an exchange.
 
-ghost use Rattle.std.specs.Prelude.{◌≡◌, ◌≢◌, ◌↔◌, ℕ, ◌+◌, ◌*◌, ◌^◌, ◌<◌, ◌≤◌, IsTrue, vec_capacity, length, Contains, slice_index, pos, MatchResult};
+ghost use Rattle.std.specs.Prelude.{◌≡◌, ◌≢◌, ◌↔◌, ℕ, ◌+◌, ◌*◌, ◌^◌, ◌<◌, ◌≤◌, IsTrue, length, Contains, slice_index, pos, MatchResult};
 ghost use Rattle.std.specs.List.Sorted.{IsStrictlyIncreasing};
 ghost use Rattle.rg_integers.specs.Sum.{number_at};
 ghost use Rattle.rg_linear.specs.System.{LinearSystem, variables as variables_of};
 ghost use Rattle.rg_linear.specs.Dictionary.{IsFree};
 ghost use Rattle.rg_linear.specs.Exchange.{without};
 ghost use Rattle.rg_linear.specs.Table.{IsTable, index_for, row_at};
-ghost use Rattle.rg_feasible.specs.Renewal.{RowInRange, AreNamedIndices, RowsExchanged, FirstWideInRows, IsExchangedTable, FirstWideInTable};
+ghost use Rattle.rg_feasible.specs.Renewal.{RowInRange, RowsExchanged, FirstWideInRows, IsExchangedTable, FirstWideInTable};
 
-use crate::row::{copy_signed, exchange_row, is_short, list_indices, write_leaving};
+use crate::row::{copy_signed, exchange_row, write_leaving};
 use rg_integers::Wide;
 
 /// The first term of an exchange that is out of range: in the new relation of the variable `target`
@@ -60,14 +60,12 @@ pub(crate) fn new_index(members: &[u32], index: usize, pivot: u32) -> usize
 }
 
 /// Returns the rows of all variables but the members and the pivot, over the new set: the member at index `p` of a
-/// row leaves, and the pivot's number comes to index `q`. Else the first term that passes. `indices` are those that
-/// the pivot's row names.
+/// row leaves, and the pivot's number comes to index `q`. Else the first term that passes.
 pub(crate) fn exchange_rows(
     table: &mut [i128],
     members: &[u32],
     pivot: u32,
     pivot_row: &[i128],
-    indices: &[usize],
     p: usize,
     q: usize,
     variables: u32,
@@ -79,14 +77,12 @@ pub(crate) fn exchange_rows(
     requires new_index { q < length pivot_row.now }
     requires short { length pivot_row.now ≤ 2 ^ 32 }
     requires pivot_in_range { RowInRange pivot_row.now }
-    requires named { AreNamedIndices pivot_row.now p indices.now }
     requires in_range { RowInRange table.old }
     ensures rows { MatchResult result (λ _. RowsExchanged members.now pivot (length pivot_row.now) pivot_row.now table.old table.new p q variables)
         (λ e. FirstWideInRows members.now pivot (length pivot_row.now) pivot_row.now table.old p variables e) }
     ensures in_range { RowInRange table.new }
 {
     let width = pivot_row.len();
-    let short = is_short(pivot_row);
     // how many members are below `w`
     let mut next = 0;
     for w in 0..variables {
@@ -94,19 +90,12 @@ pub(crate) fn exchange_rows(
             next += 1;
         } else if w != pivot {
             let start = w as usize * width;
-            match exchange_row(
-                &mut table[start..start + width],
-                pivot_row,
-                indices,
-                p,
-                q,
-                short,
-            ) {
+            match exchange_row(&mut table[start..start + width], pivot_row, p, q) {
                 Ok(()) => {}
                 Err(e) => {
                     return Err(ExchangeWide {
                         target: w,
-                        entry: e.at as u32,
+                        entry: e.entry as u32,
                         wide: e.wide,
                     });
                 }
@@ -117,13 +106,11 @@ pub(crate) fn exchange_rows(
 }
 
 /// Returns the table over the set in which the pivot takes the place of the member at `index`, at index `to` of the
-/// new members; else the first term that passes. `pivot_row` and `indices`, which has room for as many, are to work
-/// in.
+/// new members; else the first term that passes. `pivot_row` is to work in.
 pub(crate) fn exchange_table(
     table: &mut [i128],
     members: &[u32],
     pivot_row: &mut [i128],
-    indices: &mut Vec<usize>,
     pivot: u32,
     index: usize,
     to: usize,
@@ -131,7 +118,6 @@ pub(crate) fn exchange_table(
 ) -> Result<(), ExchangeWide>
     requires size { length table.old ≡ variables * (length members.now + 2) }
     requires width { length pivot_row.old ≡ length members.now + 2 }
-    requires room { length pivot_row.old ≤ vec_capacity indices.old }
     requires ordered { IsStrictlyIncreasing members.now }
     requires within { (k : ℕ) → k < length members.now → slice_index members.now k < variables }
     requires pivot { pivot < variables }
@@ -144,18 +130,15 @@ pub(crate) fn exchange_table(
         → number_at (row_at (length members.now + 2) table.old pivot) (index + 2) ≢ pos 0 → let leaves = slice_index members.now index in
         MatchResult result (λ _. IsExchangedTable system members.now pivot leaves table.new) (λ e. FirstWideInTable system members.now pivot leaves e) }
     ensures in_range { RowInRange table.new }
-    ensures room { vec_capacity indices.old ≤ vec_capacity indices.new }
 {
     let width = pivot_row.len();
     let start = pivot as usize * width;
     copy_signed(&table[start..start + width], pivot_row, index + 2);
-    list_indices(pivot_row, index + 2, indices);
     match exchange_rows(
         table,
         members,
         pivot,
         pivot_row,
-        indices,
         index + 2,
         to + 2,
         variables,

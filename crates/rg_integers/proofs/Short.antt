@@ -1,12 +1,10 @@
 -- Terms of numbers of 64 bits.
-use Rattle.std.proofs.Common.{◌≢◌, ℕ, suc, ◌*◌, ◌≤◌, List, get_or-set_other, subst, sym, arith}
+use Rattle.std.proofs.Common.{suc, ◌*◌, ◌≤◌, arith}
 use Rattle.std.specs.Prelude.{ℤ, pos, negsuc, neg_ℤ, ◌*ℤ◌, ◌-ℤ◌, ◌≤ℤ◌, ◌<ℤ◌, FitsSigned}
 use Rattle.std.specs.Int.{w64}
 use Rattle.std.proofs.lemmas.Int.{ints}
-use Rattle.std.proofs.Math.ListN.{set}
 use Rattle.std.proofs.Math.Nat.{mul-le-mul}
 use Rattle.rg_integers.specs.Range.{InRange, Fits}
-use Rattle.rg_integers.specs.Sum.{number_at}
 
 bounds : (z : ℤ) → FitsSigned w64 z → (neg_ℤ (pos 9223372036854775808) ≤ℤ z) × (z ≤ℤ pos 9223372036854775807)
 bounds z f = (omega (arith, ints), omega (arith, ints))
@@ -48,7 +46,3 @@ short_fits a b c d fa fb fc fd = go (a *ℤ b) (c *ℤ d) (product_bounds a b fa
     go : (x y : ℤ) → (neg_ℤ (pos 85070591730234615865843651857942052864) <ℤ (a *ℤ b)) × ((a *ℤ b) ≤ℤ pos 85070591730234615865843651857942052864)
         → (neg_ℤ (pos 85070591730234615865843651857942052864) <ℤ (c *ℤ d)) × ((c *ℤ d) ≤ℤ pos 85070591730234615865843651857942052864) → Fits a b c d
     go x y p q = let w = within (a *ℤ b) (c *ℤ d) p q in record { left = w.0; right = w.1; difference = w.2 }
-
--- a number behind one that is written
-pub short_behind : (row : List ℤ) (n : ℕ) (z : ℤ) → 1 ≤ n → FitsSigned w64 (number_at row n) → FitsSigned w64 (number_at (set row 0 z) n)
-short_behind row n z ge f = let ne : n ≢ 0 = omega arith in subst (FitsSigned w64) (sym (get_or-set_other row 0 n z (pos 0) ne)) f

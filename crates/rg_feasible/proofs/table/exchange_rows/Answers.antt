@@ -21,10 +21,10 @@ returns-in-Err-clause-rows c =
     let kept : IsKept c.args.members.now c.args.pivot c.loop-w.w = ((λ has. false≢true (sym c.if-stands_at.false ∙ c.stands_at.ensures.1 (found has))), c.if-w-pivot.true) in (
       c.loop-w-test.true,
       first_of_rows c.args.members.now c.args.pivot
-          (length c.args.pivot_row.now) c.args.pivot_row.now c.args.table.now c.loop-w.table c.args.p c.args.q c.loop-w.w c.args.variables c.in-Err.e.at c.in-Err.e.wide
+          (length c.args.pivot_row.now) c.args.pivot_row.now c.args.table.now c.loop-w.table c.args.p c.args.q c.loop-w.w c.args.variables c.in-Err.e.entry c.in-Err.e.wide
           c.loop-w.invariant.rows c.requires.size c.loop-w-test.true kept
           (λ e. h.0 (subst (λ x. number_at x c.args.p ≡ pos 0) (sym is) e))
-          (subst (λ x. FirstOfRow c.args.pivot_row.now x c.args.p c.in-Err.e.at c.in-Err.e.wide) is h.1),
+          (subst (λ x. FirstOfRow c.args.pivot_row.now x c.args.p c.in-Err.e.entry c.in-Err.e.wide) is h.1),
     )
 
 pub returns-in-Err-clause-in_range : goal.returns-in-Err-clause-in_range

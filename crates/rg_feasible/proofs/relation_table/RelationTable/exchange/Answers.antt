@@ -49,8 +49,8 @@ invariant_of-self-2 c =
       members = c.exchange_members.new.members.items;
       table = (with_items c.self.inside.table c.exchange_table.new.table).items;
     })
-    c.self.inside.table.cap c.args.pivot c.args.index c.new_index-to.result _ _ c.self.inside.pivot_row.items _ c.self.invariant refl refl refl c.exchange_members.ensures is out.0 out.1 lt bound
-    (ap length table ∙ size) (subst RowInRange (sym table) c.exchange_table.ensures.in_range) (ap length written ∙ width) c.exchange_table.ensures.room
+    c.self.inside.table.cap c.args.pivot c.args.index c.new_index-to.result c.self.inside.pivot_row.items _ c.self.invariant refl refl refl c.exchange_members.ensures is out.0 out.1 lt bound
+    (ap length table ∙ size) (subst RowInRange (sym table) c.exchange_table.ensures.in_range) (ap length written ∙ width)
 
 pub returns-clause-exact : goal.returns-clause-exact
 returns-clause-exact c = λ system d.

@@ -37,8 +37,8 @@ invariant_of-self-2 c =
     (λ n. (c.self.inside.columns + c.max-room.result) * n ≤ vec_capacity c.truncate.new.self) (width_is c)
     (let r = (c.in_ok-make_room.ensures {u = tt}).room in let e = c.truncate.ensures.capacity in omega arith) in
     stored_fresh c.self.inside.columns c.max-room.result (vec_capacity c.truncate.new.self)
-    (vec_capacity c.self.inside.named_indices) _ c.truncate.new.self.items c.self.inside.pivot_row.items few
-    (members_are c) fits.0 fits.1 space c.self.invariant.width c.self.invariant.indices
+    _ c.truncate.new.self.items c.self.inside.pivot_row.items few
+    (members_are c) fits.0 fits.1 space c.self.invariant.width
 
 pub returns-clause-system : goal.returns-clause-system
 returns-clause-system c =
