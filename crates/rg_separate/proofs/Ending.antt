@@ -23,7 +23,6 @@ use Rattle.rg_outcome.proofs.Placed.{placed_separates}
 use Rattle.rg_blocks.specs.Separating.{EachPlaceSeparates, ShowsEnd, EndsSearch}
 use Rattle.rg_case_parts.specs.declared.setting.Setting.{Setting}
 use Rattle.rg_case_parts.specs.SettingViews.{shown_setting}
-use Rattle.rg_separate.specs.declared.problem.ProblemAnswer.{ProblemAnswer}
 use Rattle.rg_separate.specs.declared.problem.ProblemAnswer.TheVariants as answer
 use Rattle.rg_separate.specs.View.{shown_of}
 use Rattle.rg_separate.specs.Passing.{cycle_passed}

@@ -1,5 +1,5 @@
 -- A search that begins with regions refutes what the one that begins without a place does.
-use Rattle.std.proofs.Common.{◌≡◌, ◌↔◌, List, All, get_or, None, refl, sym, subst}
+use Rattle.std.proofs.Common.{List, All, get_or, refl, sym, subst}
 use Rattle.rg_theory.specs.System.{System, IsInRange, IsAllReachable}
 use Rattle.rg_theory.specs.Net.{Place}
 use Rattle.rg_theory.specs.Region.{IsRegion, IsRegionIn}

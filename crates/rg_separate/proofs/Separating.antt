@@ -1,5 +1,5 @@
 -- What the search comes to.
-use Rattle.std.proofs.Common.{◌≤◌, List, length, get_or, All, Result, Ok, Err, IfOk, subst, arith}
+use Rattle.std.proofs.Common.{◌≤◌, List, get_or, All, Result, Ok, Err, IfOk, subst, arith}
 use Rattle.rg_theory.specs.System.{System, IsAllReachable}
 use Rattle.rg_theory.specs.declared.Class.{Class}
 use Rattle.rg_theory.specs.ClassWords.{HasNumbersInRange}

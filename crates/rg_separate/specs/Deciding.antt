@@ -6,7 +6,7 @@ use Rattle.rg_theory.specs.declared.Problem.{Problem}
 use Rattle.rg_cert_meaning.specs.Refutes.{Tree, Reason.refuted, TreeRefutes, Accepts}
 use Rattle.rg_net.specs.Shown.{shown_place}
 use Rattle.rg_case_folds.specs.Setting.{case_at}
-use Rattle.rg_case_folds.specs.Shown.{Shown, ShownWide}
+use Rattle.rg_case_folds.specs.Shown.{ShownWide}
 use Rattle.rg_outcome.specs.Casing.{CaseResult, CaseResult.makes, CaseResult.refutes, CaseResult.passes, CaseComes}
 use Rattle.rg_outcome.specs.Solving as solved
 use Rattle.rg_outcome.specs.Solving.{Solved.placed, Solved.passed, NoneMakes, NonePasses, ProblemComes}
