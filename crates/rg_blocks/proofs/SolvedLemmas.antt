@@ -7,17 +7,24 @@ use Rattle.rg_theory.specs.System.{System}
 use Rattle.rg_theory.specs.Net.{Place}
 use Rattle.rg_theory.specs.declared.Problem.{Problem}
 use Rattle.rg_theory.specs.Problem.{IsProblem}
-use Rattle.rg_outcome.specs.Coming.{IsLeft, IsBehind}
+use Rattle.rg_outcome.specs.Coming.{IsLeft, IsBehind, IsDone}
 use Rattle.rg_outcome.specs.Blocks.{IsBlock, last_of}
 use Rattle.rg_outcome.proofs.BlockLemmas.{behind_too}
 use Rattle.rg_phase.specs.Answers.{AreAnswers}
 use Rattle.rg_blocks.specs.declared.solving.SolvedProblem.{SolvedProblem}
+use Rattle.rg_blocks.specs.Blocks.{most_in_block}
 use Rattle.rg_blocks.specs.Taking.{problems_of}
 
 -- no kept place separates a problem of a block
 pub block_is_left : (lts : System) (kept : List Place) (last : Option Problem) (block : List Problem) → IsBlock lts kept last block → All (IsLeft lts kept) block
 block_is_left lts kept last [] is = λ i d lt. absurd (omega arith)
 block_is_left lts kept last (p ∷ block) is = All-cons (IsLeft lts kept) p block is.0.0.0 (block_is_left lts kept (Some p) block is.1)
+
+-- where a block is empty, none is left after the last problem
+pub empty_is_done : (lts : System) (kept : List Place) (last : Option Problem) (block : List Problem) → length block ≡ 0
+    → (length block < most_in_block → IsDone lts kept (last_of last block)) → IsDone lts kept last
+empty_is_done lts kept last [] none end = end (omega arith)
+empty_is_done lts kept last (p ∷ block) none end = absurd (omega arith)
 
 -- what holds of the problems holds of what was solved
 pub of_solved : (P : Problem → Type 0) (solved : List SolvedProblem) → All P (problems_of solved) → All (λ s. P s.problem) solved

@@ -22,6 +22,6 @@ pub use keeping::Keeping;
 pub use left::next_problem;
 pub use rg_memory::NoMemory;
 pub use search::{Progress, Search};
-pub use separation::{SeparationOutcome, find_refuted, separate_all};
+pub use separation::solve_all;
 pub use solving::{ProblemOutcome, SolvedProblem, Solving, WaitingOutcome};
 pub use taking::{solve_in_turn, take_over};

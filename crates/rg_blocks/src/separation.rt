@@ -1,10 +1,10 @@
 //! All problems.
-ghost use Rattle.std.specs.Prelude.{◌≡◌, ◌<◌, ◌≤◌, [], All, IfOk, IfSome, OnOk, None, length};
+ghost use Rattle.std.specs.Prelude.{◌<◌, ◌≤◌, All, IfOk, IfSome, OnOk, length};
 ghost use Rattle.rg_theory.specs.Region.{IsRegion};
-ghost use Rattle.rg_outcome.specs.Coming.{IsLeft, IsSound};
+ghost use Rattle.rg_outcome.specs.Coming.{IsLeft};
 ghost use Rattle.rg_blocks.specs.Blocks.{most_in_block};
 ghost use Rattle.rg_blocks.specs.Taking.{IsTakenOver};
-ghost use Rattle.rg_blocks.specs.Separating.{EndsAll, FindsRefuted, IsSeparationOutcome};
+ghost use Rattle.rg_blocks.specs.Separating.{EndsSearch};
 ghost use Rattle.rg_blocks.specs.Searching.{CanSearch, IsSearching};
 
 use crate::block::{next_block, solve_block};
@@ -17,17 +17,6 @@ use rg_memory::NoMemory;
 use rg_ports::Gate;
 use rg_theory::Problem;
 use std::thread::Threads;
-
-/// The outcome of all problems of a system.
-#[derive(Clone, Copy, Debug, PartialEq, Eq)]
-pub enum SeparationOutcome {
-    /// The places that are kept separate all problems.
-    Separated,
-    /// The problem is refuted.
-    Unsolvable(Problem),
-    /// No kept place separates the problem, and a number passes in it. It is the first such problem.
-    TooWide(Problem),
-}
 
 // Solves the problems of a block and takes over what they come to: with one job problem by problem. With more, the
 // first one is solved in turn, so that the parts know its place, and then all are solved by the parts. Where it is
@@ -60,41 +49,13 @@ where
     take_over(search, progress, solved)
 }
 
-// Takes all problems, block by block, as long as one is left after the last one. Returns the first problem that is
-// refuted, which ends it, and None if there is none.
-fn solve_all<R: Threads + Sync, K: Keeping + Sync, S: Solving + Sync, G: Gate + Sync>(
-    rt: &R,
-    search: &Search<'_, S, G>,
-    progress: &mut Progress<K, S::Workspace, S::Proof>,
-) -> Result<Option<Problem>, NoMemory>
-where
-    S::Workspace: Send + Sync + Drop,
-    S::Proof: Send + Sync + Drop,
-    requires can { CanSearch search.now S.asks S.comes S.makes K.may_keep K.may_keep_compact }
-    requires searching { IsSearching search.now K.keeps_for S.serves S.proves progress.old }
-    requires sound { IsSound search.now.lts.now (S.comes search.now.solving.now) None (K.places progress.old.kept) }
-    ensures searching { OnOk result (IsSearching search.now K.keeps_for S.serves S.proves progress.new) }
-    ensures proves { IfSome progress.new.proof (λ p. S.proves search.now.solving.now p.0 p.1) }
-    ensures ends { IfOk result (λ end. EndsAll search.now.lts.now (S.comes search.now.solving.now) (K.places progress.old.kept) (K.places progress.new.kept) end) }
-{
-    let mut last = None;
-    loop {
-        let block = next_block(search.alloc, search.lts, &progress.kept, last)?;
-        if block.is_empty() {
-            return Ok(None);
-        }
-        let end = block[block.len() - 1];
-        if let Some(refuted) = take_block(rt, search, progress, &block)? {
-            return Ok(Some(refuted));
-        }
-        last = Some(end);
-    }
-}
-
-/// Solves the problems of the system that no kept place separates, block by block, and keeps the places that they
-/// come to, until one is refuted. It may begin with any regions. Returns the problem that is refuted, and None if no
-/// problem is. Returns `NoMemory` if memory runs out; nothing is known of the progress then.
-pub fn find_refuted<R: Threads + Sync, K: Keeping + Sync, S: Solving + Sync, G: Gate + Sync>(
+/// Solves the problems of the system, all of whose states are reachable, block by block, and keeps the places that
+/// they come to. A problem that a kept place separates is passed over, and the search may begin with any regions.
+/// Returns the problem that ends it: the first that is refuted, or else the first that no kept place separates, in
+/// which a number passes. Returns None if the kept places separate all problems. The outcome and the places that are
+/// kept are the same for any number of jobs and any gate. The calling thread solves with its workspace, and each part
+/// of a block with one of its own. Returns `NoMemory` if memory runs out; nothing is known of the progress then.
+pub fn solve_all<R: Threads + Sync, K: Keeping + Sync, S: Solving + Sync, G: Gate + Sync>(
     rt: &R,
     search: &Search<'_, S, G>,
     progress: &mut Progress<K, S::Workspace, S::Proof>,
@@ -107,35 +68,18 @@ where
     requires regions { All (IsRegion search.now.lts.now) (K.places progress.old.kept) }
     ensures searching { OnOk result (IsSearching search.now K.keeps_for S.serves S.proves progress.new) }
     ensures proves { IfSome progress.new.proof (λ p. S.proves search.now.solving.now p.0 p.1) }
-    ensures finds { IfOk result (FindsRefuted search.now.lts.now (S.comes search.now.solving.now) (K.places progress.old.kept)) }
+    ensures comes { IfOk result (EndsSearch search.now.lts.now (S.comes search.now.solving.now) (K.places progress.old.kept) (K.places progress.new.kept)) }
 {
-    solve_all(rt, search, progress)
-}
-
-/// Separates all problems of the system, all of whose states are reachable, beginning without a place. The outcome
-/// and the places that are kept are the same for any number of jobs and any gate. The calling thread solves with its
-/// workspace, and each part of a block with one of its own. Returns `NoMemory` if memory runs out; nothing is known
-/// of the progress then.
-pub fn separate_all<R: Threads + Sync, K: Keeping + Sync, S: Solving + Sync, G: Gate + Sync>(
-    rt: &R,
-    search: &Search<'_, S, G>,
-    progress: &mut Progress<K, S::Workspace, S::Proof>,
-) -> Result<SeparationOutcome, NoMemory>
-where
-    S::Workspace: Send + Sync + Drop,
-    S::Proof: Send + Sync + Drop,
-    requires can { CanSearch search.now S.asks S.comes S.makes K.may_keep K.may_keep_compact }
-    requires searching { IsSearching search.now K.keeps_for S.serves S.proves progress.old }
-    requires empty { K.places progress.old.kept ≡ [] }
-    ensures searching { OnOk result (IsSearching search.now K.keeps_for S.serves S.proves progress.new) }
-    ensures proves { IfSome progress.new.proof (λ p. S.proves search.now.solving.now p.0 p.1) }
-    ensures comes { IfOk result (IsSeparationOutcome search.now.lts.now (S.comes search.now.solving.now) (K.places progress.new.kept)) }
-{
-    match solve_all(rt, search, progress)? {
-        Some(problem) => Ok(SeparationOutcome::Unsolvable(problem)),
-        None => match next_problem(search.lts, &progress.kept, None) {
-            Some(problem) => Ok(SeparationOutcome::TooWide(problem)),
-            None => Ok(SeparationOutcome::Separated),
-        },
+    let mut last = None;
+    loop {
+        let block = next_block(search.alloc, search.lts, &progress.kept, last)?;
+        if block.is_empty() {
+            return Ok(next_problem(search.lts, &progress.kept, None));
+        }
+        let end = block[block.len() - 1];
+        if let Some(refuted) = take_block(rt, search, progress, &block)? {
+            return Ok(Some(refuted));
+        }
+        last = Some(end);
     }
 }

@@ -1,11 +1,11 @@
-//! The first problem that is refuted, also where some places are kept before.
+//! The problem that ends a search, also where some places are kept before.
 ghost use Rattle.std.specs.Prelude.{◌≤◌, All, IfSome};
 ghost use Rattle.rg_blocks_tests.specs.Constant.{HasDead, RegionIsConstant};
 
 use crate::answers::{Answers, Counts, Given, Work};
 use crate::places::{Places, has_dead, stopping};
 use crate::rows::{are_places_of, system_with_labels};
-use rg_blocks::{Progress, Search, find_refuted};
+use rg_blocks::{Progress, Search, solve_all};
 use rg_lts::Lts;
 use rg_marks::RegionPlace;
 use rg_ports::Gate;
@@ -21,7 +21,8 @@ struct Row {
     given: &'static [Given],
     // the two labels that each place stops that is kept before
     known: &'static [(u32, u32)],
-    refuted: Option<Problem>,
+    // the problem that ends it
+    end: Option<Problem>,
     // the labels whose places are kept at the end, those that were kept before first
     labels: &'static [usize],
     // how many labels no place stops that is kept before
@@ -46,7 +47,7 @@ const ROWS: [Row; 13] = [
     Row {
         given: &[Given::Refuted, Given::Stops(1)],
         known: &[],
-        refuted: Some(Event(0, 0)),
+        end: Some(Event(0, 0)),
         labels: &[],
         left: 2,
         solved: (1, 2),
@@ -59,7 +60,7 @@ const ROWS: [Row; 13] = [
             Given::Refuted,
         ],
         known: &[],
-        refuted: Some(Event(0, 2)),
+        end: Some(Event(0, 2)),
         labels: &[1],
         left: 4,
         solved: (3, 5),
@@ -73,7 +74,7 @@ const ROWS: [Row; 13] = [
             Given::Refuted,
         ],
         known: &[],
-        refuted: Some(Event(0, 3)),
+        end: Some(Event(0, 3)),
         labels: &[0, 1],
         left: 4,
         solved: (3, 4),
@@ -81,7 +82,7 @@ const ROWS: [Row; 13] = [
     Row {
         given: &FIVE,
         known: &[],
-        refuted: Some(Event(0, 3)),
+        end: Some(Event(0, 3)),
         labels: &[0, 2],
         left: 5,
         solved: (4, 5),
@@ -90,7 +91,7 @@ const ROWS: [Row; 13] = [
     Row {
         given: &FIVE,
         known: &[(0, 2)],
-        refuted: Some(Event(0, 3)),
+        end: Some(Event(0, 3)),
         labels: &[0],
         left: 3,
         solved: (2, 4),
@@ -98,7 +99,7 @@ const ROWS: [Row; 13] = [
     Row {
         given: &FIVE,
         known: &[(1, 0)],
-        refuted: Some(Event(0, 3)),
+        end: Some(Event(0, 3)),
         labels: &[1, 2],
         left: 3,
         solved: (2, 3),
@@ -106,7 +107,7 @@ const ROWS: [Row; 13] = [
     Row {
         given: &FIVE,
         known: &[(2, 2), (4, 1), (0, 0)],
-        refuted: Some(Event(0, 3)),
+        end: Some(Event(0, 3)),
         labels: &[2, 4, 0],
         left: 1,
         solved: (1, 2),
@@ -114,16 +115,16 @@ const ROWS: [Row; 13] = [
     Row {
         given: &FIVE,
         known: &[(4, 4)],
-        refuted: Some(Event(0, 3)),
+        end: Some(Event(0, 3)),
         labels: &[4, 0, 2],
         left: 4,
         solved: (4, 4),
     },
-    // none is refuted: all are stopped, a number passes, or the refuted one is stopped
+    // none is refuted: all are stopped, the refuted one too, or a number passes
     Row {
         given: &[Given::Stops(1), Given::Stops(0), Given::Stops(2)],
         known: &[],
-        refuted: None,
+        end: None,
         labels: &[0, 2],
         left: 3,
         solved: (2, 2),
@@ -131,7 +132,7 @@ const ROWS: [Row; 13] = [
     Row {
         given: &[Given::Stops(0), Given::TooWide],
         known: &[],
-        refuted: None,
+        end: Some(Event(0, 1)),
         labels: &[0],
         left: 2,
         solved: (2, 2),
@@ -139,7 +140,7 @@ const ROWS: [Row; 13] = [
     Row {
         given: &[Given::Stops(0), Given::TooWide],
         known: &[(0, 0)],
-        refuted: None,
+        end: Some(Event(0, 1)),
         labels: &[0],
         left: 1,
         solved: (1, 2),
@@ -147,7 +148,7 @@ const ROWS: [Row; 13] = [
     Row {
         given: &[Given::Stops(0), Given::TooWide],
         known: &[(1, 0)],
-        refuted: None,
+        end: None,
         labels: &[1],
         left: 0,
         solved: (0, 0),
@@ -155,7 +156,7 @@ const ROWS: [Row; 13] = [
     Row {
         given: &[Given::Stops(1), Given::Refuted, Given::Stops(0)],
         known: &[],
-        refuted: None,
+        end: None,
         labels: &[0, 2],
         left: 3,
         solved: (2, 2),
@@ -187,8 +188,8 @@ fn places_stopping(
     Some(places)
 }
 
-// The problem that is refuted, and the places that are kept, where places that stop these labels are kept before.
-fn find<R: Threads + Sync, G: Gate + Sync>(
+// The problem that ends the search, and the places that are kept, where places that stop these labels are kept before.
+pub(crate) fn find<R: Threads + Sync, G: Gate + Sync>(
     rt: &R,
     alloc: Global,
     answers: &Answers<'_>,
@@ -219,8 +220,8 @@ fn find<R: Threads + Sync, G: Gate + Sync>(
         workspace: Work::new(),
         proof: None,
     };
-    match find_refuted(rt, &search, &mut progress) {
-        Ok(refuted) => Some((refuted, progress.kept.kept)),
+    match solve_all(rt, &search, &mut progress) {
+        Ok(end) => Some((end, progress.kept.kept)),
         Err(_) => None,
     }
 }
@@ -231,7 +232,7 @@ fn comes_to<R: Threads + Sync>(rt: &R, alloc: Global, lts: &Lts, row: &Row, jobs
 {
     let counts = Counts::new();
     let answers = Answers::new(alloc, lts, row.given, &counts);
-    let Some((refuted, places)) = find(rt, alloc, &answers, row.known, jobs, &counts) else {
+    let Some((end, places)) = find(rt, alloc, &answers, row.known, jobs, &counts) else {
         return false;
     };
     let solved = if jobs == 1 {
@@ -239,7 +240,7 @@ fn comes_to<R: Threads + Sync>(rt: &R, alloc: Global, lts: &Lts, row: &Row, jobs
     } else {
         row.solved.1
     };
-    refuted == row.refuted
+    end == row.end
         && are_places_of(&places, row.labels)
         && counts.entered.load(Ordering::SeqCst) == row.left
         && counts.left.load(Ordering::SeqCst) == row.left

@@ -1,26 +1,25 @@
 //! What all problems come to, worked by hand, with any number of jobs.
 ghost use Rattle.std.specs.Prelude.{◌≤◌};
 
-use crate::answers::{Answers, Counts, Given, Work};
+use crate::answers::{Answers, Counts, Given};
 use crate::meeting::Meeting;
-use crate::places::{Places, has_dead};
-use rg_blocks::{Progress, Search, SeparationOutcome, separate_all};
+use crate::refuted::find;
+use rg_blocks::NoMemory;
 use rg_lts::Lts;
 use rg_marks::RegionPlace;
 use rg_ports::Gate;
 use rg_samples::system;
-use rg_spanning::Tree;
 use rg_theory::Problem;
 use std::alloc::Global;
 use std::sync::atomic::Ordering;
 use std::test::Fail;
 use std::thread::Threads;
 
-// The answers to the problems of labels, what all of them come to, the labels whose places are kept, and how many
+// The answers to the problems of labels, the one that ends the search, the labels whose places are kept, and how many
 // problems are solved: by one job, by two and how many of these inside the gate, and the same by more.
 type Row = (
     &'static [Given],
-    Option<SeparationOutcome>,
+    Result<Option<Problem>, NoMemory>,
     &'static [usize],
     u64,
     (u64, u64),
@@ -34,7 +33,7 @@ type Row = (
 const ROWS: [Row; 17] = [
     (
         &[Given::Stops(1), Given::Stops(0), Given::Stops(2)],
-        Some(SeparationOutcome::Separated),
+        Ok(None),
         &[0, 2],
         2,
         (2, 1),
@@ -42,7 +41,7 @@ const ROWS: [Row; 17] = [
     ),
     (
         &[Given::Stops(1), Given::TooWide, Given::Stops(0)],
-        Some(SeparationOutcome::Separated),
+        Ok(None),
         &[0, 2],
         2,
         (2, 1),
@@ -50,7 +49,7 @@ const ROWS: [Row; 17] = [
     ),
     (
         &[Given::Stops(1), Given::Refuted, Given::Stops(0)],
-        Some(SeparationOutcome::Separated),
+        Ok(None),
         &[0, 2],
         2,
         (2, 1),
@@ -58,7 +57,7 @@ const ROWS: [Row; 17] = [
     ),
     (
         &[Given::TooWide, Given::Stops(0)],
-        Some(SeparationOutcome::Separated),
+        Ok(None),
         &[1],
         2,
         (3, 2),
@@ -71,7 +70,7 @@ const ROWS: [Row; 17] = [
             Given::Stops(0),
             Given::TooWide,
         ],
-        Some(SeparationOutcome::TooWide(Problem::Event(0, 1))),
+        Ok(Some(Problem::Event(0, 1))),
         &[2],
         4,
         (5, 4),
@@ -84,7 +83,7 @@ const ROWS: [Row; 17] = [
             Given::Refuted,
             Given::Refuted,
         ],
-        Some(SeparationOutcome::Unsolvable(Problem::Event(0, 2))),
+        Ok(Some(Problem::Event(0, 2))),
         &[1],
         3,
         (5, 4),
@@ -92,29 +91,22 @@ const ROWS: [Row; 17] = [
     ),
     (
         &[Given::Refuted, Given::Stops(1)],
-        Some(SeparationOutcome::Unsolvable(Problem::Event(0, 0))),
+        Ok(Some(Problem::Event(0, 0))),
         &[],
         1,
         (2, 1),
         (2, 1),
     ),
-    (&[Given::NoMemory], None, &[], 1, (1, 0), (1, 0)),
+    (&[Given::NoMemory], Err(NoMemory), &[], 1, (1, 0), (1, 0)),
     (
         &[Given::Stops(0), Given::NoMemory],
-        None,
+        Err(NoMemory),
         &[],
         2,
         (2, 1),
         (2, 1),
     ),
-    (
-        &[Given::Stops(0)],
-        Some(SeparationOutcome::Separated),
-        &[0],
-        1,
-        (1, 0),
-        (1, 0),
-    ),
+    (&[Given::Stops(0)], Ok(None), &[0], 1, (1, 0), (1, 0)),
     // of two jobs the second one leaves label 3 for its place of label 2
     (
         &[
@@ -123,7 +115,7 @@ const ROWS: [Row; 17] = [
             Given::Stops(3),
             Given::TooWide,
         ],
-        Some(SeparationOutcome::Separated),
+        Ok(None),
         &[0, 2],
         2,
         (2, 1),
@@ -137,7 +129,7 @@ const ROWS: [Row; 17] = [
             Given::Stops(3),
             Given::Stops(3),
         ],
-        Some(SeparationOutcome::Separated),
+        Ok(None),
         &[0, 1, 3],
         3,
         (3, 2),
@@ -152,7 +144,7 @@ const ROWS: [Row; 17] = [
             Given::Stops(3),
             Given::Stops(3),
         ],
-        Some(SeparationOutcome::Separated),
+        Ok(None),
         &[0, 1, 3],
         3,
         (4, 2),
@@ -165,7 +157,7 @@ const ROWS: [Row; 17] = [
             Given::Stops(3),
             Given::TooWide,
         ],
-        Some(SeparationOutcome::TooWide(Problem::Event(0, 3))),
+        Ok(Some(Problem::Event(0, 3))),
         &[0, 1],
         3,
         (4, 2),
@@ -178,7 +170,7 @@ const ROWS: [Row; 17] = [
             Given::Stops(3),
             Given::Refuted,
         ],
-        Some(SeparationOutcome::Unsolvable(Problem::Event(0, 3))),
+        Ok(Some(Problem::Event(0, 3))),
         &[0, 1],
         3,
         (4, 2),
@@ -191,7 +183,7 @@ const ROWS: [Row; 17] = [
             Given::Stops(3),
             Given::NoMemory,
         ],
-        None,
+        Err(NoMemory),
         &[],
         3,
         (4, 2),
@@ -204,7 +196,7 @@ const ROWS: [Row; 17] = [
             Given::Stops(2),
             Given::TooWide,
         ],
-        Some(SeparationOutcome::Separated),
+        Ok(None),
         &[0, 1, 2],
         3,
         (4, 3),
@@ -220,44 +212,6 @@ pub(crate) fn system_with_labels(alloc: Global, labels: usize) -> Option<Lts> {
         text.push_str(&name).ok()?;
     }
     system(alloc, text.as_str())
-}
-
-// What all problems come to, and the places that are kept.
-fn come<R: Threads + Sync, G: Gate + Sync>(
-    rt: &R,
-    alloc: Global,
-    answers: &Answers<'_>,
-    jobs: u8,
-    gate: &G,
-) -> Option<(SeparationOutcome, Vec<RegionPlace>)>
-    requires { 1 ≤ jobs }
-{
-    let lts = answers.lts;
-    if !has_dead(lts, answers.given.len()) {
-        return None;
-    }
-    let Ok(_tree) = Tree::grow(alloc, lts) else {
-        return None;
-    };
-    let search = Search {
-        alloc,
-        lts,
-        solving: answers,
-        jobs,
-        gate,
-    };
-    let mut progress = Progress {
-        kept: Places {
-            alloc,
-            kept: Vec::new(alloc),
-        },
-        workspace: Work::new(),
-        proof: None,
-    };
-    match separate_all(rt, &search, &mut progress) {
-        Ok(outcome) => Some((outcome, progress.kept.kept)),
-        Err(_) => None,
-    }
 }
 
 // Whether the places are those of these labels, in order.
@@ -286,21 +240,21 @@ struct Counted {
     left: u64,
 }
 
-// What is seen of a search: what all problems come to and the places kept, unless there is no memory, and what is
+// What is seen of a search: the problem that ends it and the places kept, unless there is no memory, and what is
 // counted.
 #[derive(Drop)]
 struct Seen {
-    found: Option<(SeparationOutcome, Vec<RegionPlace>)>,
+    found: Option<(Option<Problem>, Vec<RegionPlace>)>,
     counted: Counted,
 }
 
 impl Seen {
-    // Whether this is what all problems come to, and the places are those of these labels; or there is no memory,
-    // where nothing is wanted.
-    fn is_wanted(&self, wanted: Option<SeparationOutcome>, labels: &[usize]) -> bool {
+    // Whether this problem ends it, and the places are those of these labels; or there is no memory, where that is
+    // wanted.
+    fn is_wanted(&self, wanted: Result<Option<Problem>, NoMemory>, labels: &[usize]) -> bool {
         match &self.found {
-            Some((outcome, places)) => { Some(*outcome) == wanted && are_places_of(places, labels) }
-            None => wanted.is_none(),
+            Some((end, places)) => { Ok(*end) == wanted && are_places_of(places, labels) }
+            None => wanted.is_err(),
         }
     }
 }
@@ -317,7 +271,7 @@ fn see_through<R: Threads + Sync, G: Gate + Sync>(
     requires { 1 ≤ jobs }
 {
     let answers = Answers::new(alloc, lts, given, counts);
-    let found = come(rt, alloc, &answers, jobs, gate);
+    let found = find(rt, alloc, &answers, &[], jobs, gate);
     let counted = Counted {
         solved: answers.solved.load(Ordering::SeqCst),
         solved_inside: answers.solved_inside.load(Ordering::SeqCst),
@@ -364,7 +318,7 @@ fn rows(rt: HostRuntime) -> Result<(), Fail> {
             let counted = seen.counted;
             assert!(rt; seen.is_wanted(wanted, labels));
             assert_eq!(rt; counted.left, counted.entered);
-            assert!(rt; wanted.is_none() || counted.entered == given.len() as u64);
+            assert!(rt; wanted.is_err() || counted.entered == given.len() as u64);
             assert_eq!(rt; counted.made, count_made(jobs, given));
             assert_eq!(rt; (counted.solved, counted.solved_inside), solved);
         }
@@ -469,7 +423,7 @@ fn blocks_of_128(rt: HostRuntime) -> Result<(), Fail> {
         assert_eq!(rt; (counted.entered, counted.left), (191, 191));
         assert_eq!(rt; (counted.solved, counted.in_turn), (188, in_turn));
         assert_eq!(rt; (counted.made, counted.used), (made, 1 + made));
-        let wanted = Some(SeparationOutcome::TooWide(Problem::Event(0, 2)));
+        let wanted = Ok(Some(Problem::Event(0, 2)));
         assert!(rt; seen.is_wanted(wanted, &[0, 1, 129, 130]));
     }
     Ok(())

@@ -17,8 +17,8 @@ use Rattle.rg_case_folds.specs.Setting.{setting_at}
 use Rattle.rg_case_folds.specs.Chords.{KeepsChords, chord_vectors, chord_system, IsBasis}
 use Rattle.rg_case_folds.specs.Shown.{Stage, Shown, StandsAt, CycleShown}
 use Rattle.rg_outcome.specs.Solving.{ProblemComes}
-use Rattle.rg_outcome.specs.Coming.{Separation, Separation.places, Separation.unsolvable as of_problem, Separation.too_wide as of_term, AllComeTo}
-use Rattle.rg_outcome.specs.Outcome.{Answer, Answer.net, Answer.unsolvable, Answer.too_wide, Gives, Searched, Searched.a_cycle, Searched.all_problems, Out, Out.a_state, Out.a_fork, Out.a_search}
+use Rattle.rg_outcome.specs.Coming.{Separation, Separation.places, Separation.unsolvable as of_problem, Separation.too_wide as of_term, ComesFrom}
+use Rattle.rg_outcome.specs.Outcome.{Answer, Answer.net, Answer.unsolvable, Answer.too_wide, Gives, SearchedFrom, SearchedFrom.a_cycle, SearchedFrom.all_problems, Out, Out.a_state, Out.a_fork, Out.a_search}
 use Rattle.rg_theory.specs.Pruned.{IsPruned}
 use Rattle.rg_outcome.proofs.Separations.{same_separation}
 use Rattle.rg_outcome.proofs.Solvings.{same_solved}
@@ -119,22 +119,23 @@ same_fork s t a b s' t' a' b' (e, f, p, q) = cc
 -- ---- the answer
 
 module _ (lts : System) (class : Class) where
-  same_problems : (arcs arcs' : List Arc) (basis basis' : CycleBasis) (o o' : Separation) → IsTree lts arcs → IsTree lts arcs' → IsBasis lts arcs basis
-      → IsBasis lts arcs' basis' → AllComeTo lts (ProblemComes (setting_at lts arcs basis class)) o → AllComeTo lts (ProblemComes (setting_at lts arcs' basis' class)) o'
-      → o ≡ o'
-  same_problems arcs arcs' basis basis' o o' is is' is_basis is_basis' d d' =
+  same_problems : (kept : List Place) (arcs arcs' : List Arc) (basis basis' : CycleBasis) (o o' : Separation) → IsTree lts arcs → IsTree lts arcs' → IsBasis lts arcs basis
+      → IsBasis lts arcs' basis' → ComesFrom lts (ProblemComes (setting_at lts arcs basis class)) None kept o
+      → ComesFrom lts (ProblemComes (setting_at lts arcs' basis' class)) None kept o' → o ≡ o'
+  same_problems kept arcs arcs' basis basis' o o' is is' is_basis is_basis' d d' =
       let trees : arcs' ≡ arcs = same_tree lts (lts.initial ∷ []) arcs' arcs is' is in
       let is_basis'' : IsBasis lts arcs basis' = subst (λ x. IsBasis lts x basis') trees is_basis' in
       let bases : basis' ≡ basis = cycle_basis_is_one (labels lts) (chord_vectors lts arcs) basis' basis is_basis'' is_basis in
       let s = setting_at lts arcs basis class in
       let same : setting_at lts arcs' basis' class ≡ s = λ i. setting_at lts (trees i) (bases i) class in
-      same_separation lts (ProblemComes s) (same_solved s) None [] o o' d (subst (λ x. AllComeTo lts (ProblemComes x) o') same d')
+      same_separation lts (ProblemComes s) (same_solved s) None kept o o' d (subst (λ x. ComesFrom lts (ProblemComes x) None kept o') same d')
 
-  pub same_search : (o o' : Separation) → Searched lts class o → Searched lts class o' → o ≡ o'
-  same_search o o' (a_cycle w stage h) (a_cycle w' stage' h') = ap of_term (same_cycle_shown lts w w' stage stage' h h')
-  same_search o o' (a_cycle w stage h) (all_problems arcs basis _ is is_basis d) = absurd (no_basis lts w arcs basis is is_basis h)
-  same_search o o' (all_problems arcs basis _ is is_basis d) (a_cycle w stage h) = absurd (no_basis lts w arcs basis is is_basis h)
-  same_search o o' (all_problems arcs basis _ is is_basis d) (all_problems arcs' basis' _ is' is_basis' d') = same_problems arcs arcs' basis basis' o o' is is' is_basis is_basis' d d'
+  pub same_search : (kept : List Place) (o o' : Separation) → SearchedFrom lts class kept o → SearchedFrom lts class kept o' → o ≡ o'
+  same_search kept o o' (a_cycle w stage h) (a_cycle w' stage' h') = ap of_term (same_cycle_shown lts w w' stage stage' h h')
+  same_search kept o o' (a_cycle w stage h) (all_problems arcs basis _ is is_basis d) = absurd (no_basis lts w arcs basis is is_basis h)
+  same_search kept o o' (all_problems arcs basis _ is is_basis d) (a_cycle w stage h) = absurd (no_basis lts w arcs basis is is_basis h)
+  same_search kept o o' (all_problems arcs basis _ is is_basis d) (all_problems arcs' basis' _ is' is_basis' d') =
+      same_problems kept arcs arcs' basis basis' o o' is is' is_basis is_basis' d d'
 
   pub same_answer : OneLeastFork → OnePruned → (a a' : Answer) → Out lts class a → Out lts class a' → a ≡ a'
   same_answer forks pruned a a' (a_state s h) (a_state s' h') = ap (λ x. unsolvable (unreachable x)) (same_state lts s s' h h')
@@ -145,4 +146,4 @@ module _ (lts : System) (class : Class) where
   same_answer forks pruned a a' (a_fork s t s₁ s₂ reachable h) (a_search o _ reach free is g) = absurd (not_free lts s t s₁ s₂ h free)
   same_answer forks pruned a a' (a_search o _ reach free is g) (a_state s h) = absurd (not_reachable lts s h reach)
   same_answer forks pruned a a' (a_search o _ reach free is g) (a_fork s t s₁ s₂ reachable h) = absurd (not_free lts s t s₁ s₂ h free)
-  same_answer forks pruned a a' (a_search o _ reach free is g) (a_search o' _ reach' free' is' g') = given pruned lts o a a' g (subst (λ x. Gives lts x a') (same_search o' o is' is) g')
+  same_answer forks pruned a a' (a_search o _ reach free is g) (a_search o' _ reach' free' is' g') = given pruned lts o a a' g (subst (λ x. Gives lts x a') (same_search [] o' o is' is) g')

@@ -25,7 +25,7 @@ use Rattle.rg_case_folds.specs.Shown.{Shown, IsLive, StandsIn, CaseOf, HasLeaf, 
 use Rattle.rg_outcome.specs.Casing.{CaseResult, CaseResult.makes, CaseResult.refutes, CaseResult.passes, LeafWide, spread_tree, CaseComes, CaseComes.row_passes, CaseComes.pivot_passes, CaseComes.place_passes, CaseComes.place_is_made, CaseComes.leaf_passes, CaseComes.is_refuted}
 use Rattle.rg_outcome.specs.Solving.{Solved, Solved.placed, Solved.refuted, Solved.passed, CasesCome, CasesCome.first_place, CasesCome.all_refuted, CasesCome.first_term, ProblemComes}
 use Rattle.rg_outcome.specs.Coming.{Separation, Separation.places, Separation.unsolvable as of_problem, Separation.too_wide as of_term, IsMade, Says}
-use Rattle.rg_outcome.specs.Outcome.{Answer, Answer.net, Answer.unsolvable, Answer.too_wide, Gives, Searched, Searched.a_cycle, Searched.all_problems, Out, Out.a_state, Out.a_fork, Out.a_search, IsSearchRight, IsRight}
+use Rattle.rg_outcome.specs.Outcome.{Answer, Answer.net, Answer.unsolvable, Answer.too_wide, Gives, Searched, SearchedFrom.a_cycle, SearchedFrom.all_problems, Out, Out.a_state, Out.a_fork, Out.a_search, IsSearchRight, IsRight}
 use Rattle.rg_outcome.proofs.Inseparable.{inseparable}
 use Rattle.rg_outcome.proofs.Placed.{placed_separates, refuted_stay}
 use Rattle.rg_outcome.proofs.Saying.{says}

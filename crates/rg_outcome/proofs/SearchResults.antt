@@ -23,7 +23,7 @@ use Rattle.rg_case_folds.specs.Chords.{chord_vectors, chord_system, IsBasis}
 use Rattle.rg_case_folds.specs.Shown.{Stage, Shown}
 use Rattle.rg_outcome.specs.Solving.{ProblemComes}
 use Rattle.rg_outcome.specs.Coming.{Separation, Separation.places, Separation.unsolvable as of_problem, Separation.too_wide as of_term, IsSeparated, IsLeft, IsFirstProblem}
-use Rattle.rg_outcome.specs.Outcome.{Answer, Answer.net, Answer.unsolvable, Answer.too_wide, Searched, Searched.a_cycle, Searched.all_problems, Out, Out.a_search, IsSearchRight}
+use Rattle.rg_outcome.specs.Outcome.{Answer, Answer.net, Answer.unsolvable, Answer.too_wide, Searched, SearchedFrom.a_cycle, SearchedFrom.all_problems, Out, Out.a_search, IsSearchRight}
 use Rattle.rg_theory.proofs.Deciding.{Decided}
 use Rattle.rg_outcome.proofs.Decided.{find_problem, is_separated_decided, left_is_decided}
 use Rattle.rg_outcome.proofs.Existing.{some_separation}

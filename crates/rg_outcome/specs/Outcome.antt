@@ -1,5 +1,5 @@
 -- The one answer for a system and a class.
-use Rattle.std.specs.Prelude.{◌≡◌, ℕ, List, All}
+use Rattle.std.specs.Prelude.{◌≡◌, ℕ, List, [], None, All}
 use Rattle.rg_theory.specs.declared.Arc.{Arc}
 use Rattle.rg_theory.specs.System.{System, labels, IsAllReachable, IsForkFree, IsLeastUnreachable, IsLeastFork}
 use Rattle.rg_theory.specs.Net.{Place}
@@ -16,7 +16,7 @@ use Rattle.rg_case_folds.specs.Setting.{setting_at}
 use Rattle.rg_case_folds.specs.Chords.{IsBasis}
 use Rattle.rg_case_folds.specs.Shown.{Stage, Shown, CycleShown, ShownWide}
 use Rattle.rg_outcome.specs.Solving.{ProblemComes}
-use Rattle.rg_outcome.specs.Coming.{Separation, Separation.places, Separation.unsolvable as of_problem, Separation.too_wide as of_term, AllComeTo}
+use Rattle.rg_outcome.specs.Coming.{Separation, Separation.places, Separation.unsolvable as of_problem, Separation.too_wide as of_term, ComesFrom}
 
 -- the places of a net, the reason of a certificate, or the term that is shown
 pub data Answer : Type 0 where
@@ -31,12 +31,16 @@ Gives lts (of_problem problem trees) (unsolvable reason) = reason ≡ refuted pr
 Gives lts (of_term w) (too_wide w') = w ≡ w'
 Gives lts _ _ = ⊥
 
--- what a search for places comes to: the term out of range of the walk over the cycle equations, else what the problems come to over
--- the basis with which that walk ends
-pub data Searched (lts : System) (class : Class) : Separation → Type 0 where
-  a_cycle : (w : Shown) → w.stage ≡ Stage.cycle → CycleShown lts w → Searched lts class (of_term w)
+-- what a search for places comes to that begins with places: the term out of range of the walk over the cycle equations, else what the
+-- problems come to over the basis with which that walk ends
+pub data SearchedFrom (lts : System) (class : Class) (kept : List Place) : Separation → Type 0 where
+  a_cycle : (w : Shown) → w.stage ≡ Stage.cycle → CycleShown lts w → SearchedFrom lts class kept (of_term w)
   all_problems : (arcs : List Arc) (basis : CycleBasis) (o : Separation) → IsTree lts arcs → IsBasis lts arcs basis
-      → AllComeTo lts (ProblemComes (setting_at lts arcs basis class)) o → Searched lts class o
+      → ComesFrom lts (ProblemComes (setting_at lts arcs basis class)) None kept o → SearchedFrom lts class kept o
+
+-- the same that begins without a place
+abbrev pub Searched : System → Class → Separation → Type 0
+Searched lts class o = SearchedFrom lts class [] o
 
 -- the answer for a system and a class: the least unreachable state, else the first fork, else what the search comes to
 pub data Out (lts : System) (class : Class) : Answer → Type 0 where

@@ -21,7 +21,7 @@ ghost use Rattle.rg_outcome.specs.Casing.{CaseResult, CaseComes};
 ghost use Rattle.rg_outcome.specs.Solving.{Solved, ProblemComes};
 ghost use Rattle.rg_outcome.specs.Coming.{Separation, Separation.unsolvable, ComesFrom, AllComeTo, IsSeparatedIn, Says};
 ghost use Rattle.rg_outcome.specs.Blocks.{ComesByBlocks};
-ghost use Rattle.rg_outcome.specs.Outcome.{Answer, Searched, Out, IsSearchRight, IsRight};
+ghost use Rattle.rg_outcome.specs.Outcome.{Answer, SearchedFrom, Searched, Out, IsSearchRight, IsRight};
 
 use rg_theory::{Class, Problem, one_least_fork, pruned_is_one};
 
@@ -78,9 +78,10 @@ pub fn placed_separates()
         → IsBasis s.lts s.tree s.basis → IsProblem s.lts problem → ProblemComes s problem (Solved.placed p) → IsSeparatedIn s.lts s.class problem p }
 {}
 
-/// Law: a search for places has one outcome. A system and a class have exactly one answer.
+/// Law: a search for places has one outcome, whichever places it begins with. A system and a class have exactly one
+/// answer.
 pub fn outcome_is_one()
-    ensures search { (lts : System) (class : Class) (o o' : Separation) → Searched lts class o → Searched lts class o' → o ≡ o' }
+    ensures search { (lts : System) (class : Class) (kept : List Place) (o o' : Separation) → SearchedFrom lts class kept o → SearchedFrom lts class kept o' → o ≡ o' }
     ensures answer { (lts : System) (class : Class) (a a' : Answer) → Out lts class a → Out lts class a' → a ≡ a' }
     ensures some { (lts : System) (class : Class) → IsInRange lts → HasNumbersInRange class → (a : Answer) × Out lts class a }
 {

@@ -1,37 +1,27 @@
--- What a search from known regions on finds is what the search from no place on comes to.
-use Rattle.std.specs.declared.alloc.Global.{Global}
-use Rattle.std.proofs.Common.{◌≡◌, Vec, List, All, get_or, None, Some, refl, sym, subst}
-use Rattle.rg_theory.specs.System.{System}
+-- A search that begins with regions refutes what the one that begins without a place does.
+use Rattle.std.proofs.Common.{List, All, get_or, refl, sym, subst}
+use Rattle.rg_theory.specs.System.{System, IsInRange, IsAllReachable}
 use Rattle.rg_theory.specs.Net.{Place}
 use Rattle.rg_theory.specs.Region.{IsRegion, IsRegionIn}
-use Rattle.rg_theory.specs.declared.Class.{Class}
 use Rattle.rg_theory.specs.declared.Problem.{Problem}
-use Rattle.rg_theory.specs.ClassWords.{no_condition}
-use Rattle.rg_case_folds.specs.Shown.{CycleShown}
-use Rattle.rg_cycles.specs.declared.stop.CycleWide.{CycleWide}
-use Rattle.rg_outcome.specs.Coming.{Separation, Separation.places, Separation.unsolvable, Separation.too_wide, IsRefusal, AllComeTo}
-use Rattle.rg_outcome.specs.Outcome.{Searched, Searched.a_cycle}
+use Rattle.rg_theory.specs.ClassWords.{no_condition, HasNumbersInRange}
+use Rattle.rg_cert_meaning.specs.Refutes.{Tree}
+use Rattle.rg_case_folds.specs.Setting.{setting_at}
+use Rattle.rg_outcome.specs.Coming.{Separation, Separation.places, Separation.unsolvable, Separation.too_wide, IsRefusal}
+use Rattle.rg_outcome.specs.Outcome.{SearchedFrom, Searched, SearchedFrom.all_problems}
 use Rattle.rg_outcome.proofs.Answers.{same_search}
-use Rattle.rg_outcome.proofs.Existing.{some_separation}
 use Rattle.rg_outcome.proofs.FromKept.{refusal_stays}
-use Rattle.rg_outcome.proofs.Placed.{places_separate}
-use Rattle.rg_outcome.proofs.ProblemResults.{all_results}
-use Rattle.rg_outcome.proofs.Separations.{same_separation}
-use Rattle.rg_outcome.proofs.Solvings.{same_solved}
-use Rattle.rg_blocks.specs.Separating.{FindsRefuted}
-use Rattle.rg_blocks.proofs.SeparationLemmas.{refuted_has}
-use Rattle.rg_case_parts.specs.declared.setting.Setting.{Setting}
-use Rattle.rg_case_parts.specs.SettingViews.{shown_setting}
-use Rattle.rg_separate.specs.Deciding.{EndsRefuted}
-use Rattle.rg_separate.specs.Keeping.{IsSetting, IsKept}
-use Rattle.rg_separate.specs.Passing.{cycle_passed}
-use Rattle.rg_separate.specs.Refusals.{IsRefusedBy, IsNotRefused}
-use Rattle.rg_separate.specs.Answer.{IsGoodCertificate, IsSearched, Ending.unsolvable as an_unsolvable}
 use Rattle.rg_cert_data.specs.declared.certificate.Certificate.{Certificate}
-use Rattle.rg_separate.proofs.Ending.{comes_of, searched_of}
+use Rattle.rg_cert_data.specs.declared.wide_at.WideAt.{WideAt}
+use Rattle.rg_separate.specs.Keeping.{IsKept}
+use Rattle.rg_separate.specs.Answer.{IsSearchedFrom, IsSearched, Ending.places as some_places, Ending.unsolvable as an_unsolvable, Ending.too_wide as a_too_wide}
+use Rattle.rg_separate.specs.Refusals.{IsNotRefused}
+
+pub regions_of : (lts : System) (kept : List Place) → All (IsKept lts) kept → All (IsRegion lts) kept
+regions_of lts kept are i d lt = let is = are i d lt in (is.narrow.m, is.narrow.region)
 
 -- every region is one of the class of all nets
-pub in_all_nets : (lts : System) (p : Place) → IsKept lts p → IsRegionIn lts no_condition p
+in_all_nets : (lts : System) (p : Place) → IsKept lts p → IsRegionIn lts no_condition p
 in_all_nets lts p is = (
   is.narrow.m,
   record {
@@ -43,54 +33,40 @@ in_all_nets lts p is = (
   },
 )
 
-pub regions_in : (lts : System) (class : Class) (kept : List Place) → class ≡ no_condition → All (IsKept lts) kept → All (IsRegionIn lts class) kept
-regions_in lts class kept e are i d lt = subst (λ c. IsRegionIn lts c (get_or kept i d)) (sym e) (in_all_nets lts (get_or kept i d) (are i d lt))
+module _ (lts : System) (fine : IsInRange lts) (reachable : IsAllReachable lts) (known : List Place) (are : All (IsKept lts) known) where
+  no_numbers : HasNumbersInRange no_condition
+  no_numbers = record { bound = tt; marking = tt }
 
-pub regions_of : (lts : System) (kept : List Place) → All (IsKept lts) kept → All (IsRegion lts) kept
-regions_of lts kept are i d lt = let is = are i d lt in (is.narrow.m, is.narrow.region)
+  regions : All (IsRegionIn lts no_condition) known
+  regions i d lt = in_all_nets lts (get_or known i d) (are i d lt)
 
-module _ (s : Setting) (is : IsSetting s) (kept : List Place) (regions : All (IsRegionIn s.lts.now s.class) kept) where
-  pub found_refuted : (q : Problem) → FindsRefuted s.lts.now (comes_of s) kept (Some q) → EndsRefuted s q
-  found_refuted q (trees, d) =
-      let stays = refusal_stays (shown_setting s) is.in_range is.bound is.reachable is.tree.tree is.basis kept q trees regions in
-      let (has, comes) = refuted_has s.lts.now (comes_of s) None kept q trees d in
-      record { has = has; trees = trees; searched = searched_of s is (unsolvable q trees) (stays.0 d); comes = comes }
+  refused_at_first : (q : Problem) (trees : List Tree) → SearchedFrom lts no_condition known (unsolvable q trees) → Searched lts no_condition (unsolvable q trees)
+  refused_at_first q trees (all_problems arcs basis _ tree is d) =
+      all_problems arcs basis (unsolvable q trees) tree is ((refusal_stays (setting_at lts arcs basis no_condition) fine no_numbers reachable tree is known q trees regions).0 d)
 
-  -- where none is found, no search refutes a problem
-  pub found_none : FindsRefuted s.lts.now (comes_of s) kept None → (o : Separation) → Searched s.lts.now s.class o → ¬ IsRefusal o
-  found_none (o', d', not_refused) (places after) searched refusal = refusal
-  found_none (o', d', not_refused) (too_wide w) searched refusal = refusal
-  found_none (o', d', not_refused) (unsolvable q trees) searched refusal =
-      let (all, come) = some_separation s.lts.now (comes_of s) is.reachable
-      (all_results (shown_setting s) is.in_range is.bound is.reachable is.tree.tree is.basis) (places_separate (shown_setting s) is.in_range is.bound is.reachable is.tree.tree is.basis) in
-      let same : all ≡ unsolvable q trees = same_search s.lts.now s.class all (unsolvable q trees) (searched_of s is all come) searched in
-      let stays = refusal_stays (shown_setting s) is.in_range is.bound is.reachable is.tree.tree is.basis kept q trees regions in
-      let from_kept = stays.1 (subst (AllComeTo s.lts.now (comes_of s)) same come) in
-      let ends = same_separation s.lts.now (comes_of s) (same_solved (shown_setting s)) None kept o' (unsolvable q trees) d' from_kept in
-      not_refused (subst IsRefusal (sym ends) tt)
+  refused_from : (q : Problem) (trees : List Tree) → Searched lts no_condition (unsolvable q trees) → SearchedFrom lts no_condition known (unsolvable q trees)
+  refused_from q trees (all_problems arcs basis _ tree is d) =
+      all_problems arcs basis (unsolvable q trees) tree is ((refusal_stays (setting_at lts arcs basis no_condition) fine no_numbers reachable tree is known q trees regions).1 d)
 
-pub not_refused : (s : Setting) (is : IsSetting s) (kept : List Place) → s.class ≡ no_condition → All (IsKept s.lts.now) kept → FindsRefuted s.lts.now (comes_of s) kept None → IsNotRefused s.lts.now
-not_refused s is kept e are finds o searched =
-    found_none s is kept (regions_in s.lts.now s.class kept e are) finds o (subst (λ c. Searched s.lts.now c o) (sym e) searched)
+  -- the certificate is that of the search that begins without a place
+  pub refused_by : (certificate : Certificate) → IsSearchedFrom lts no_condition known (an_unsolvable certificate) → IsSearched lts no_condition (an_unsolvable certificate)
+  refused_by certificate is =
+      let (q, trees, reason_is, o_is) = is.shows in
+      record {
+        o = unsolvable q trees;
+        searched = refused_at_first q trees (subst (SearchedFrom lts no_condition known) o_is is.searched);
+        shows = (q, trees, reason_is, refl);
+      }
 
-pub refused_by : (s : Setting) (is : IsSetting s) (kept : List Place) (q : Problem) → s.class ≡ no_condition → All (IsKept s.lts.now) kept
-    → FindsRefuted s.lts.now (comes_of s) kept (Some q) → EndsRefuted s q
-refused_by s is kept q e are finds = found_refuted s is kept (regions_in s.lts.now s.class kept e are) q finds
+  -- where it refutes no problem, neither does the other
+  none_refused : (o : Separation) → SearchedFrom lts no_condition known o → ¬ IsRefusal o → IsNotRefused lts
+  none_refused o come not (places after) searched refusal = refusal
+  none_refused o come not (too_wide w) searched refusal = refusal
+  none_refused o come not (unsolvable q trees) searched refusal =
+      not (subst IsRefusal (sym (same_search lts no_condition known o (unsolvable q trees) come (refused_from q trees searched))) tt)
 
--- the certificate and the places that are kept then
-pub refusal_of : (s : Setting) (certificate : Certificate) (found : Vec Place Global) → s.class ≡ no_condition
-    → IsSearched s.lts.now s.class (an_unsolvable certificate) → IsGoodCertificate s.lts.now s.class certificate
-    → All (IsKept s.lts.now) found.items → IsRefusedBy s.lts.now (record { certificate = certificate; places = found })
-refusal_of s certificate found e searched good kept = record {
-  searched = subst (λ c. IsSearched s.lts.now c (an_unsolvable certificate)) e searched;
-  good = subst (λ c. IsGoodCertificate s.lts.now c certificate) e good;
-  places = kept;
-}
+  pub places_not_refused : (ps : List Place) → IsSearchedFrom lts no_condition known (some_places ps) → IsNotRefused lts
+  places_not_refused ps is = none_refused is.o is.searched (λ refusal. subst IsRefusal is.shows refusal)
 
--- the term of the walk over the chords refutes no problem
-pub cycle_not_refused : (lts : System) (w : CycleWide) → CycleShown lts (cycle_passed w) → IsNotRefused lts
-cycle_not_refused lts w shown (places after) searched refusal = refusal
-cycle_not_refused lts w shown (too_wide w') searched refusal = refusal
-cycle_not_refused lts w shown (unsolvable q trees) searched refusal =
-    let same : too_wide (cycle_passed w) ≡ unsolvable q trees = same_search lts no_condition (too_wide (cycle_passed w)) (unsolvable q trees) (a_cycle (cycle_passed w) refl shown) searched in
-    subst IsRefusal (sym same) tt
+  pub wide_not_refused : (at : WideAt) → IsSearchedFrom lts no_condition known (a_too_wide at) → IsNotRefused lts
+  wide_not_refused at is = none_refused is.o is.searched (λ refusal. subst IsRefusal is.shows refusal)

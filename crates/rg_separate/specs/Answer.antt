@@ -1,5 +1,5 @@
 -- What the answer says.
-use Rattle.std.specs.Prelude.{◌≡◌, ℕ, ◌<◌, ◌≤◌, List, length, map, All}
+use Rattle.std.specs.Prelude.{◌≡◌, ℕ, ◌<◌, ◌≤◌, List, [], length, map, All}
 use Rattle.rg_theory.specs.System.{System, states, labels}
 use Rattle.rg_theory.specs.Net.{Place}
 use Rattle.rg_theory.specs.declared.Class.{Class}
@@ -14,11 +14,12 @@ use Rattle.rg_net.specs.Shown.{shown_place}
 use Rattle.rg_theory.specs.declared.Problem.{Problem}
 use Rattle.rg_cert_meaning.specs.Refutes.{Tree, Reason.refuted, Accepts}
 use Rattle.rg_outcome.specs.Coming as outcome
-use Rattle.rg_outcome.specs.Outcome.{Searched}
+use Rattle.rg_outcome.specs.Outcome.{SearchedFrom}
 use Rattle.rg_cert_data.specs.Certificates.{reason_of, IsCertificateOf}
 use Rattle.rg_case_folds.specs.Shown.{ShownWide}
 use Rattle.rg_blocks.specs.Problems.{most_problems}
 use Rattle.rg_separate.specs.View.{shown_of}
+use Rattle.rg_separate.specs.Keeping.{IsKept}
 use Rattle.rg_cert_data.specs.declared.wide_at.WideAt.{WideAt}
 use Rattle.rg_separate.specs.declared.separation.Separation.{Separation}
 use Rattle.rg_separate.specs.declared.separation.Separation.TheVariants.{Places, Unsolvable, TooWide}
@@ -53,7 +54,7 @@ ending_of (TooWide w) = too_wide w
 -- the same of one with the problems that each place is the first to separate
 abbrev pub ending_with_firsts : SeparationWithFirsts → Ending
 ending_with_firsts (with_firsts.Places ps firsts) = Ending.places ps.items
-ending_with_firsts (with_firsts.Unsolvable cert) = unsolvable cert
+ending_with_firsts (with_firsts.Unsolvable cert ps) = unsolvable cert
 ending_with_firsts (with_firsts.TooWide w) = too_wide w
 
 -- the fact holds of the places, of the certificate, of the term
@@ -80,11 +81,11 @@ pub record IsGoodCertificate (lts : System) (class : Class) (cert : Certificate)
   pub in_range : IsCertificateOf lts cert
   pub holds : Accepts lts class (reason_of cert.reason)
 
--- what a separation says: of the places also which problems each is the first to separate
-abbrev pub SeparationTells : System → Class → SeparationWithFirsts → Type 0
-SeparationTells lts class (with_firsts.Places ps firsts) = AreSeparating lts class ps.items × AreAllFirsts lts ps.items firsts.items
-SeparationTells lts class (with_firsts.Unsolvable cert) = IsGoodCertificate lts class cert
-SeparationTells lts class (with_firsts.TooWide w) = ShownWide lts class (shown_of w)
+-- what a search says that begins with regions: of the places also which problems each is the first to separate
+abbrev pub SearchTells : System → Class → SeparationWithFirsts → Type 0
+SearchTells lts class (with_firsts.Places ps firsts) = All (IsKept lts) ps.items × AreAllFirsts lts ps.items firsts.items
+SearchTells lts class (with_firsts.Unsolvable cert ps) = IsGoodCertificate lts class cert × All (IsKept lts) ps.items
+SearchTells lts class (with_firsts.TooWide w) = ShownWide lts class (shown_of w)
 
 -- the separation is this one, in the words of the one answer
 abbrev pub ShowsSeparation : Ending → outcome.Separation → Type 0
@@ -92,8 +93,12 @@ ShowsSeparation (Ending.places ps) o = o ≡ outcome.Separation.places ps
 ShowsSeparation (unsolvable cert) o = (problem : Problem) × (trees : List Tree) × (reason_of cert.reason ≡ refuted problem trees) × (o ≡ outcome.Separation.unsolvable problem trees)
 ShowsSeparation (too_wide w) o = o ≡ outcome.Separation.too_wide (shown_of w)
 
--- the separation is the one to which the search for places of the class comes
-pub record IsSearched (lts : System) (class : Class) (s : Ending) : Type 0 where
+-- the separation is the one to which the search for places of the class comes that begins with these places
+pub record IsSearchedFrom (lts : System) (class : Class) (known : List Place) (s : Ending) : Type 0 where
   pub o : outcome.Separation
-  pub searched : Searched lts class o
+  pub searched : SearchedFrom lts class known o
   pub shows : ShowsSeparation s o
+
+-- the same of the search that begins without a place
+abbrev pub IsSearched : System → Class → Ending → Type 0
+IsSearched lts class s = IsSearchedFrom lts class [] s

@@ -6,11 +6,8 @@ use Rattle.rg_theory.specs.declared.Problem.{Problem}
 use Rattle.rg_cert_meaning.specs.Refutes.{Tree, Reason.refuted, TreeRefutes, Accepts}
 use Rattle.rg_net.specs.Shown.{shown_place}
 use Rattle.rg_case_folds.specs.Setting.{case_at}
-use Rattle.rg_case_folds.specs.Shown.{Shown, ShownWide}
+use Rattle.rg_case_folds.specs.Shown.{ShownWide}
 use Rattle.rg_outcome.specs.Casing.{CaseResult, CaseResult.makes, CaseResult.refutes, CaseResult.passes, CaseComes}
-use Rattle.rg_theory.specs.Problem.{IsProblem}
-use Rattle.rg_outcome.specs.Coming.{Separation.unsolvable, Separation.too_wide}
-use Rattle.rg_outcome.specs.Outcome.{Searched}
 use Rattle.rg_outcome.specs.Solving as solved
 use Rattle.rg_outcome.specs.Solving.{Solved.placed, Solved.passed, NoneMakes, NonePasses, ProblemComes}
 use Rattle.rg_cert_data.specs.declared.certificate.Case.{Case}
@@ -85,17 +82,3 @@ ProblemComesTo s problem (problem_answer.Wide w) = ProblemComes (shown_setting s
 -- the problem is refuted, and this is the reason
 abbrev pub ProvesRefuted : Setting → Problem → Reason → Type 0
 ProvesRefuted s problem reason = ProblemTells s.lts.now s.class problem (problem_answer.Refuted reason) × ProblemComesTo s problem (problem_answer.Refuted reason)
-
--- the problem of the system ends the search, which is refuted by its trees
-pub record EndsRefuted (s : Setting) (problem : Problem) : Type 0 where
-  pub has : IsProblem s.lts.now problem
-  pub trees : List Tree
-  pub searched : Searched s.lts.now s.class (unsolvable problem trees)
-  pub comes : ProblemComes (shown_setting s) problem (solved.Solved.refuted trees)
-
--- the problem of the system ends the search, with the term out of range that it shows
-pub record EndsWide (s : Setting) (problem : Problem) : Type 0 where
-  pub has : IsProblem s.lts.now problem
-  pub w : Shown
-  pub searched : Searched s.lts.now s.class (too_wide w)
-  pub comes : ProblemComes (shown_setting s) problem (passed w)

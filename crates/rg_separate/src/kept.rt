@@ -28,7 +28,7 @@ pub(crate) struct Kept<'a> {
 
 impl<'a> Kept<'a> {
     // No place, and nothing that any separates.
-    pub(crate) fn nothing(alloc: Global, lts: &Lts, tree: &'a [Arc]) -> Result<Kept<'a>, NoMemory>
+    fn nothing(alloc: Global, lts: &Lts, tree: &'a [Arc]) -> Result<Kept<'a>, NoMemory>
         requires reachable { IsAllReachable lts.now }
         requires tree { IsTree lts.now tree.now }
         ensures none { IfOk result (λ k. k.places.items ≡ []) }

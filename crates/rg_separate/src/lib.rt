@@ -9,13 +9,14 @@ mod placing;
 mod problem;
 mod refusal;
 mod refuting;
+mod search;
 mod separation;
 mod shares;
 mod sides;
 mod solving;
 
 pub use place::make_place;
-pub use refusal::{Refusal, find_refusal};
+pub use refusal::find_refusal;
 pub use rg_cert_data::{Stage, WideAt};
 pub use rg_memory::NoMemory;
 pub use separation::{Separation, SeparationWithFirsts, separate, separate_with_firsts};

@@ -1,33 +1,21 @@
 //! The order of work.
-ghost use Rattle.std.specs.Prelude.{◌≡◌, ◌≤◌, map, IfOk, IfSome};
+ghost use Rattle.std.specs.Prelude.{◌≡◌, ◌≤◌, map, IfOk};
 ghost use Rattle.rg_theory.specs.ClassWords.{HasNumbersInRange};
 ghost use Rattle.rg_theory.specs.System.{IsAllReachable};
 ghost use Rattle.rg_net.specs.Shown.{shown_place};
 ghost use Rattle.rg_case_folds.specs.Shown.{ShownWide};
 ghost use Rattle.rg_marks.specs.Firsts.{AreAllFirsts};
 ghost use Rattle.rg_separate.specs.View.{shown_of};
-ghost use Rattle.rg_separate.specs.Passing.{cycle_passed};
-ghost use Rattle.rg_separate.specs.Keeping.{IsSetting, CanSolve};
-ghost use Rattle.rg_separate.specs.Deciding.{EndsRefuted, EndsWide, ProvesRefuted};
-ghost use Rattle.rg_separate.specs.Answer.{AreSeparating, IsGoodCertificate, Ending, Ending.unsolvable, Ending.too_wide, ending_of, ending_with_firsts, IfPlaces, IfFirsts, IfUnsolvable, IfTooWide, SeparationTells, IsSearched};
+ghost use Rattle.rg_separate.specs.Answer.{AreSeparating, IsGoodCertificate, ending_of, ending_with_firsts, IfPlaces, IfFirsts, IfUnsolvable, IfTooWide, IsSearched};
 
-use crate::case::bounded_forms;
-use crate::kept::Kept;
-use crate::problem::{ProblemAnswer, solve_problem};
-use crate::solving::Problems;
-use rg_blocks::{Progress, Search, SeparationOutcome, separate_all};
-use rg_branch::Solver;
-use rg_case_parts::{Setting, TreeChords};
-use rg_cert_data::{Certificate, Reason, Stage, WideAt};
-use rg_cycles::{CycleWide, Stop, reduce_rows};
+use crate::search::{Resources, search_from};
+use rg_cert_data::{Certificate, WideAt};
 use rg_lts::Lts;
 use rg_marks::{CompactPlace, Firsts};
 use rg_memory::NoMemory;
 use rg_net::Place;
 use rg_ports::Gate;
-use rg_rows::Common;
-use rg_spanning::{GrowStop, Tree};
-use rg_theory::{Class, Problem};
+use rg_theory::Class;
 use std::alloc::{AllocError, Global};
 use std::thread::Threads;
 
@@ -47,8 +35,8 @@ pub enum Separation {
 pub enum SeparationWithFirsts {
     /// Places that separate all problems, and for each the problems that it is the first to separate.
     Places(Vec<CompactPlace>, Vec<Firsts>),
-    /// No place of the class separates some problem.
-    Unsolvable(Certificate),
+    /// No place of the class separates some problem. The places are those that were found before.
+    Unsolvable(Certificate, Vec<CompactPlace>),
     /// A number passes in some problem that no place found separates.
     TooWide(WideAt),
 }
@@ -105,25 +93,8 @@ pub fn separate_with_firsts<R: Threads + Sync, G: Gate + Sync>(
     ensures unsolvable { IfOk result (λ s. IfUnsolvable (ending_with_firsts s) (IsGoodCertificate lts.now class)) }
     ensures too_wide { IfOk result (λ s. IfTooWide (ending_with_firsts s) (λ w. ShownWide lts.now class (shown_of w))) }
 {
-    let tree = match Tree::grow(alloc, lts) {
-        Ok(tree) => tree,
-        Err(GrowStop::NoMemory) => return Err(NoMemory),
-        Err(GrowStop::Unreachable(_)) => unreachable!(),
-    };
-    let chords = TreeChords::new(lts, &tree);
-    match reduce_rows(alloc, lts.labels(), &chords) {
-        Ok(basis) => {
-            let setting = Setting {
-                lts,
-                tree: &tree,
-                basis: &basis,
-                class,
-            };
-            separate_setting(rt, alloc, setting, jobs, gate)
-        }
-        Err(Stop::Wide(wide)) => Ok(SeparationWithFirsts::TooWide(wide_cycle(alloc, wide))),
-        Err(Stop::NoMemory) => Err(NoMemory),
-    }
+    lts.is_well_formed();
+    search_from(rt, Resources { alloc, jobs, gate }, lts, class, &[])
 }
 
 impl SeparationWithFirsts {
@@ -135,7 +106,7 @@ impl SeparationWithFirsts {
             SeparationWithFirsts::Places(places, _) => {
                 Ok(Separation::Places(all_places(alloc, &places)?))
             }
-            SeparationWithFirsts::Unsolvable(certificate) => Ok(Separation::Unsolvable(
+            SeparationWithFirsts::Unsolvable(certificate, _) => Ok(Separation::Unsolvable(
                 certificate,
             )),
             SeparationWithFirsts::TooWide(at) => Ok(Separation::TooWide(at)),
@@ -152,141 +123,4 @@ fn all_places(alloc: Global, places: &[CompactPlace]) -> Result<Vec<Place>, Allo
         all.push(place.place(alloc)?)?;
     }
     Ok(all)
-}
-
-// What all problems come to.
-fn separate_setting<R: Threads + Sync, G: Gate + Sync>(
-    rt: &R,
-    alloc: Global,
-    setting: Setting<'_>,
-    jobs: u8,
-    gate: &G,
-) -> Result<SeparationWithFirsts, NoMemory>
-    requires setting { IsSetting setting }
-    requires some { 1 ≤ jobs }
-    ensures tells { IfOk result (SeparationTells setting.entry.lts.now setting.entry.class) }
-    ensures searched { IfOk result (λ s. IsSearched setting.entry.lts.now setting.entry.class (ending_with_firsts s)) }
-{
-    let lts = setting.lts;
-    lts.is_well_formed();
-    let common = Common::new(alloc, setting)?;
-    let forms = bounded_forms(alloc, common.shared_forms())?;
-    let problems = Problems {
-        alloc,
-        setting,
-        columns: common.column_count(setting.basis),
-        common: &common,
-        forms: &forms,
-    };
-    let search = Search {
-        alloc,
-        lts,
-        solving: &problems,
-        jobs,
-        gate,
-    };
-    let mut progress = Progress {
-        kept: Kept::nothing(alloc, lts, setting.tree.arcs())?,
-        workspace: Solver::new(alloc, problems.columns)?,
-        proof: None,
-    };
-    let outcome = separate_all(rt, &search, &mut progress)?;
-    let Progress {
-        kept,
-        mut workspace,
-        proof,
-    } = progress;
-    match outcome {
-        SeparationOutcome::Separated => Ok(SeparationWithFirsts::Places(kept.places, kept.firsts)),
-        SeparationOutcome::Unsolvable(refuted) => {
-            let certificate = certify(problems, &mut workspace, refuted, proof)?;
-            Ok(SeparationWithFirsts::Unsolvable(certificate))
-        }
-        SeparationOutcome::TooWide(left) => {
-            let at = show_again(problems, &mut workspace, left)?;
-            Ok(SeparationWithFirsts::TooWide(at))
-        }
-    }
-}
-
-// The certificate of a refuted problem: with the reason that was kept, where it is that of the problem.
-pub(crate) fn certify(
-    problems: Problems<'_>,
-    workspace: &mut Solver,
-    problem: Problem,
-    proof: Option<(Problem, Reason)>,
-) -> Result<Certificate, NoMemory>
-    requires can { CanSolve problems }
-    requires columns { workspace.old ≡ problems.columns }
-    requires refuted { EndsRefuted problems.setting problem }
-    requires proves { IfSome proof (λ p. ProvesRefuted problems.setting p.0 p.1) }
-    ensures good { IfOk result (IsGoodCertificate problems.entry.setting.lts.now problems.entry.setting.class) }
-    ensures searched { IfOk result (λ c. IsSearched problems.entry.setting.lts.now problems.entry.setting.class (Ending.unsolvable c)) }
-{
-    if let Some((proved, reason)) = proof {
-        if proved == problem {
-            let class = problems.setting.class;
-            return Ok(Certificate { class, reason });
-        }
-    }
-    prove_again(problems, workspace, problem)
-}
-
-// The certificate of a refuted problem, which is solved once more and comes to the same.
-fn prove_again(
-    problems: Problems<'_>,
-    workspace: &mut Solver,
-    problem: Problem,
-) -> Result<Certificate, NoMemory>
-    requires can { CanSolve problems }
-    requires columns { workspace.old ≡ problems.columns }
-    requires refuted { EndsRefuted problems.setting problem }
-    ensures good { IfOk result (IsGoodCertificate problems.entry.setting.lts.now problems.entry.setting.class) }
-    ensures searched { IfOk result (λ c. IsSearched problems.entry.setting.lts.now problems.entry.setting.class (Ending.unsolvable c)) }
-{
-    match solve_problem(problems, workspace, problem)? {
-        ProblemAnswer::Refuted(reason) => {
-            let class = problems.setting.class;
-            Ok(Certificate { class, reason })
-        }
-        ProblemAnswer::Place(_) => unreachable!(),
-        ProblemAnswer::Wide(_) => unreachable!(),
-    }
-}
-
-// The term that a problem shows, which is solved once more and comes to the same.
-fn show_again(
-    problems: Problems<'_>,
-    workspace: &mut Solver,
-    problem: Problem,
-) -> Result<WideAt, NoMemory>
-    requires can { CanSolve problems }
-    requires columns { workspace.old ≡ problems.columns }
-    requires wide { EndsWide problems.setting problem }
-    ensures shown { IfOk result (λ at. ShownWide problems.entry.setting.lts.now problems.entry.setting.class (shown_of at)) }
-    ensures searched { IfOk result (λ at. IsSearched problems.entry.setting.lts.now problems.entry.setting.class (Ending.too_wide at)) }
-{
-    match solve_problem(problems, workspace, problem)? {
-        ProblemAnswer::Wide(at) => Ok(at),
-        ProblemAnswer::Place(_) => unreachable!(),
-        ProblemAnswer::Refuted(_) => unreachable!(),
-    }
-}
-
-// The term of the walk over the chords.
-fn wide_cycle(alloc: Global, wide: CycleWide) -> WideAt
-    ensures { shown_of result ≡ cycle_passed wide }
-{
-    WideAt {
-        stage: Stage::Cycle,
-        problem: None,
-        case: 0,
-        above: Vec::new(alloc),
-        members: wide.members,
-        pivot: wide.pivot,
-        leaves: wide.leaves,
-        target: wide.target,
-        entry: wide.entry,
-        wide: wide.wide,
-    }
 }

@@ -61,20 +61,20 @@ fn is_refused<R: Threads + Sync>(
         return false;
     };
     let (all, rest) = (Counter::new(), Counter::new());
-    let Ok(Some(first)) = find_refusal(rt, alloc, lts, jobs, &all, &[]) else {
+    let Ok(Some((first, known))) = find_refusal(rt, alloc, lts, jobs, &all, &[]) else {
         return false;
     };
-    let Ok(Some(again)) = find_refusal(rt, alloc, lts, jobs, &rest, &first.places) else {
+    let Ok(Some((again, found))) = find_refusal(rt, alloc, lts, jobs, &rest, &known) else {
         return false;
     };
     let Some(certificate) = certificate_of(rt, alloc, lts, jobs) else {
         return false;
     };
     problem_of(&certificate.reason) == Some(problem)
-        && first.certificate == certificate
-        && again.certificate == certificate
-        && first.places.len() == places
-        && again.places.len() >= places
+        && first == certificate
+        && again == certificate
+        && known.len() == places
+        && found.len() >= places
         && (rest.count() < all.count()) == (places > 0)
 }
 

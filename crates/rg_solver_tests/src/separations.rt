@@ -46,7 +46,7 @@ fn end_with_firsts(separation: &SeparationWithFirsts) -> Option<End> {
             }
             Some(End::Places(places.len()))
         }
-        SeparationWithFirsts::Unsolvable(_) => Some(End::Unsolvable),
+        SeparationWithFirsts::Unsolvable(_, _) => Some(End::Unsolvable),
         SeparationWithFirsts::TooWide(at) => Some(wide_end(at)),
     }
 }

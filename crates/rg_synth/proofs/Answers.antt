@@ -1,5 +1,5 @@
 -- What the search ends with is the answer, and a reason that is the answer is right.
-use Rattle.std.proofs.Common.{◌≡◌, ℕ, List, [], All, Vec, refl, sym, subst, arith}
+use Rattle.std.proofs.Common.{◌≡◌, ℕ, List, [], All, Vec, Option, Some, None, IfSome, IfNone, Result, Ok, Err, IfOk, refl, sym, subst, arith}
 use Rattle.std.proofs.lemmas.List.Elements.{All-nil}
 use Rattle.std.specs.declared.alloc.Global.{Global}
 use Rattle.rg_theory.specs.System.{System, IsInRange, IsAllReachable, IsLeastUnreachable, IsLeastFork}
@@ -22,7 +22,6 @@ use Rattle.rg_cert_data.specs.declared.wide_at.WideAt.{WideAt}
 use Rattle.rg_separate.specs.Answer.{IsSearched, Ending}
 use Rattle.rg_separate.specs.Keeping.{IsKept}
 use Rattle.rg_separate.specs.Refusals.{IsRefusedBy, IsNotRefused}
-use Rattle.rg_separate.specs.declared.refusal.Refusal.{Refusal}
 use Rattle.rg_synth.specs.Answer.{IsReason, IsRightCertificate, IsRightRefusal, IsUnrefused}
 
 -- ---- what the search ends with
@@ -93,12 +92,12 @@ fork_right lts class s t s₁ s₂ fine bound reachable least =
 pub no_numbers : HasNumbersInRange no_condition
 no_numbers = record { bound = tt; marking = tt }
 
-pub refused_right : (lts : System) (r : Refusal) → IsInRange lts → IsFlawless lts → IsRefusedBy lts r → IsRightRefusal lts r
-refused_right lts r fine flawless is =
-    let out = reason_out lts no_condition r.certificate flawless is.searched in
+refused_right : (lts : System) (cert : Certificate) (found : List Place) → IsInRange lts → IsFlawless lts → IsRefusedBy lts cert found → IsRightRefusal lts cert found
+refused_right lts cert found fine flawless is =
+    let out = reason_out lts no_condition cert flawless is.searched in
     record {
       out = out;
-      right = right lts no_condition r.certificate fine is.good.of_class out is.good.holds is.good.in_range;
+      right = right lts no_condition cert fine is.good.of_class out is.good.holds is.good.in_range;
       places = is.places;
     }
 
@@ -108,7 +107,7 @@ gives_none lts (places_of kept) reason is = absurd is
 gives_none lts (problem_of problem trees) reason is = tt
 gives_none lts (term_of w) reason is = absurd is
 
-pub unrefused : (lts : System) → IsFlawless lts → IsNotRefused lts → IsUnrefused lts
+unrefused : (lts : System) → IsFlawless lts → IsNotRefused lts → IsUnrefused lts
 unrefused lts flawless none _ (a_state s least) = least.unreachable (flawless.reachable.each s least.state)
 unrefused lts flawless none _ (a_fork s t s₁ s₂ reachable least) =
     let same = flawless.fork_free.one_target s t s₁ s₂ least.fork.0 least.fork.1 in
@@ -116,8 +115,20 @@ unrefused lts flawless none _ (a_fork s t s₁ s₂ reachable least) =
     absurd (omega arith)
 unrefused lts flawless none reason (a_search o _ reachable fork_free searched gives) = none o searched (gives_none lts o reason gives)
 
--- an answer that is a reason
-pub flaw_refusal : (lts : System) (certificate : Certificate) (found : Vec Place Global)
-    → Out lts no_condition (of_reason (reason_of certificate.reason)) → IsRightCertificate lts no_condition certificate → found.items ≡ []
-    → IsRightRefusal lts (record { certificate = certificate; places = found })
-flaw_refusal lts certificate found out is none = record { out = out; right = is; places = subst (All (IsKept lts)) (sym none) (All-nil (IsKept lts)) }
+-- what the search says, where no flaw is
+module _ {E : Type 0} (lts : System) (fine : IsInRange lts) (flawless : IsFlawless lts) where
+  pub ok_refused : (r : Result (Option (Certificate × Vec Place Global)) E) → IfOk r (λ o. IfSome o (λ p. IsRefusedBy lts p.0 p.1.items))
+      → IfOk r (λ o. IfSome o (λ p. IsRightRefusal lts p.0 p.1.items))
+  ok_refused (Ok (Some p)) is = refused_right lts p.0 p.1.items fine flawless is
+  ok_refused (Ok None) is = tt
+  ok_refused (Err e) is = tt
+
+  pub ok_unrefused : (r : Result (Option (Certificate × Vec Place Global)) E) → IfOk r (λ o. IfNone o (IsNotRefused lts)) → IfOk r (λ o. IfNone o (IsUnrefused lts))
+  ok_unrefused (Ok (Some p)) none = tt
+  ok_unrefused (Ok None) none = unrefused lts flawless none
+  ok_unrefused (Err e) none = tt
+
+-- a flaw
+pub flaw_refusal : (lts : System) (cert : Certificate) (found : List Place) → Out lts no_condition (of_reason (reason_of cert.reason))
+    → IsRightCertificate lts no_condition cert → found ≡ [] → IsRightRefusal lts cert found
+flaw_refusal lts cert found out is none = record { out = out; right = is; places = subst (All (IsKept lts)) (sym none) (All-nil (IsKept lts)) }

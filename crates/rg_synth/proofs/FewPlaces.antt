@@ -4,14 +4,12 @@ use Rattle.rg_theory.specs.System.{System, states, labels}
 use Rattle.rg_theory.specs.Net.{Place}
 use Rattle.rg_theory.specs.declared.Class.{Class}
 use Rattle.rg_theory.specs.Pruned.{Decides, LeavesBehind}
-use Rattle.rg_outcome.specs.Solving.{ProblemComes}
 use Rattle.rg_outcome.specs.Coming.{Separation, Separation.places, Separation.unsolvable as of_problem, Separation.too_wide as of_term}
-use Rattle.rg_outcome.specs.Outcome.{Answer.net as of_net, Gives, Searched, Searched.all_problems, Out, Out.a_search}
+use Rattle.rg_outcome.specs.Outcome.{Answer.net as of_net, Gives, Searched, Out, Out.a_search}
 use Rattle.rg_lts.specs.WellFormed.{IsWellFormed}
 use Rattle.rg_blocks.specs.Problems.{most_problems}
 use Rattle.rg_blocks.proofs.RankLemmas.{most_at_limits, pairs_fewer}
-use Rattle.rg_separate.proofs.Few.{few_places}
-use Rattle.rg_case_folds.specs.Setting.{setting_at}
+use Rattle.rg_separate.proofs.Few.{searched_few}
 
 left_short : (lts : System) (front kept left : List Place) → LeavesBehind lts front kept left → length left ≤ length kept
 left_short lts front [] left none = let n = ap length none in omega arith
@@ -20,9 +18,6 @@ left_short lts front (p ∷ kept) left (behind, rest, decides) = by decides (lef
     by : Decides lts front p behind left → length behind ≤ length kept → length left ≤ length (p ∷ kept)
     by (inl (all, is)) short = let n = ap length is in omega arith
     by (inr (some, is)) short = let n = ap length is in omega arith
-
-searched_few : (lts : System) (class : Class) (kept : List Place) → Searched lts class (places kept) → length kept ≤ most_problems lts
-searched_few lts class kept (all_problems arcs basis _ tree is comes) = few_places lts (ProblemComes (setting_at lts arcs basis class)) kept comes
 
 given_few : (lts : System) (class : Class) (o : Separation) (left : List Place) → Searched lts class o → Gives lts o (of_net left) → length left ≤ most_problems lts
 given_few lts class (places kept) left searched pruned = let a = left_short lts [] kept left pruned in let b = searched_few lts class kept searched in omega arith

@@ -1,9 +1,9 @@
 -- What the answer for a system and a class is, and what each kind of answer says.
-use Rattle.std.specs.Prelude.{◌≡◌, ℕ, ◌<◌, ◌≤◌, length, All}
+use Rattle.std.specs.Prelude.{◌≡◌, ℕ, ◌<◌, ◌≤◌, List, length, All}
 use Rattle.rg_theory.specs.System.{System, IsAllReachable, IsLeastUnreachable, IsLeastFork}
 use Rattle.rg_checks.specs.Flaws.{IsFlawless}
 pub use Rattle.rg_checks.specs.Flaws.{IsFlawless as IsOpen}
-use Rattle.rg_theory.specs.Net.{Net}
+use Rattle.rg_theory.specs.Net.{Net, Place}
 use Rattle.rg_theory.specs.Solves.{Solves}
 use Rattle.rg_theory.specs.declared.Class.{Class}
 use Rattle.rg_theory.specs.Class.{IsBounded, InClass, NoNet}
@@ -18,7 +18,6 @@ use Rattle.rg_outcome.specs.Outcome as outcome
 use Rattle.rg_outcome.specs.Outcome.{Out}
 use Rattle.rg_blocks.specs.Problems.{most_problems}
 use Rattle.rg_separate.specs.Keeping.{IsKept}
-use Rattle.rg_separate.specs.declared.refusal.Refusal.{Refusal}
 use Rattle.rg_separate.specs.View.{shown_of}
 use Rattle.rg_cert_data.specs.declared.wide_at.WideAt.{WideAt}
 use Rattle.rg_synth.specs.declared.answer.Answer.{Answer}
@@ -70,10 +69,10 @@ pub record IsRightCertificate (lts : System) (class : Class) (cert : Certificate
   pub in_range : IsCertificateOf lts cert
 
 -- the answer for all nets is this certificate's reason, the certificate is right, and the places are regions
-pub record IsRightRefusal (lts : System) (r : Refusal) : Type 0 where
-  pub out : Out lts no_condition (outcome.Answer.unsolvable (reason_of r.certificate.reason))
-  pub right : IsRightCertificate lts no_condition r.certificate
-  pub places : All (IsKept lts) r.places.items
+pub record IsRightRefusal (lts : System) (cert : Certificate) (found : List Place) : Type 0 where
+  pub out : Out lts no_condition (outcome.Answer.unsolvable (reason_of cert.reason))
+  pub right : IsRightCertificate lts no_condition cert
+  pub places : All (IsKept lts) found
 
 -- the answer for all nets is no reason
 abbrev pub IsUnrefused : System → Type 0

@@ -14,5 +14,4 @@ pub use laws::net_is_small;
 pub use refusing::refuse;
 pub use rg_cert_data::{Stage, WideAt};
 pub use rg_memory::NoMemory;
-pub use rg_separate::Refusal;
 pub use synthesis::synthesize;

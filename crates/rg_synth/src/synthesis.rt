@@ -99,7 +99,7 @@ fn flawless_answer<R: Threads + Sync, G: Gate + Sync>(
             let net = net_of_those_needed(alloc, lts, places, firsts)?;
             Ok(Answer::Net(net))
         }
-        SeparationWithFirsts::Unsolvable(cert) => Ok(Answer::Unsolvable(cert)),
+        SeparationWithFirsts::Unsolvable(cert, _) => Ok(Answer::Unsolvable(cert)),
         SeparationWithFirsts::TooWide(at) => Ok(Answer::TooWide(at)),
     }
 }

@@ -1,7 +1,7 @@
 use Rattle.std.proofs.Common.{IfSome}
 use Rattle.rg_theory.specs.Problem.{IsProblem}
 use Rattle.rg_outcome.specs.Coming.{IsSound}
-use Rattle.rg_blocks.specs.Separating.{LeadsTo}
+use Rattle.rg_blocks.proofs.SeparationLemmas.{LeadsTo}
 use Rattle.rg_blocks.specs.Searching.{IsSearching}
 use Rattle.rg_blocks.proofs.RankLemmas.{problems_after}
 use Rattle.rg_blocks.proofs.separation.solve_all.Given as goal

@@ -3,8 +3,8 @@ use Rattle.rg_blocks_tests.specs.Constant.{HasDead}
 use Rattle.rg_blocks_tests.proofs.ConstantLemmas.{separating, notable, all_regions}
 use Rattle.rg_blocks_tests.proofs.refuted.find.Goals as goal
 
-pub find_refuted-requires-clause-can : goal.find_refuted-requires-clause-can
-find_refuted-requires-clause-can g c κs within =
+pub solve_all-requires-clause-can : goal.solve_all-requires-clause-can
+solve_all-requires-clause-can g c κs within =
     let lts = c.args.answers.now.lts.now in
     let dead : HasDead (length c.args.answers.now.given.now) lts = search rules in
     record {
@@ -16,5 +16,5 @@ find_refuted-requires-clause-can g c κs within =
       notable = notable lts c.in-Ok.ensures.all_reachable;
     }
 
-pub find_refuted-requires-clause-regions : goal.find_refuted-requires-clause-regions
-find_refuted-requires-clause-regions g c κs within = all_regions c.args.answers.now.lts.now c.in_ok-kept.kept.items c.in_ok-kept.ensures
+pub solve_all-requires-clause-regions : goal.solve_all-requires-clause-regions
+solve_all-requires-clause-regions g c κs within = all_regions c.args.answers.now.lts.now c.in_ok-kept.kept.items c.in_ok-kept.ensures

@@ -14,13 +14,13 @@ net_of_those_needed-requires-clause-narrow g c =
 pub net_of_those_needed-requires-clause-firsts : goal.net_of_those_needed-requires-clause-firsts
 net_of_those_needed-requires-clause-firsts g c = subst (λ s. IfFirsts s (AreAllFirsts c.args.lts.now)) c.in-Places.is c.in_ok-places.ensures.firsts
 
-pub returns-in_ok-net-in-Places-clause-out : goal.returns-in_ok-net-in-Places-clause-out
-returns-in_ok-net-in-Places-clause-out g c =
+pub returns-in-Places-clause-out : goal.returns-in-Places-clause-out
+returns-in-Places-clause-out g c =
     net_out c.args.lts.now c.args.class c.in-Places.places.items c.in_ok-net-in-Places.net.places c.requires.flawless
     (subst (λ s. IsSearched c.args.lts.now c.args.class (ending_with_firsts s)) c.in-Places.is c.in_ok-places.ensures.searched) c.in_ok-net-in-Places.ensures.pruned
 
-pub returns-in_ok-net-in-Places-clause-net : goal.returns-in_ok-net-in-Places-clause-net
-returns-in_ok-net-in-Places-clause-net g c =
+pub returns-in-Places-clause-net : goal.returns-in-Places-clause-net
+returns-in-Places-clause-net g c =
     let made = c.in_ok-net-in-Places in
     solving_net c.args.lts.now c.args.class c.in-Places.places.items made.net c.is_well_formed.ensures.in_range c.requires.flawless.reachable
     (subst (λ s. IfPlaces (ending_with_firsts s) (AreSeparating c.args.lts.now c.args.class)) c.in-Places.is c.in_ok-places.ensures.places)
@@ -40,7 +40,7 @@ returns-in-Unsolvable-clause-unsolvable g c =
     let answer = reason_out lts c.args.class c.in-Unsolvable.cert c.requires.flawless searched in
     right lts c.args.class c.in-Unsolvable.cert c.is_well_formed.ensures.in_range good.of_class answer good.holds good.in_range
 
-pub returns-in-TooWide-clause-out : goal.returns-in-TooWide-clause-out
-returns-in-TooWide-clause-out g c =
+pub returns-clause-out : goal.returns-clause-out
+returns-clause-out g c =
     term_out c.args.lts.now c.args.class c.in-TooWide.at c.requires.flawless
     (subst (λ s. IsSearched c.args.lts.now c.args.class (ending_with_firsts s)) c.in-TooWide.is c.in_ok-places.ensures.searched)
