@@ -24,7 +24,7 @@ use Rattle.rg_case_folds.specs.Shown.{Shown, IsLive}
 use Rattle.rg_outcome.specs.Casing.{CaseResult, spread_tree, CaseComes, CaseComes.row_passes, CaseComes.pivot_passes, CaseComes.place_passes, CaseComes.place_is_made, CaseComes.leaf_passes, CaseComes.is_refuted}
 use Rattle.rg_outcome.specs.Solving.{Solved, Solved.refuted, CasesCome, CasesCome.first_place, CasesCome.all_refuted, CasesCome.first_term, ProblemComes}
 use Rattle.rg_outcome.specs.Coming.{Separation, Separation.places as of_places, Separation.unsolvable as of_problem, Separation.too_wide as of_term, Says}
-use Rattle.rg_outcome.specs.Outcome.{Answer, Answer.unsolvable, Gives, Searched, Searched.a_cycle, Searched.all_problems, Out, Out.a_state, Out.a_fork, Out.a_search}
+use Rattle.rg_outcome.specs.Outcome.{Answer, Answer.unsolvable, Gives, Searched, SearchedFrom.a_cycle, SearchedFrom.all_problems, Out, Out.a_state, Out.a_fork, Out.a_search}
 use Rattle.rg_outcome.proofs.Inseparable.{asked, placed_or_refuted, passed_or_refuted, same_refuted as same_trees}
 use Rattle.rg_outcome.proofs.Placed.{refuted_stay}
 use Rattle.rg_outcome.proofs.Saying.{says}

@@ -98,13 +98,13 @@ pub(crate) fn take_round<R: Threads + Sync, G: Gate + Sync>(
     ensures known { IfOk result (λ r. IfGoesOn r (λ n. All (IsKept n.system) n.known.items)) }
 {
     match refuse(rt, alloc, &now.system, jobs, gate, &now.known)? {
-        Some(refusal) => {
+        Some((certificate, known)) => {
             let now = Labelling {
                 system: now.system,
                 old: now.old,
-                known: refusal.places,
+                known,
             };
-            after_refusal(alloc, lts, now, refusal.certificate)
+            after_refusal(alloc, lts, now, certificate)
         }
         None => last_round(rt, alloc, lts, now, jobs, gate),
     }
