@@ -26,6 +26,9 @@ use Rattle.rg_top.specs.FactorsAnswer.{HasNet, IsBehindNets, IsNetOf, IsNetBesid
 
 -- ---- factor after factor
 
+pub shown_at : {S X : Type 0} (view : S → X) (xs : List S) (i : ℕ) (d : S) → i < length xs → slice_get (map view xs) i ≡ Some (view (get_or xs i d))
+shown_at view xs i d lt = slice_get-get_or (map view xs) i (view d) (omega (arith, length-map xs view)) ∙ ap (λ y. Some y) (get_or-map view xs i d)
+
 zip_push : {A B : Type 0} (R : A → B → Type 0) (xs : List A) (ys : List B) (x : A) (y : B) → AllZip R xs ys → R x y → AllZip R (xs ++ x ∷ []) (ys ++ y ∷ [])
 zip_push R [] [] x y zip is = (is, tt)
 zip_push R [] (b ∷ ys) x y zip is = absurd zip

@@ -10,9 +10,8 @@ use Rattle.rg_synth.specs.Answer.{answer_of, IfNet, IfUnsolvable, IfTooWide, IsO
 use Rattle.rg_product.specs.Beside.{places_beside, net_beside}
 use Rattle.rg_factor.specs.View.{shown_factor}
 use Rattle.rg_factor.proofs.FewBeside.{factors_few}
-use Rattle.rg_messages.proofs.FactorLines.{shown_at}
 use Rattle.rg_top.specs.FactorsAnswer.{IsNetOf}
-use Rattle.rg_top.proofs.NetsBeside.{zip_more, zip_all, behind_nets, one_each, few, beside, none_above}
+use Rattle.rg_top.proofs.NetsBeside.{shown_at, zip_more, zip_all, behind_nets, one_each, few, beside, none_above}
 use Rattle.rg_top.proofs.factor_nets.synthesize_factors.Goals as goal
 
 pub overflow_cast-result : goal.overflow_cast-result
